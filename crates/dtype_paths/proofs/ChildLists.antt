@@ -27,10 +27,6 @@ use Rattle.dtype_paths.proofs.StepKeys.{keys_differ, told}
 
 -- ---- what is looked up
 
-over_none : {A : Type 0} (o : Option A) → option_or o None ≡ o
-over_none None = refl
-over_none (Some a) = refl
-
 pub lookup-append : {A B : Type 0} (test : A → Bool) (xs ys : List (A × B)) → lookup test (xs ++ ys) ≡ option_or (lookup test xs) (lookup test ys)
 lookup-append test [] ys = refl
 lookup-append test (x ∷ xs) ys = by_bool (test x.0) (λ e. rw e refl) (λ e. rw e (lookup-append test xs ys))
@@ -66,9 +62,6 @@ no_children = (λ i d lt. absurd (omega (arith, lt)), IsDistinct-nil same_field)
 pub record IsCopied (rest copy all : List (Field × ℕ)) : Type 0 where
   pub once : IsDistinct same_field (keys_of rest)
   pub leads : (f : Field) → option_or (lookup (same_field f) rest) (lookup (same_field f) copy) ≡ lookup (same_field f) all
-
-pub copied_none : (all : List (Field × ℕ)) → IsDistinct same_field (keys_of all) → IsCopied all [] all
-copied_none all once = record { once = once; leads = λ f. over_none (lookup (same_field f) all) }
 
 -- the first of what is left goes over
 pub copied_more : (before rest old new all : List (Field × ℕ)) (k copy : Field) (v : ℕ) → before ≡ (k, v) ∷ rest → IsCopied before old all → copy ≡ k

@@ -3,7 +3,7 @@
 
 -- What is asked of the fields of a struct, while the names by which paths go on are looked up one by one, or the fields.
 use Rattle.std.proofs.Common.{◌≡◌, ◌≢◌, ◌⊎◌, inl, inr, ℕ, zero, suc, ◌+◌, ◌<◌, ◌≤◌, ◌==◌, if◌then◌else◌, All, length, true, false, List, [], ◌∷◌, ◌++◌, map, get_or, slice_get, Some, None, refl, sym, ap, subst, ◌∙◌, append-nil, arith}
-use Rattle.std.specs.List.{AllByRecursion, Contains, IsDistinct, filter_map}
+use Rattle.std.specs.List.{Contains, IsDistinct, filter_map}
 use Rattle.std.specs.Cmp.{nat_eq_equiv}
 use Rattle.std.specs.List.Sorted.{IsNonDecreasingBy, IsPermutation}
 use Rattle.std.specs.Map.{keys_of, lookup}

@@ -3,11 +3,10 @@
 
 -- The parts of a type: an order, in which a path leads in a part to a part of what it leads to in the type. The projection
 -- is the least part that has the paths, and no other type is. What it depends on, and how projections compose, follows.
-use Rattle.std.proofs.Common.{◌≡◌, ℕ, ◌≢◌, ◌≤◌, inl, inr, length, List, [], ◌∷◌, true, false, not, IsTrue, Some, None, option_map, refl, sym, ap, subst, ◌∙◌, arith, append-nil}
+use Rattle.std.proofs.Common.{◌≡◌, ℕ, ◌≢◌, ◌≤◌, inl, inr, length, List, [], ◌∷◌, true, false, not, IsTrue, Some, None, refl, sym, ap, subst, ◌∙◌, arith, append-nil}
 use Rattle.std.specs.FinSet as set
 use Rattle.std.proofs.Math.Bool.{and-false}
 use Rattle.std.specs.Option.{option_and_then}
-use Rattle.std.proofs.lemmas.Option.{same_Some}
 use Rattle.dtype_types.specs.nullability.Nullable.{nullability}
 use Rattle.dtype_types.specs.parts.Lookups.{first_named}
 use Rattle.dtype_types.specs.tree.Tree.{Tree, Fields, no_items, field, pairs, list, fixed_size_list, struct, item, rest_of}
@@ -24,7 +23,7 @@ use Rattle.dtype_paths.proofs.lemmas.SetCovers.{covers_least, covers_member, cov
 use Rattle.dtype_paths.proofs.lemmas.Stepping.{beginning_exists}
 use Rattle.dtype_paths.proofs.lemmas.Walks.{along-At, At-along, along_joined}
 use Rattle.dtype_projection.specs.IsPart.{IsPart, IsPartOfFields, HasPaths, IsLeastPart}
-use Rattle.dtype_projection.specs.Projected.{PathPredicate, after_step, without_field, projected, projected_fields, prepend_kept, struct_with}
+use Rattle.dtype_projection.specs.Projected.{PathPredicate, after_step, without_field, projected, projected_fields, prepend_kept}
 use Rattle.dtype_projection.proofs.lemmas.Projections.{kept_as_it_was, kept_root, by_name, after_without_other, without_field_holds, each_projection, absent_kept, named_first, named_itself, kept_has_path, path_is_kept}
 
 -- ---- a type is its own part, and has its parts' nullability

@@ -3,8 +3,7 @@
 
 -- A restricted value is of the projection, each value of the projection is the restriction of a value of the type, with
 -- samples where a field was left out, and at and below the paths the same is found in a value and in its restriction.
-use Rattle.std.proofs.Common.{arith, ◌≡◌, ◌≢◌, ◌↔◌, inl, inr, ℕ, suc, List, ◌∷◌, ◌++◌, [], true, false, Option, Some, None, refl, sym, ap, subst, ◌∙◌, ◌||◌}
-use Rattle.std.specs.Prelude.{IfSome}
+use Rattle.std.proofs.Common.{arith, ◌≡◌, ◌≢◌, ◌↔◌, inl, inr, ℕ, suc, List, ◌∷◌, ◌++◌, [], true, false, Option, Some, refl, sym, ap, subst, ◌∙◌, ◌||◌}
 use Rattle.std.proofs.lemmas.Option.{same_Some}
 use Rattle.dtype_base.specs.declared.nullability.Nullability.{Nullability}
 use Rattle.dtype_types.specs.parts.Lookups.{first_named}
@@ -19,7 +18,7 @@ use Rattle.dtype_paths.specs.Found.{Found, Member, first_value}
 use Rattle.dtype_paths.specs.declared.field.Field.{Field}
 use Rattle.dtype_paths.specs.declared.field.Field.TheVariants.{Name, ElementType}
 use Rattle.dtype_paths.proofs.lemmas.Cases.{by_bool}
-use Rattle.dtype_projection.specs.Projected.{PathPredicate, after_step, without_field, projected, prepend_kept}
+use Rattle.dtype_projection.specs.Projected.{PathPredicate, after_step, without_field, projected}
 use Rattle.dtype_projection.specs.Restricted.{each_value, each_item, in_record, prepend_pair, restricted, restricted_pairs}
 use Rattle.dtype_projection.proofs.lemmas.Projections.{by_name, after_without_other, each_projection, named_first, named_itself, path_is_kept}
 use Rattle.dtype_base.specs.declared.nullability.Nullability.TheVariants.{NonNullable}

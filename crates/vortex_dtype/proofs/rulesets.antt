@@ -94,7 +94,7 @@ pub ruleset distinct_names = (among_before, among_behind, distinct_removed, remo
 -- tags: which are among those of a union, where a name has one; and how many variants a valid union has
 pub ruleset tags = (union_tags, tag_at_is_among, placed_is_among, unplaced_not_among, some_variants, few_variants)
 
--- Lookups of names, fields and variants, by name and by position, and how many names they compare. Its 19 lemmas are two
+-- Lookups of names, fields and variants, by name and by position, and how many names they compare. Its lemmas are two
 -- questions, which a file that looks a column up and counts what that costs asks of the same call: each lemma begins with
 -- a place or a number that the call gives, so few match at a goal. The questions apart are below.
 pub ruleset lookups = (name_lookups, field_lookups, compared_within, compared_up_to)

@@ -9,6 +9,7 @@ use Rattle.dtype_messages.specs.Message.{Message, Child, Messages, missing, null
 use Rattle.vortex_dtype.specs.Meaning.{Bytes}
 use Rattle.vortex_dtype.specs.ReadInOrder.{or_empty}
 
+-- tags are numbers of 32 bits with a sign
 abbrev pub AreTags : List ℤ → Type 0
 AreTags gs = All (λ g. FitsSigned w32 g) gs
 

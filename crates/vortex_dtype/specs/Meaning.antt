@@ -60,6 +60,7 @@ abbrev pub unkept_error_of : Option Rewrites → VortexError
 unkept_error_of None = Faulty ExtensionUnregistered
 unkept_error_of (Some r) = MetadataRefused
 
+-- that of an id under what a session means
 abbrev pub unkept_error : Meaning → List ℕ → VortexError
 unkept_error m id = unkept_error_of (m.registered id)
 

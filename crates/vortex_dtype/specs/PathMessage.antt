@@ -14,6 +14,7 @@ use Rattle.dtype_messages.specs.PathNames.{part_name}
 abbrev pub step_of : Field → Option Step
 step_of part = option_map Name (part_name part)
 
+-- the steps of all parts, in order
 abbrev pub steps_of : FieldPath → List (Option Step)
 steps_of p = map step_of p.path.items
 

@@ -22,11 +22,13 @@ use Rattle.vortex_dtype.specs.Meaning.{Meaning, keeps, unkept_error}
 use Rattle.dtype_messages.specs.PTypeNumbers.{ptype_at}
 use Rattle.vortex_dtype.specs.Numbers.{integer_byte, signed_byte, natural_byte}
 
+-- what comes after, or the first error
 infixl 10 ◌>>=◌
 abbrev pub ◌>>=◌ : {A B : Type 0} → Result A VortexError → (A → Result B VortexError) → Result B VortexError
 (Ok x) >>= f = f x
 (Err e) >>= f = Err e
 
+-- the value, or this error where there is none
 abbrev pub or_fault : {A : Type 0} → VortexError → Option A → Result A VortexError
 or_fault k None = Err k
 or_fault k (Some x) = Ok x
@@ -40,6 +42,7 @@ or_empty (Some b) = b
 unfoldable pub primitive_read : ℤ → Nullability → Result Tree VortexError
 primitive_read k n = or_fault (Faulty PrimitiveNumber) (ptype_at k) >>= λ p. Ok (of.primitive p n)
 
+-- the decimal of a precision and a scale, or the first of its errors
 unfoldable pub decimal_made : ℕ → ℤ → Result Decimal VortexError
 decimal_made p k =
     if nat_eq p 0 then Err (PrecisionZero greatest_precision) else (if nat_lt greatest_precision p then Err (PrecisionTooLarge p greatest_precision) else (if int_lt (pos greatest_precision) k then Err (ScaleTooLarge k (pos greatest_precision)) else (if int_lt (pos p) k then Err (ScaleAbovePrecision k p) else
@@ -48,6 +51,7 @@ decimal_made p k =
 unfoldable pub decimal_read : ℕ → ℤ → Nullability → Result Tree VortexError
 decimal_read p k n = or_fault (Faulty PrecisionRange) (natural_byte p) >>= λ q. (or_fault (Faulty ScaleRange) (signed_byte k) >>= λ c. (decimal_made q c >>= λ d. Ok (of.decimal d n)))
 
+-- the type t, where a key's nullability allows it
 abbrev pub when_required : Nullability → Tree → Result Tree VortexError
 when_required NonNullable t = Ok t
 when_required Nullable t = Err MapKeyNullable
@@ -55,6 +59,7 @@ when_required Nullable t = Err MapKeyNullable
 unfoldable pub map_read : Tree → Tree → Bool → Nullability → Result Tree VortexError
 map_read x y o n = when_required (nullability x) (of.map_of x y o n)
 
+-- as many names as types
 unfoldable pub struct_read : List (List ℕ) → List Tree → Nullability → Result Tree VortexError
 struct_read ns ts n = if length ns == length ts then Ok (of.struct (fields (zip ns ts)) n) else Err (Faulty StructLengths)
 
@@ -68,6 +73,7 @@ abbrev pub repeats : {X : Type 0} → (X → X → Bool) → List X → Bool
 repeats eq [] = false
 repeats eq (x ∷ xs) = list_any (eq x) xs || repeats eq xs
 
+-- the union of names, types and tags, or the first of its errors
 unfoldable pub union_made : List (List ℕ) → List Tree → List ℕ → Nullability → Result Tree VortexError
 union_made ns ts gs n =
     if length ns == length ts then (if length ns == length gs then (if nat_eq (length ns) 0 then Err UnionEmpty else (if repeats nat_eq gs then Err UnionTagsRepeat else (if repeats bytes_eq ns then Err UnionNamesRepeat else
@@ -79,6 +85,7 @@ union_read ns ts gs n = read_tags gs >>= λ tags. union_made ns ts tags n
 unfoldable pub extension_read : Meaning → List ℕ → List ℕ → Tree → Result Tree VortexError
 extension_read s id b x = or_fault (unkept_error s id) (keeps s id b x) >>= λ c. Ok (of.extension id c x)
 
+-- what a message reads as, or its first fault: its parts in order, then what they make
 unfoldable mutual
   pub read : Meaning → Message → Result Tree VortexError
   read s missing = Err (Faulty TypeMissing)
@@ -104,11 +111,12 @@ unfoldable mutual
   read_all s no_message = Ok []
   read_all s (more m ms) = read s m >>= λ x. (read_all s ms >>= λ xs. Ok (x ∷ xs))
 
--- The result of a call, seen by view, is what reading gives, unless it is out of memory.
+-- the result is this error; where it is `OutOfMemory`, which any call may return, nothing is said
 abbrev pub Fails : {Y : Type 0} → VortexError → Result Y VortexError → Type 0
 Fails OutOfMemory r = Unit {0}
 Fails e r = r ≡ Err e
 
+-- the result of a call, seen by view, is what reading gives
 abbrev pub Gives : {X Y : Type 0} → (X → Y) → Result X VortexError → Result Y VortexError → Type 0
 Gives view (Ok x) r = r ≡ Ok (view x)
 Gives view (Err e) r = Fails e r

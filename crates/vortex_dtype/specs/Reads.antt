@@ -26,6 +26,7 @@ use Rattle.vortex_dtype.specs.ReadInOrder.{or_empty}
 abbrev pub number : PType → ℤ
 number p = pos (ptype_row p).number
 
+-- the decimal of a precision and a scale
 abbrev pub decimal_with : ℕ → ℤ → Decimal
 decimal_with p k = record { precision = p; scale = k }
 
@@ -35,6 +36,7 @@ AreBytes [] [] = Unit {0}
 AreBytes (g ∷ gs) (k ∷ tags) = (integer_byte g ≡ Some k) × AreBytes gs tags
 AreBytes _ _ = ⊥
 
+-- the message reads as the type t, under what a session means
 abbrev mutual
   pub Reads : Meaning → Message → Tree → Type 0
   Reads s missing t = ⊥
@@ -59,6 +61,7 @@ abbrev mutual
   Reads s (extension id c b) t =
       (x : Tree) × (kept : List ℕ) × ReadsChild s c x × (keeps s id (or_empty b) x ≡ Some kept) × (t ≡ of.extension id kept x)
 
+  -- the child is there, and reads
   pub ReadsChild : Meaning → Child → Tree → Type 0
   ReadsChild s absent t = ⊥
   ReadsChild s (present m) t = Reads s m t
@@ -73,6 +76,7 @@ abbrev mutual
 abbrev pub ReadsAsNothing : Meaning → Message → Type 0
 ReadsAsNothing s m = (t : Tree) → Reads s m t → ⊥
 
+-- how many messages there are
 abbrev pub message_count : Messages → ℕ
 message_count no_message = 0
 message_count (more m ms) = message_count ms + 1

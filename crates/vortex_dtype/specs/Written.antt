@@ -17,6 +17,7 @@ use Rattle.vortex_dtype.specs.Meaning.{Meaning, keeps}
 use Rattle.vortex_dtype.specs.ReadInOrder.{or_empty}
 use Rattle.vortex_dtype.specs.Reads.{ReadsChild}
 
+-- the flag that a message has for a nullability
 abbrev pub is_nullable : Nullability → Bool
 is_nullable Nullable = true
 is_nullable NonNullable = false
@@ -31,6 +32,7 @@ written_variant_names vs = variant_names (triples vs)
 abbrev pub written_tags : Variants → List ℤ
 written_tags vs = map pos (variant_tags (triples vs))
 
+-- the message of a type: every child, flag and number, and the metadata, also where it is empty
 abbrev mutual
   pub written : Tree → Message
   written of.null = null

@@ -86,11 +86,11 @@ impl ForeignExtDType {
         ExtDTypeRef::from_parts(alloc, id, metadata, storage)
     }
 
-    /// Copies the vtable.
+    /// Returns an equal vtable, which shares the text of the id.
     ///
     /// # Errors
     ///
-    /// - `OutOfMemory` (0): an allocation fails.
+    /// - `OutOfMemory` (0): the reference count of the text is exhausted.
     pub fn try_clone(&self, alloc: Global) -> VortexResult<Self>
         ensures { Makes result (λ v. v ≡ self.now) }
     {

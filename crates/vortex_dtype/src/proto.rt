@@ -39,8 +39,8 @@ mod write;
 
 /// Conversion of types from and to protobuf messages.
 ///
-/// `DType::from_proto(alloc, &dtype.to_proto(alloc)?, &session)?` equals `dtype` where the session keeps each
-/// extension's metadata as it is (`Admits` of `specs/Meaning`).
+/// `DType::from_proto(alloc, &dtype.to_proto(alloc)?, &session)?` equals `dtype` where `dtype` is valid and the session keeps
+/// each extension's metadata as it is (`Admits` of `specs/Meaning`).
 pub trait DTypeProto {
     /// Returns the type that the message describes, under the session. The impl for `DType` lists the errors.
     fn from_proto(alloc: Global, proto: &pb::DType, session: &DTypeSession) -> VortexResult<Self>

@@ -3,7 +3,7 @@
 
 -- What `find`, `field` and `variant` say of a name by the word `IsAmong`, so that `all`, `any` and `find` over names prove.
 -- `each_among` names all of it in one line.
-use Rattle.std.proofs.Common.{◌≡◌, ◌∙◌, ℕ, List, Option, Some, None, Contains, true, refl, ap, sym}
+use Rattle.std.proofs.Common.{◌≡◌, ◌∙◌, ℕ, List, Option, Some, None, true, refl, ap, sym}
 use Rattle.std.specs.Borrow.{Bor}
 use Rattle.std.specs.Option.{is_some}
 use Rattle.dtype_base.specs.FieldNames.{first_place}
@@ -41,14 +41,5 @@ typed_among fs n r e = (λ h. named_among fs n (sym (ap is_some e) ∙ shown_som
     shown_some : (r : Option (Bor DType)) → is_some (shown tree r) ≡ is_some r
     shown_some None = refl
     shown_some (Some x) = refl
-
--- the word means that the list contains the name
-pub among_contained : (ns : List (List ℕ)) (n : List ℕ) → IsAmong ns n → Contains ns n
-unfolding IsAmong
-among_contained ns n a = a
-
-pub contained_among : (ns : List (List ℕ)) (n : List ℕ) → Contains ns n → IsAmong ns n
-unfolding IsAmong
-contained_among ns n c = c
 
 pub ruleset each_among = (placed_among, among_placed, named_among, among_named, variant_among, among_variant, typed_among)

@@ -22,7 +22,7 @@ use Rattle.dtype_types.specs.tree.Valid.{Valid}
 use Rattle.dtype_types.specs.declared.union_variants.UnionVariants.{UnionVariants}
 use Rattle.dtype_types.proofs.lemmas.DistinctFields.{named_alone, named_gone}
 use Rattle.dtype_types.proofs.lemmas.JoinedFields.{named_before}
-use Rattle.dtype_types.proofs.lemmas.Presence.{among_is_placed, placed_is_among, placed_is_named}
+use Rattle.dtype_types.proofs.lemmas.Presence.{among_is_placed, placed_is_named}
 use Rattle.dtype_types.proofs.lemmas.TreeLaws.{triples_variants}
 use Rattle.dtype_types.proofs.lemmas.ValidLists.{variants_are}
 

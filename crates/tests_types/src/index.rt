@@ -10,13 +10,13 @@ fn are_distinct(alloc: Global, texts: &[&str]) -> VortexResult<bool> {
     Ok(IndexedNames::new(alloc, names)?.are_distinct())
 }
 
-// More names than the index sorts by insertion, in random order.
+// Different names, in random order.
 const MANY: [&str; 22] = [
     "x17", "x4", "x9", "x21", "x2", "x13", "x6", "x11", "x1", "x20", "x8", "x15", "x3", "x19",
     "x5", "x0", "x14", "x10", "x7", "x18", "x12", "x16",
 ];
 
-// Names with equal keys, one without their prefix, and the first of them a second time.
+// Names that are alike but for one, and the first of them a second time, at the end.
 const ALIKE: [&str; 23] = [
     "beginning_of_all_17",
     "beginning_of_all_4",

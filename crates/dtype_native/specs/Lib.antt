@@ -3,7 +3,6 @@
 
 pub mod LittleEndian
 pub mod NumberLaws
-pub mod Integers
 pub mod Offsets
 pub mod Digits
 pub mod NativeTypes

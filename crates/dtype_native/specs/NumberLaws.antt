@@ -10,6 +10,10 @@ use Rattle.std.proofs.Math.Nat.{pow-suc}
 use Rattle.std.proofs.Math.Facts.{Fits-of_z}
 use Rattle.std.proofs.lemmas.Int.{ints, fits_signed_from_abs, to_z-of_z}
 use mir.Val.{hbits}
+use Rattle.dtype_base.specs.declared.ptype.PType.{PType}
+use Rattle.dtype_base.specs.Primitives.{ptype_row}
+use Rattle.dtype_base.specs.Primitives.NumberKind.{Unsigned}
+use Rattle.dtype_types.specs.values.Value.{InRange}
 use Rattle.dtype_native.specs.LittleEndian.{little_endian}
 
 -- ---- different numbers of a type have different bytes
@@ -54,9 +58,9 @@ signed_injective w x y f g e =
 
 -- ---- the integers of a type
 
-pub unsigned_range : (k : ℕ) (z : ℤ) → FitsUnsignedBits k z ↔ ((pos 0 ≤ℤ z) × (z <ℤ pos (2 ^ k)))
-unsigned_range k (pos n) = ((λ f. (omega (arith, ints), omega (arith, ints))), (λ r. let below = r.1 in omega (arith, ints)))
-unsigned_range k (negsuc n) = ((λ f. absurd f), (λ r. let above = r.0 in absurd (omega (arith, ints))))
+pub unsigned_range : (p : PType) (z : ℤ) → FitsUnsignedBits (8 * (ptype_row p).bytes) z ↔ InRange Unsigned p z
+unsigned_range p (pos n) = ((λ f. f), (λ f. f))
+unsigned_range p (negsuc n) = ((λ f. f), (λ f. f))
 
 pub signed_range : (w : Width) (z : ℤ) → FitsSigned w z ↔ ((neg_ℤ (pos (2 ^ hbits w)) ≤ℤ z) × (z <ℤ pos (2 ^ hbits w)))
 signed_range w (pos n) = (

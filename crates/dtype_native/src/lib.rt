@@ -10,7 +10,7 @@
 //! visitor's method for the primitive type that it is given.
 //!
 //! Begin with `NativePType`, `ToBytes` and `PTypeVisitor`, then `NativeDecimalType` and `PrecisionScale`, and
-//! `NativeDType`. The definitions are in `specs/`: `LittleEndian`, `Integers`, `Offsets`, `Digits`, `NativeTypes`;
+//! `NativeDType`. The definitions are in `specs/`: `LittleEndian`, `Offsets`, `Digits`, `NativeTypes`;
 //! `NumberLaws` has the proofs of the traits' laws that the impls cite.
 #![tactic(auto)]
 

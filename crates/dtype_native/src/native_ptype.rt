@@ -8,7 +8,7 @@ ghost use Rattle.std.proofs.Common.{refl};
 ghost use Rattle.dtype_base.specs.declared.ptype.PType.{PType};
 ghost use Rattle.dtype_base.specs.declared.ptype.PType.TheVariants.{U8, U16, U32, U64, I8, I16, I32, I64};
 ghost use Rattle.dtype_base.specs.Primitives.{ptype_row};
-ghost use Rattle.dtype_native.specs.Integers.{HoldsInteger};
+ghost use Rattle.dtype_types.specs.values.Value.{IntegerOf};
 ghost use Rattle.dtype_native.specs.NumberLaws.{same_natural, signed_range, unsigned_range};
 
 use crate::{ToBytes, TryFromBytes};
@@ -86,7 +86,7 @@ pub trait NativePType: Copy + Default + Display + Ord + Num + NumCast + ToBytes 
     ghost value_law: { (x y : Self) → Self.value x ≡ Self.value y → x ≡ y };
 
     // The range and the width are those of the primitive type.
-    ghost range_law: { (z : ℤ) → Self.fits z ↔ HoldsInteger PTYPE z };
+    ghost range_law: { (z : ℤ) → Self.fits z ↔ IntegerOf PTYPE z };
 
     ghost width_law: { Self.byte_width ≡ (ptype_row PTYPE).bytes };
 }
@@ -100,7 +100,7 @@ impl NativePType for u8 {
 
     ghost value_law = { same_natural };
 
-    ghost range_law = { unsigned_range 8 };
+    ghost range_law = { unsigned_range U8 };
 
     ghost width_law = { refl };
 }
@@ -114,7 +114,7 @@ impl NativePType for u16 {
 
     ghost value_law = { same_natural };
 
-    ghost range_law = { unsigned_range 16 };
+    ghost range_law = { unsigned_range U16 };
 
     ghost width_law = { refl };
 }
@@ -128,7 +128,7 @@ impl NativePType for u32 {
 
     ghost value_law = { same_natural };
 
-    ghost range_law = { unsigned_range 32 };
+    ghost range_law = { unsigned_range U32 };
 
     ghost width_law = { refl };
 }
@@ -142,7 +142,7 @@ impl NativePType for u64 {
 
     ghost value_law = { same_natural };
 
-    ghost range_law = { unsigned_range 64 };
+    ghost range_law = { unsigned_range U64 };
 
     ghost width_law = { refl };
 }

@@ -28,7 +28,6 @@ pub use Rattle.dtype_base.specs.Comparisons
 pub use Rattle.dtype_base.specs.Nullability
 pub use Rattle.dtype_base.specs.Primitives
 pub use Rattle.dtype_native.specs.Digits
-pub use Rattle.dtype_native.specs.Integers
 pub use Rattle.dtype_native.specs.LittleEndian
 pub use Rattle.dtype_native.specs.NativeTypes
 pub use Rattle.dtype_native.specs.Offsets

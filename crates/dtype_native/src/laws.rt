@@ -25,6 +25,11 @@ pub fn precision_scales_are_equal_where_they_are<D: NativeDecimalType>()
     ensures { (a b : Decimal) → Decides (⟦<PrecisionScale<D> as PartialEq>⟧.eq a b) (a ≡ b) }
 {}
 
+/// `clone` of a decimal of a native type gives the same decimal.
+pub fn clones_of_precision_scales_are_the_same<D: NativeDecimalType>()
+    ensures { (a b : Decimal) → ⟦<PrecisionScale<D> as Clone>⟧.is_clone a b → b ≡ a }
+{}
+
 /// The name of each native decimal type is the text of its storage type.
 pub fn names_of_native_decimals_are_their_texts() -> (
     &'static str,

@@ -1,10 +1,10 @@
 // SPDX-License-Identifier: Apache-2.0
 // SPDX-FileCopyrightText: Copyright the Vortex contributors
 
-ghost use Rattle.std.specs.Prelude.{◌≡◌, ◌↔◌, ◌+◌, ◌<◌, ◌≤◌, ◌⊎◌, [], All, List, false, length, map, IfOk, IsOkUnless, IsTrue, OnErr, OnOk};
+ghost use Rattle.std.specs.Prelude.{◌≡◌, ◌↔◌, ◌+◌, ◌<◌, ◌≤◌, ◌⊎◌, [], All, List, false, length, map, IfOk, IsOkUnless, IsTrue, OnErr, OnOk, Some};
 ghost use Rattle.std.specs.Borrow.{Bor};
 ghost use Rattle.std.specs.FinSet as set;
-ghost use Rattle.std.specs.Iterator.{ExtendsWithItems, IsFinite};
+ghost use Rattle.std.specs.Iterator.{ExtendsWithItems, IsFinite, YieldsThen};
 ghost use Rattle.std.specs.Iterator.Runs.{WholeRun, YieldsInOrder};
 ghost use Rattle.std.specs.List.{Contains, sum_by};
 ghost use Rattle.std.specs.Vec.Iter.{into_iter_items, into_iter_steps};
@@ -117,8 +117,8 @@ impl FieldPathSet {
         Ok(self.trie.insert(self.alloc, path)?)
     }
 
-    /// Inserts the paths that an iterator yields, in their order. After an error the set has those that were yielded
-    /// before the one that couldn't be inserted, and no other.
+    /// Inserts the paths that an iterator yields, in their order. After an error the set also has the paths that were
+    /// yielded before one of them, the one that couldn't be inserted, and no other.
     ///
     /// # Errors
     ///
@@ -130,6 +130,10 @@ impl FieldPathSet {
             (λ old ps new. new ≡ set.union old (set_of ps)) paths self.old self.new result }
         ensures run { OnOk result ((it : I.IntoIter) × I.into_iter_gives paths it
             × WholeRun I.IntoIter.next_gives it (λ run. self.new ≡ set.union self.old (set_of run.items))) }
+        // those before some path p are in, and no other
+        ensures err { OnErr result ((it : I.IntoIter) × I.into_iter_gives paths it
+            × (xs : List (List Field)) × (p : List Field) × (u : I.IntoIter)
+            × YieldsThen I.IntoIter.next_gives it xs (Some p) u × (self.new ≡ set.union self.old (set_of xs))) }
         ensures errors { IsOkUnless result OutOfMemory }
     {
         for path in paths {

@@ -45,10 +45,11 @@ pub fn type_for_both(alloc: Global, dtype: &DType, other: &DType) -> VortexResul
     Ok(dtype.union_nullability(alloc, other.nullability())?)
 }
 
-/// Whether each of two arrays may be appended to the other: only where their types are equal.
+/// Whether each of two arrays may be appended to the other. Then their types are equal.
 #[tactic(auto, using(vortex_dtype::proofs::rulesets::sub_antisymmetric))]
 pub fn can_append_both_ways(first: &DType, second: &DType) -> bool
-    ensures { IsTrue result → tree first.now ≡ tree second.now }
+    ensures exact { IsTrue result ↔ (Sub (tree first.now) (tree second.now) × Sub (tree second.now) (tree first.now)) }
+    ensures equal { IsTrue result → tree first.now ≡ tree second.now }
 {
     first.eq_with_nullability_subset(second) && second.eq_with_nullability_subset(first)
 }

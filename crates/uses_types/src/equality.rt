@@ -9,7 +9,7 @@ ghost use Rattle.dtype_types.specs.equality.Hashes.{hash_writes_ignoring_nullabi
 ghost use Rattle.dtype_types.specs.parts.FieldTypes.{field_tree};
 ghost use Rattle.dtype_types.specs.parts.Lookups.{field_names, first_named};
 ghost use Rattle.dtype_types.specs.tree.Erase.{erase};
-ghost use Rattle.dtype_types.specs.tree.TreeOf.{children, variant_list, extension_tree, map_shown, tree};
+ghost use Rattle.dtype_types.specs.tree.TreeOf.{children, variant_list, extension_tree, map_shown, struct_tree, tree};
 
 use std::alloc::Global;
 use std::collections::HashMap;
@@ -75,7 +75,7 @@ pub fn is_same_name(name: &FieldName, other: &FieldName) -> bool
 }
 
 /// Whether a column's type isn't the one that was planned.
-#[tactic(auto, using(vortex_dtype::proofs::rulesets::equality))]
+#[tactic(auto, using(vortex_dtype::proofs::rulesets::unequal))]
 pub fn differs_from_plan(column: &DType, planned: &DType) -> bool
     ensures { IsTrue result ↔ (tree column.now ≢ tree planned.now) }
 {
@@ -127,10 +127,11 @@ pub fn has_same_names(table: &StructFields, other: &StructFields) -> bool
     *table.names() == *other.names()
 }
 
-/// Whether an array has a table's columns, whatever their nullability: then it has their names.
+/// Whether an array has a table's columns, whatever their nullability. Then it has their names.
 #[tactic(auto, using(vortex_dtype::proofs::rulesets::equality))]
 pub fn has_columns_of(table: &StructFields, array: &StructFields) -> bool
-    ensures { IsTrue result → field_names (children table.now) ≡ field_names (children array.now) }
+    ensures exact { IsTrue result ↔ (erase (struct_tree table.now) ≡ erase (struct_tree array.now)) }
+    ensures names { IsTrue result → field_names (children table.now) ≡ field_names (children array.now) }
 {
     table.eq_ignore_nullability(array)
 }
@@ -179,7 +180,7 @@ pub fn hash_as_cached<H: Hasher>(dtype: &DType, cached: &DType, state: &mut H)
 }
 
 /// Whether a function is called with types that it was compiled for.
-#[tactic(auto, using(vortex_dtype::proofs::rulesets::equality))]
+#[tactic(auto, using(vortex_dtype::proofs::rulesets::equal_types))]
 pub fn is_same_signature(compiled: &[DType], called: &[DType]) -> bool
     ensures { IsTrue result ↔ (map tree compiled.now ≡ map tree called.now) }
 {

@@ -4,7 +4,7 @@
 // Lookups of fields, by name and by position.
 #![tactic(auto, using(vortex_dtype::proofs::rulesets::joined_fields, vortex_dtype::proofs::rulesets::lookups))]
 
-ghost use Rattle.std.specs.Prelude.{◌≡◌, ◌≢◌, ◌+◌, ◌<◌, ◌∷◌, [], ℕ, List, None, Some, Contains, IfNone, IfOk, IfSome, IsOk, IsSome, IsTrue, length, map, true, vec_len};
+ghost use Rattle.std.specs.Prelude.{◌≡◌, ◌≢◌, ◌+◌, ◌-◌, ◌<◌, ◌∷◌, [], ℕ, List, None, Some, Contains, IfNone, IfOk, IfSome, IsOk, IsSome, IsTrue, length, map, slice_get, true, vec_len};
 ghost use Rattle.std.specs.Option.{option_map};
 ghost use Rattle.dtype_types.specs.parts.Lookups.{field_names, field_types, first_named};
 ghost use Rattle.dtype_types.specs.nullability.Nullable.{nullability};
@@ -18,12 +18,14 @@ use vortex_dtype::{DType, FieldName, FieldNames, Nullability, StructFields, Vort
 /// The name of the last field.
 pub fn last_name(fields: &StructFields) -> &FieldName
     requires { 0 < length (children fields.now) }
+    ensures { slice_get (field_names (children fields.now)) (length (children fields.now) - 1) ≡ Some result.now }
 {
     let count = fields.nfields();
     &fields.names()[count - 1]
 }
 
 /// The type of the first field of the name, by its position.
+#[tactic(auto, using(vortex_dtype::proofs::rulesets::found_names))]
 pub fn field_by_find<'a>(fields: &'a StructFields, name: &str) -> Option<&'a DType>
     ensures { shown tree result ≡ first_named (children fields.now) name.now }
 {
@@ -92,7 +94,7 @@ pub fn merged(
     left.disjoint_merge(alloc, right)
 }
 
-/// Whether a column of the first of two tables is one of both joined.
+/// Whether a column of the first of two tables is one of both joined: it always is.
 pub fn keeps_column_of_first(
     alloc: Global,
     first: &StructFields,
@@ -104,7 +106,7 @@ pub fn keeps_column_of_first(
     Ok(first.disjoint_merge(alloc, second)?.field(column).is_some())
 }
 
-/// Whether a column of the second of two tables, which the first hasn't, is one of both joined.
+/// Whether a column of the second of two tables, which the first hasn't, is one of both joined: it always is.
 pub fn takes_column_of_second(
     alloc: Global,
     first: &StructFields,

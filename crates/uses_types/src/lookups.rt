@@ -20,6 +20,7 @@ pub fn find_counted_agrees_with_find(fields: &StructFields, name: &str) -> bool
 
 /// The position of the first field of the name, of at most 1,000 fields, and how many of their names were
 /// compared for it.
+#[tactic(auto, using(vortex_dtype::proofs::rulesets::compared_names))]
 pub fn find_among_a_thousand(fields: &StructFields, name: &str) -> (Option<usize>, u64)
     requires { length (children fields.now) ≤ 1000 }
     ensures place { result.0 ≡ first_place (field_names (children fields.now)) name.now }

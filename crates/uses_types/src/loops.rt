@@ -3,7 +3,7 @@
 
 //! Loops to copy, each with its invariant in `proofs/loops`: a fold with a number, a search, a filter into a list, a rename,
 //! columns that are bound, and a list of children. `over_fields` has a count and a test of all.
-ghost use Rattle.std.specs.Prelude.{◌≡◌, IfNone, IfOk, IfSome, None, Some, find, fold, map};
+ghost use Rattle.std.specs.Prelude.{◌≡◌, Any, IfNone, IfOk, IfSome, None, Some, find, fold, map};
 ghost use Rattle.std.specs.List.{filter};
 ghost use Rattle.std.specs.Map.{keys_of};
 ghost use Rattle.dtype_types.specs.parts.Lookups.{field_types};
@@ -69,14 +69,15 @@ pub fn renamed(
     Ok(list)
 }
 
-/// The types of some columns, or `None` where the table lacks one.
+/// The types of some columns, or `None` exactly where the table lacks one.
 pub fn bind_all<'a>(
     alloc: Global,
     columns: &[FieldPath],
     table: &'a DType,
 ) -> VortexResult<Option<Vec<&'a DType>>>
-    ensures { IfOk result (λ found. IfSome found (λ types.
+    ensures bound { IfOk result (λ found. IfSome found (λ types.
         map (λ d. Some (tree d.now)) types.items ≡ map (along (tree table.now)) columns.now)) }
+    ensures unbound { IfOk result (λ found. IfNone found (Any (λ p. along (tree table.now) p ≡ None) columns.now)) }
 {
     let mut types = Vec::new(alloc);
     for column in columns {

@@ -4,11 +4,11 @@
 //! Struct types and their columns: from a type to what it has, and back.
 #![tactic(auto, using(vortex_dtype::proofs::rulesets::structs, vortex_dtype::proofs::rulesets::equality))]
 
-ghost use Rattle.std.specs.Prelude.{◌≡◌, ◌↔◌, IfOk, IfSome, IsTrue, Some};
+ghost use Rattle.std.specs.Prelude.{◌≡◌, ◌↔◌, IfOk, IsTrue, Some};
 ghost use Rattle.vortex_dtype.specs.Kinds.{struct_fields};
 ghost use Rattle.vortex_dtype.specs.Nullable.{nullability};
 ghost use Rattle.vortex_dtype.specs.Tree.{Fields, pairs, struct};
-ghost use Rattle.vortex_dtype.specs.TreeOf.{children, fields_of, struct_tree, tree};
+ghost use Rattle.vortex_dtype.specs.TreeOf.{children, fields_of, shown, struct_tree, tree};
 ghost use Rattle.vortex_dtype.specs.Types.Nullability.{Nullability};
 
 use std::alloc::Global;
@@ -21,7 +21,7 @@ pub fn columns_of_table<'a>(
     n: Nullability,
 ) -> Option<&'a StructFields>
     requires { tree table.now ≡ struct (fields_of columns.now) n }
-    ensures { IfSome result (λ own. children own.now ≡ children columns.now) }
+    ensures { shown children result ≡ Some (children columns.now) }
 {
     let (_columns, _n) = (columns, n);
     table.as_struct_fields_opt()
@@ -50,7 +50,7 @@ pub fn equal_tables_have_same_columns(table: &StructFields, other: &StructFields
 #[tactic(auto, using(vortex_dtype::proofs::rulesets::listed_fields))]
 pub fn columns_as_said(table: &DType) -> Option<&StructFields>
     ensures { (fs : Fields) (n : Nullability) → tree table.now ≡ struct fs n
-        → IfSome result (λ own. children own.now ≡ pairs fs) }
+        → shown children result ≡ Some (pairs fs) }
 {
     table.as_struct_fields_opt()
 }

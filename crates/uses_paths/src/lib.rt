@@ -6,7 +6,7 @@
 //! `uses_types`, in a crate of their own, so that the gate proves the two side by side. `proofs/` has the measures of the
 //! recursions of `masks`, `cursors`, `descending` and `merging`, the invariants of the loops of `cursors` and
 //! `path_sets`, and proofs by hand for a loop of `path_sets`, a clause of `path_messages`, and two functions each of
-//! `cursors` and `descending`; the tactics find all else.
+//! `cursors` (over the lemmas of `proofs/OnePath.antt`) and `descending`; the tactics find all else.
 //!
 //! - Which columns a query opens: `asked`, `binding` (those that a table lacks), `paths`, `path_sets`, `path_lists`,
 //!   `projections`, `opened`, `merging` (several files read as one), `intersecting` (two schemas that are both kept).

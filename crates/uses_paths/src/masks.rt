@@ -5,8 +5,9 @@
 #![tactic(auto, using(vortex_dtype::proofs::rulesets::stepping))]
 
 ghost use Rattle.std.specs.Prelude.{◌≡◌, ◌↔◌, ◌∷◌, ◌++◌, [], IfNone, IfOk, IfSome, IsTrue, List, false};
+ghost use Rattle.std.specs.Option.{option_copied};
 ghost use Rattle.vortex_dtype.specs.Beginning.{Beginning};
-ghost use Rattle.vortex_dtype.specs.In.{In};
+ghost use Rattle.vortex_dtype.specs.In.{In, first_part};
 ghost use Rattle.vortex_dtype.specs.Types.Field.{Field};
 ghost use Rattle.vortex_dtype.specs.Types.FieldMask.TheVariants.{All};
 
@@ -57,6 +58,7 @@ pub fn is_only_column_asked(column: FieldPath, mask: &FieldMask) -> bool
 }
 
 /// What is asked below a field, where the mask begins with it.
+#[tactic(auto, using(vortex_dtype::proofs::rulesets::stepped_masks))]
 pub fn mask_below_field(mask: FieldMask, field: &Field) -> VortexResult<Option<FieldMask>>
     ensures { IfOk result (λ found. IfSome found (λ m. (q : List Field) → In m q ↔ In mask (field.now ∷ q))) }
 {
@@ -135,10 +137,12 @@ pub fn mask_of_all_matches_path(mask: &FieldMask, path: &FieldPath) -> bool
     mask.matches_all()
 }
 
-/// The field after which something is asked for, or `None` where the mask's path is the root.
+/// The field after which something is asked for: the first step of the mask's path, or `None` exactly where that path is
+/// the root.
 pub fn field_asked_for(mask: &FieldMask) -> VortexResult<Option<&Field>>
-    ensures { IfOk result (λ found. IfSome found (λ f.
+    ensures asked { IfOk result (λ found. IfSome found (λ f.
         (q : List Field) × In mask.now (f.now ∷ q))) }
+    ensures first { IfOk result (λ found. option_copied found ≡ first_part mask.now) }
 {
     mask.starting_field()
 }

@@ -25,6 +25,7 @@ use vortex_dtype::{
 };
 
 /// Whether two messages say the same type: equal ones do.
+#[tactic(auto, using(vortex_dtype::proofs::rulesets::read_messages))]
 pub fn read_as_equal_types(
     alloc: Global,
     a: &pb::DType,
@@ -38,10 +39,11 @@ pub fn read_as_equal_types(
     Ok(first == second)
 }
 
-/// Whether two types are the same, found by their messages.
+/// Whether two types are the same, found by their messages, in a file that reads messages and compares types.
+/// `are_written_the_same` proves by one narrow ruleset.
 #[tactic(auto, using(vortex_dtype::proofs::rulesets::messages, vortex_dtype::proofs::rulesets::equality))]
 pub fn have_equal_messages(alloc: Global, a: &DType, b: &DType) -> VortexResult<bool>
-    ensures { IfOk result (λ r. IsTrue r → tree a.now ≡ tree b.now) }
+    ensures { IfOk result (λ r. IsTrue r ↔ (tree a.now ≡ tree b.now)) }
 {
     let first = a.to_proto(alloc)?;
     let second = b.to_proto(alloc)?;

@@ -11,6 +11,7 @@ ghost use Rattle.std.specs.Vec.Iter.{into_iter_items};
 ghost use Rattle.vortex_dtype.specs.At.{ExistsIn};
 ghost use Rattle.vortex_dtype.specs.Beginning.{Beginning};
 ghost use Rattle.vortex_dtype.specs.Covering.{covers};
+ghost use Rattle.vortex_dtype.specs.PathOrder.{set_of};
 ghost use Rattle.vortex_dtype.specs.TreeOf.{tree};
 ghost use Rattle.vortex_dtype.specs.Types.Field.{Field};
 
@@ -18,9 +19,10 @@ use std::alloc::Global;
 use std::vec;
 use vortex_dtype::{DType, Field, FieldPath, FieldPathSet, VortexResult};
 
-/// Whether a column is in the list that a query gives, word for word.
+/// Whether a column is in the list that a query gives, word for word: as the list has it, and as its set does.
 pub fn is_listed(alloc: Global, columns: Vec<FieldPath>, column: &FieldPath) -> VortexResult<bool>
-    ensures { IfOk result (λ b. IsTrue b ↔ Contains columns.items column.now) }
+    ensures set { IfOk result (λ b. b ≡ set.contains (set_of columns.items) column.now) }
+    ensures list { IfOk result (λ b. IsTrue b ↔ Contains columns.items column.now) }
 {
     let asked = FieldPathSet::from_iter(alloc, columns)?;
     Ok(asked.contains(column))
@@ -34,20 +36,6 @@ pub fn set_of_list(alloc: Global, columns: Vec<FieldPath>) -> VortexResult<Field
         → Contains columns.items p → IsTrue (covers s p)) }
 {
     let asked = FieldPathSet::from_iter(alloc, columns)?;
-    Ok(asked)
-}
-
-/// The set of two lists: its members are those of either.
-pub fn set_of_two_lists(
-    alloc: Global,
-    columns: Vec<FieldPath>,
-    more: Vec<FieldPath>,
-) -> VortexResult<FieldPathSet>
-    ensures { IfOk result (λ s. (p : List Field) → IsTrue (set.contains s p)
-        ↔ (Contains columns.items p ⊎ Contains more.items p)) }
-{
-    let mut asked = FieldPathSet::from_iter(alloc, columns)?;
-    asked.extend(more)?;
     Ok(asked)
 }
 
@@ -72,6 +60,7 @@ pub fn ask_for_columns(asked: &mut FieldPathSet, columns: Vec<FieldPath>) -> Vor
 }
 
 /// Asks for what another reader asks for: a column that it covers is covered then, as is one that was.
+#[tactic(auto, using(vortex_dtype::proofs::rulesets::covers_members))]
 pub fn ask_for_other(
     asked: &mut FieldPathSet,
     other: FieldPathSet,
@@ -175,10 +164,11 @@ pub fn ask_if_known(asked: &mut FieldPathSet, path: FieldPath, table: &DType) ->
     Ok(true)
 }
 
-/// Whether a column is below a table that is asked for: then it is covered.
-#[tactic(auto, using(vortex_dtype::proofs::rulesets::members, vortex_dtype::proofs::rulesets::stepping))]
+/// Whether a column is below a table that is asked for. Then it is covered.
+#[tactic(auto, using(vortex_dtype::proofs::rulesets::covers_members, vortex_dtype::proofs::rulesets::beginnings))]
 pub fn is_below_asked(asked: &FieldPathSet, column: &FieldPath, table: &FieldPath) -> bool
-    ensures { IsTrue result → IsTrue (covers asked.now column.now) }
+    ensures exact { IsTrue result ↔ (IsTrue (set.contains asked.now table.now) × Beginning table.now column.now) }
+    ensures covered { IsTrue result → IsTrue (covers asked.now column.now) }
 {
     asked.contains(table) && column.parts().starts_with(table.parts())
 }

@@ -75,6 +75,7 @@ pub fn is_same_list(a: &pb::List, b: &pb::List) -> bool
 }
 
 /// Whether two messages of structs have the same names, types and flag.
+#[tactic(auto, using(vortex_dtype::proofs::rulesets::equal_messages))]
 pub fn is_same_struct(a: &pb::Struct, b: &pb::Struct) -> bool
     ensures { IsTrue result ↔ (struct_content a.now ≡ struct_content b.now) }
 {
@@ -159,6 +160,7 @@ pub fn leads_to_same(alloc: Global, a: &pb::FieldPath, b: &pb::FieldPath) -> Vor
 }
 
 /// Whether a stored path leads to the whole table: exactly where it has no names.
+#[tactic(auto, using(vortex_dtype::proofs::rulesets::path_messages))]
 pub fn leads_to_table(alloc: Global, path: &pb::FieldPath) -> VortexResult<bool>
     ensures { IfOk result (λ whole. IsTrue whole ↔ (part_names path.now ≡ [])) }
 {

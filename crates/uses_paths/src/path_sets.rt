@@ -4,7 +4,7 @@
 //! A reader of columns: what is asked of it, and what it opens for that.
 #![tactic(auto, using(vortex_dtype::proofs::rulesets::covering))]
 
-ghost use Rattle.std.specs.Prelude.{◌≡◌, ◌≢◌, ◌↔◌, ◌+◌, ◌++◌, [], ◌∷◌, ◌≤◌, IfOk, IsTrue, List, OnOk, false, is_some, length, map};
+ghost use Rattle.std.specs.Prelude.{◌≡◌, ◌≢◌, ◌↔◌, ◌⊎◌, ◌+◌, ◌++◌, [], ◌∷◌, ◌≤◌, IfOk, IsTrue, List, OnOk, false, is_some, length, map};
 ghost use Rattle.std.specs.FinSet as set;
 ghost use Rattle.std.specs.List.{All, Contains, list_all, sum_by};
 ghost use Rattle.std.specs.Vec.Iter.{into_iter_items};
@@ -135,14 +135,6 @@ pub fn ask_for_each(asked: &mut FieldPathSet, columns: Vec<FieldPath>) -> Vortex
 {
     asked.extend(columns)?;
     Ok(())
-}
-
-/// Whether a query asks for a column.
-pub fn asks_for(alloc: Global, columns: Vec<FieldPath>, column: &FieldPath) -> VortexResult<bool>
-    ensures { IfOk result (λ b. b ≡ set.contains (set_of columns.items) column.now) }
-{
-    let asked = FieldPathSet::from_iter(alloc, columns)?;
-    Ok(asked.contains(column))
 }
 
 /// Whether a column is asked for, looked up in a copy.
@@ -384,13 +376,16 @@ pub fn two_copies(asked: &FieldPathSet) -> VortexResult<(FieldPathSet, FieldPath
     Ok((first, second))
 }
 
-/// What either of two queries asks for.
+/// What either of two queries asks for: the union of their sets, whose members are those of either list.
+#[tactic(auto, using(vortex_dtype::proofs::rulesets::members))]
 pub fn union_of_queries(
     alloc: Global,
     columns: Vec<FieldPath>,
     more: Vec<FieldPath>,
 ) -> VortexResult<FieldPathSet>
-    ensures { IfOk result (λ s. s ≡ set.union (set_of columns.items) (set_of more.items)) }
+    ensures members { IfOk result (λ s. (p : List Field) → IsTrue (set.contains s p)
+        ↔ (Contains columns.items p ⊎ Contains more.items p)) }
+    ensures union { IfOk result (λ s. s ≡ set.union (set_of columns.items) (set_of more.items)) }
 {
     let mut asked = FieldPathSet::from_iter(alloc, columns)?;
     asked.extend(more)?;

@@ -28,6 +28,7 @@ pub fn path_of_amount(alloc: Global) -> VortexResult<FieldPath>
 }
 
 /// The nullability of the type along a path, or `None` where there is none.
+#[tactic(auto, using(vortex_dtype::proofs::rulesets::types_along))]
 pub fn nullability_along(path: &FieldPath, dtype: &DType) -> Option<Nullability>
     ensures { result ≡ option_map nullability (along (tree dtype.now) path.now) }
 {
@@ -47,28 +48,30 @@ pub fn column_by_path<'a>(
     Ok(path.resolve(table))
 }
 
-/// The type of a table's column by its name: the type along the path of that name.
+/// The type of a table's column by its name: the type along the path of that name, or `None` where there is none.
+#[tactic(auto, using(vortex_dtype::proofs::rulesets::one_column))]
 pub fn column_of_struct<'a>(table: &'a DType, column: &str) -> Option<&'a DType>
-    ensures { IfSome result (λ u. At (tree table.now) (Field.Name column.now ∷ []) (tree u.now)) }
+    ensures { shown tree result ≡ along (tree table.now) (Field.Name column.now ∷ []) }
 {
     table.as_struct_fields_opt()?.field(column)
 }
 
-/// The type one step further along a path.
+/// The type one step further along a path, or `None` where there is none.
 pub fn type_of_child<'a>(
     path: FieldPath,
     field: Field,
     dtype: &'a DType,
 ) -> VortexResult<Option<&'a DType>>
-    ensures { IfOk result (λ found. IfSome found (λ u.
-        At (tree dtype.now) (path ++ field ∷ []) (tree u.now))) }
+    ensures { IfOk result (λ found. shown tree found ≡ along (tree dtype.now) (path ++ field ∷ [])) }
 {
     Ok(path.push(field)?.resolve(dtype))
 }
 
-/// The type along two paths, one after the other.
+/// The type along two paths, one after the other, or `None` where there is none: as an equation, and as a caller has it
+/// of a type that was found.
 pub fn resolve_joined<'a>(path: &FieldPath, rest: &FieldPath, dtype: &'a DType) -> Option<&'a DType>
-    ensures { IfSome result (λ u. At (tree dtype.now) (path.now ++ rest.now) (tree u.now)) }
+    ensures along { shown tree result ≡ along (tree dtype.now) (path.now ++ rest.now) }
+    ensures found { IfSome result (λ u. At (tree dtype.now) (path.now ++ rest.now) (tree u.now)) }
 {
     rest.resolve(path.resolve(dtype)?)
 }
@@ -129,17 +132,6 @@ pub fn equal_paths_exist_equally(path: &FieldPath, other: &FieldPath, dtype: &DT
     true
 }
 
-/// The type along two paths, one after the other, or `None` where there is none.
-pub fn resolve_joined_exactly<'a>(
-    path: &FieldPath,
-    rest: &FieldPath,
-    dtype: &'a DType,
-) -> Option<&'a DType>
-    ensures { shown tree result ≡ along (tree dtype.now) (path.now ++ rest.now) }
-{
-    rest.resolve(path.resolve(dtype)?)
-}
-
 /// Whether a longer path leads nowhere where its beginning leads nowhere: it always does.
 pub fn longer_path_is_absent(path: &FieldPath, longer: &FieldPath, dtype: &DType) -> bool
     requires { Beginning path.now longer.now }
@@ -172,10 +164,11 @@ pub fn is_column(field: &Field, name: &str) -> bool
     field.as_name() == Some(name)
 }
 
-/// The type of the elements of the list along a path.
+/// The type of the elements of the list along a path, or `None` exactly where no type is one step further, at `[]`.
 pub fn element_along<'a>(path: FieldPath, dtype: &'a DType) -> VortexResult<Option<&'a DType>>
-    ensures { IfOk result (λ found. IfSome found (λ u. (x : Tree) × At (tree dtype.now) path x
+    ensures found { IfOk result (λ found. IfSome found (λ u. (x : Tree) × At (tree dtype.now) path x
         × (any_size_list_element x ≡ Some (tree u.now)))) }
+    ensures step { IfOk result (λ found. shown tree found ≡ along (tree dtype.now) (path ++ Field.ElementType ∷ [])) }
 {
     let element = path.push(Field::ElementType)?;
     Ok(element.resolve(dtype))
@@ -197,6 +190,7 @@ pub fn is_top_level(path: &FieldPath) -> bool
 }
 
 /// Whether what is at a path is within what is at another.
+#[tactic(auto, using(vortex_dtype::proofs::rulesets::beginnings))]
 pub fn is_within(path: &FieldPath, parent: &FieldPath) -> bool
     ensures { IsTrue result ↔ Beginning parent.now path.now }
 {
@@ -211,14 +205,16 @@ pub fn has_same_type_at(path: &FieldPath, left: &DType, right: &DType) -> bool
     path.resolve(left) == path.resolve(right)
 }
 
-/// The path of the elements of a list column, or `None` where the column isn't a list.
+/// The path of the elements of a list column, or `None` where there is no such column, or it isn't a list.
 pub fn path_of_elements(
     alloc: Global,
     table: &StructFields,
     column: &str,
 ) -> VortexResult<Option<FieldPath>>
-    ensures { IfOk result (λ r. IfSome r (λ p. ExistsIn (struct_tree table.now) p
+    ensures found { IfOk result (λ r. IfSome r (λ p. ExistsIn (struct_tree table.now) p
         × (p ≡ Field.Name column.now ∷ Field.ElementType ∷ []))) }
+    ensures none { IfOk result (λ r. IfNone r
+        (¬ (ExistsIn (struct_tree table.now) (Field.Name column.now ∷ Field.ElementType ∷ [])))) }
 {
     let Some(dtype) = table.field(column) else {
         return Ok(None);

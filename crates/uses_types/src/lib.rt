@@ -2,8 +2,9 @@
 // SPDX-FileCopyrightText: Copyright the Vortex contributors
 
 //! What a caller does with the library: functions as a user would write them, each with a contract of its own that
-//! is proved from the clauses of the calls that it makes and from the public rulesets. No proof is written by hand: `proofs/`
-//! has the invariants of the loops of `loops` and `over_fields`, and the measure of a recursion of `scalars`.
+//! is proved from the clauses of the calls that it makes and from the public rulesets. Only those of `guide` have none:
+//! they are the code of a page. No proof is written by hand: `proofs/` has the invariants of the loops of `loops` and
+//! `over_fields`, and the measure of a recursion of `scalars`.
 //!
 //! A clause that a caller can't use fails here, and so does a definition that `vortex_dtype` doesn't re-export, since
 //! this crate lists `vortex_dtype dtype_types` alone. Every caller that a page shows is here, or in `uses_paths`:

@@ -1,14 +1,18 @@
 // SPDX-License-Identifier: Apache-2.0
 // SPDX-FileCopyrightText: Copyright the Vortex contributors
 
-// What a caller has of a valid type.
+// What a caller has of a valid type: that its parts are valid, and what is made of valid types. Where a function gives a
+// part, an equation says which; of what is made, only that it is valid is claimed here.
 #![tactic(auto, using(vortex_dtype::proofs::rulesets::valid_held, vortex_dtype::proofs::rulesets::valid_columns))]
 
-ghost use Rattle.std.specs.Prelude.{◌≡◌, ◌<◌, All, IfOk, IfSome, IsTrue, Some, length, true, vec_len};
+ghost use Rattle.std.specs.Prelude.{◌≡◌, ◌<◌, All, IfOk, IfSome, IsTrue, Some, length, option_and_then, slice_get, true, vec_len};
+ghost use Rattle.std.specs.Option.{option_map};
 ghost use Rattle.dtype_types.specs.tree.Valid.{Valid};
-ghost use Rattle.dtype_types.specs.tree.TreeOf.{tree, map_tree, union_tree, struct_tree, variant_list};
-ghost use Rattle.dtype_types.specs.tree.Kinds.{kind};
-ghost use Rattle.dtype_types.specs.parts.Lookups.{variant_tags};
+ghost use Rattle.dtype_types.specs.tree.TreeOf.{tree, children, map_shown, map_tree, shown, struct_pairs, union_tree, struct_tree, variant_list};
+ghost use Rattle.dtype_types.specs.parts.Lists.{borrowed_pair};
+ghost use Rattle.dtype_types.specs.tree.Kinds.{any_size_list_element, extension_parts, kind, list_element, map_parts, struct_fields, union_variants};
+ghost use Rattle.dtype_types.specs.parts.Lookups.{field_types, variant_named, variant_tags};
+ghost use Rattle.vortex_dtype.specs.Along.{along};
 
 use std::alloc::Global;
 use vortex_dtype::{
@@ -16,9 +20,11 @@ use vortex_dtype::{
     UnionVariants, VortexResult,
 };
 
-/// The type of the only field of a valid struct of one, valid too.
-pub fn only_field(dtype: &DType) -> Option<&DType>
-    ensures { Valid (tree dtype.now) → IfSome result (λ d. Valid (tree d.now)) }
+/// The type of a struct's first field, or `None` where there is none; valid where the struct's is.
+pub fn first_field_type(dtype: &DType) -> Option<&DType>
+    ensures dtype { shown tree result
+        ≡ option_and_then (λ fs. slice_get (field_types fs) 0) (struct_fields (tree dtype.now)) }
+    ensures valid { Valid (tree dtype.now) → IfSome result (λ d. Valid (tree d.now)) }
 {
     let fields = dtype.as_struct_fields_opt()?;
     fields.field_by_index(0)
@@ -32,9 +38,10 @@ pub fn struct_of_valid_fields(fields: StructFields, nullability: Nullability) ->
     DType::Struct(fields, nullability)
 }
 
-/// The name and the type of the first field, valid where the struct is.
+/// The name and the type of the first field, or `None` where there is none; the type is valid where the struct is.
 pub fn first_field(fields: &StructFields) -> Option<(&FieldName, &DType)>
-    ensures { Valid (struct_tree fields.now) → IfSome result (λ p. Valid (tree p.1.now)) }
+    ensures field { option_map borrowed_pair result ≡ slice_get (struct_pairs fields.now) 0 }
+    ensures valid { Valid (struct_tree fields.now) → IfSome result (λ p. Valid (tree p.1.now)) }
 {
     fields.pairs().next()
 }
@@ -76,62 +83,71 @@ pub fn tag_has_index(variants: &UnionVariants, place: usize) -> bool
     variants.tag_to_child_index(tag).is_some()
 }
 
-/// The storage of an extension type, valid where that type is.
+/// The storage of an extension type, or `None` of another type; valid where that type is.
 pub fn storage_of(dtype: &DType) -> Option<&DType>
-    ensures { Valid (tree dtype.now) → IfSome result (λ d. Valid (tree d.now)) }
+    ensures storage { shown tree result ≡ option_map (λ e. e.2) (extension_parts (tree dtype.now)) }
+    ensures valid { Valid (tree dtype.now) → IfSome result (λ d. Valid (tree d.now)) }
 {
     Some(dtype.as_extension_opt()?.storage_dtype())
 }
 
-/// The element type of a list, valid where the list's type is.
+/// The element type of a list or a fixed-size list, or `None` of another type; valid where that type is.
 pub fn element_of(dtype: &DType) -> Option<&DType>
-    ensures { Valid (tree dtype.now) → IfSome result (λ d. Valid (tree d.now)) }
+    ensures element { shown tree result ≡ any_size_list_element (tree dtype.now) }
+    ensures valid { Valid (tree dtype.now) → IfSome result (λ d. Valid (tree d.now)) }
 {
     dtype.as_any_size_list_element_opt()
 }
 
-/// The element type of a list, moved out of the list.
+/// The element type of a list, moved out of the list, or `None` of another type; valid where that type is.
 #[tactic(auto, using(vortex_dtype::proofs::rulesets::valid_moved))]
 pub fn into_element(dtype: DType) -> Option<Box<DType>>
-    ensures { Valid (tree dtype) → IfSome result (λ b. Valid (tree b.value)) }
+    ensures element { option_map (λ b. tree b.value) result ≡ list_element (tree dtype) }
+    ensures valid { Valid (tree dtype) → IfSome result (λ b. Valid (tree b.value)) }
 {
     dtype.into_list_element_opt()
 }
 
-/// The type of a map's keys, valid where the map's is.
+/// The type of a map's keys, or `None` of another type; valid where the map's is.
 pub fn keys_of(dtype: &DType) -> Option<&DType>
-    ensures { Valid (tree dtype.now) → IfSome result (λ d. Valid (tree d.now)) }
+    ensures keys { shown tree result ≡ option_map (λ m. m.0) (map_parts (tree dtype.now)) }
+    ensures valid { Valid (tree dtype.now) → IfSome result (λ d. Valid (tree d.now)) }
 {
     Some(dtype.as_map_opt()?.key_dtype())
 }
 
-/// The map, moved out of its type.
+/// The map, moved out of its type, or `None` of another type; valid where the type is.
 #[tactic(auto, using(vortex_dtype::proofs::rulesets::valid_moved))]
 pub fn into_map(dtype: DType) -> Option<MapDType>
-    ensures { Valid (tree dtype) → IfSome result (λ m. Valid (map_tree m)) }
+    ensures map { option_map map_shown result ≡ map_parts (tree dtype) }
+    ensures valid { Valid (tree dtype) → IfSome result (λ m. Valid (map_tree m)) }
 {
     dtype.into_map_opt()
 }
 
-/// The type of a union's variant, valid where the union's is.
+/// The type of a union's first variant of the name, or `None` where there is none; valid where the union's is.
 pub fn variant_of<'a>(dtype: &'a DType, name: &str) -> Option<&'a DType>
-    ensures { Valid (tree dtype.now) → IfSome result (λ d. Valid (tree d.now)) }
+    ensures variant { shown tree result
+        ≡ option_and_then (λ vs. variant_named vs name.now) (union_variants (tree dtype.now)) }
+    ensures valid { Valid (tree dtype.now) → IfSome result (λ d. Valid (tree d.now)) }
 {
     dtype.as_union_variants_opt()?.variant(name)
 }
 
-/// The columns of a table's type, moved out of it.
+/// The columns of a table's type, moved out of it, or `None` of another type; valid where the type is.
 #[tactic(auto, using(vortex_dtype::proofs::rulesets::valid_moved))]
 pub fn into_columns(table: DType) -> Option<StructFields>
-    ensures { Valid (tree table) → IfSome result (λ s. Valid (struct_tree s)) }
+    ensures columns { option_map children result ≡ struct_fields (tree table) }
+    ensures valid { Valid (tree table) → IfSome result (λ s. Valid (struct_tree s)) }
 {
     table.into_struct_fields_opt()
 }
 
-/// The columns of what is known to be a table.
+/// The columns of what is known to be a table, valid where the table is.
 pub fn columns_of(table: &DType) -> &StructFields
     requires { kind (tree table.now) ≡ Kind.Struct }
-    ensures { Valid (tree table.now) → Valid (struct_tree result.now) }
+    ensures columns { struct_fields (tree table.now) ≡ Some (children result.now) }
+    ensures valid { Valid (tree table.now) → Valid (struct_tree result.now) }
 {
     table.as_struct_fields()
 }
@@ -184,10 +200,11 @@ pub fn projected(
     columns.project(alloc, names)
 }
 
-/// The type that a path leads to, valid where the type that it leads through is.
+/// The type that a path leads to, or `None` where it leads nowhere; valid where the type that it leads through is.
 #[tactic(auto, using(vortex_dtype::proofs::rulesets::stepping))]
 pub fn type_along_path<'a>(path: &FieldPath, dtype: &'a DType) -> Option<&'a DType>
-    ensures { Valid (tree dtype.now) → IfSome result (λ d. Valid (tree d.now)) }
+    ensures dtype { shown tree result ≡ along (tree dtype.now) path.now }
+    ensures valid { Valid (tree dtype.now) → IfSome result (λ d. Valid (tree d.now)) }
 {
     path.resolve(dtype)
 }

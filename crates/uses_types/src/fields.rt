@@ -169,10 +169,13 @@ pub fn dropped(
     }
 }
 
-/// The table without a column: no column has its name, if none had it twice, and the others keep their types.
-#[tactic(auto, using(vortex_dtype::proofs::rulesets::lookups, vortex_dtype::proofs::rulesets::distinct_fields))]
+/// The table without a column: its name isn't among the names any more and leads nowhere, if no column had it twice, and the
+/// others keep their types.
+#[tactic(auto, using(vortex_dtype::proofs::rulesets::lookups, vortex_dtype::proofs::rulesets::distinct_fields, vortex_dtype::proofs::rulesets::among))]
 pub fn without(alloc: Global, table: &StructFields, name: &str) -> VortexResult<StructFields>
     ensures gone { Distinct (field_names (children table.now))
+        → IfOk result (λ s. ¬ (Contains (field_names (children s)) name.now)) }
+    ensures nowhere { Distinct (field_names (children table.now))
         → IfOk result (λ s. first_named (children s) name.now ≡ None) }
     ensures others { IfOk result (λ s. (n : List ℕ) → n ≢ name.now
         → first_named (children s) n ≡ first_named (children table.now) n) }

@@ -7,7 +7,6 @@
 ghost use Rattle.std.specs.Prelude.{◌≡◌, ◌↔◌, [], ℕ, List, Contains, IfNone, IfOk, IsNone, IsSome, IsTrue};
 ghost use Rattle.dtype_types.specs.parts.Lookups.{field_names, first_named, variant_names};
 ghost use Rattle.dtype_types.specs.tree.TreeOf.{children, shown, tree, variant_list};
-ghost use Rattle.vortex_dtype.specs.Distinct.{Distinct};
 
 use std::alloc::Global;
 use vortex_dtype::{DType, FieldName, StructFields, UnionVariants, VortexResult};
@@ -45,18 +44,6 @@ pub fn has_variant(union: &UnionVariants, name: &str) -> bool
     ensures { IsTrue result ↔ Contains (variant_names (variant_list union.now)) name.now }
 {
     union.variant(name).is_some()
-}
-
-/// The table without a column: its name isn't among the names any more, if no name was there twice.
-#[tactic(auto, using(vortex_dtype::proofs::rulesets::among))]
-pub fn dropped(alloc: Global, table: &StructFields, name: &str) -> VortexResult<StructFields>
-    ensures { Distinct (field_names (children table.now))
-        → IfOk result (λ s. ¬ (Contains (field_names (children s)) name.now)) }
-{
-    match table.find(name) {
-        Some(index) => Ok(table.without_field(alloc, index)?),
-        None => Ok(table.try_clone(alloc)?),
-    }
 }
 
 /// The columns of a join, of which those of the left side keep their types.

@@ -4,12 +4,10 @@
 //! A program that makes calls of the library on values that are written as text: each line of standard input is a
 //! command and its arguments, and is answered by a line.
 //!
-//! Begin with `console.rt`, which answers a line. The tables of the commands are in `console_core`, and what answers
-//! them in the libraries `console_types`, `console_native`, `console_paths` and `console_sessions`. `docs/CONSOLE.md`
-//! has the commands and their answers.
+//! Begin with `transcript.rt`, which writes the answer to a line. The answers are those of the library
+//! `console_answers`. `docs/CONSOLE.md` has the commands and their answers.
 #![tactic(auto)]
 
-use console::{Console, Outcome};
 use input::{Read, read_line};
 use options::{Asked, Options, USAGE, VERSION};
 use std::env;
@@ -17,11 +15,11 @@ use std::fs::{File, Files};
 use std::io::{self, BufReader, BufWriter, IsTerminal, Write};
 use std::process::ExitCode;
 use std::rt::Env;
+use transcript::{Outcome, Transcript};
 
-mod console;
-mod help;
 mod input;
 mod options;
+mod transcript;
 
 fn main(rt: HostRuntime) -> io::Result<ExitCode> {
     let options = read_options(&rt)?;
@@ -68,7 +66,7 @@ where
     R: AllocGlobal + Eprint + Files + Input + Print,
 {
     let mut output = BufWriter::with_capacity(rt.alloc(), 65_536, io::writer(rt))?;
-    let mut console = Console::new(rt.alloc(), options.is_echoing);
+    let mut transcript = Transcript::new(rt.alloc(), options.is_echoing);
     let mut run = Run {
         is_marking: options.is_marking,
         is_strict: options.is_strict,
@@ -80,13 +78,13 @@ where
         writeln!(output, "{VERSION}; help lists the commands, exit ends")?;
     }
     for command in &options.commands {
-        run.answer_lines(rt, &mut console, command.as_bytes(), &mut output)?;
+        run.answer_lines(rt, &mut transcript, command.as_bytes(), &mut output)?;
     }
     for file in &options.files {
-        answer_file(rt, file.as_str(), &mut run, &mut console, &mut output)?;
+        answer_file(rt, file.as_str(), &mut run, &mut transcript, &mut output)?;
     }
     if options.reads_input() {
-        run.answer_lines(rt, &mut console, rt.reader(), &mut output)?;
+        run.answer_lines(rt, &mut transcript, rt.reader(), &mut output)?;
     }
     output.flush()?;
     Ok(ExitCode::from(run.status))
@@ -97,7 +95,7 @@ fn answer_file<R, W>(
     rt: &R,
     file: &str,
     run: &mut Run,
-    console: &mut Console,
+    transcript: &mut Transcript,
     output: &mut W,
 ) -> io::Result<()>
 where
@@ -105,13 +103,13 @@ where
     W: Write,
 {
     if file == "-" {
-        return run.answer_lines(rt, console, rt.reader(), output);
+        return run.answer_lines(rt, transcript, rt.reader(), output);
     }
     if run.is_ended {
         return Ok(());
     }
     match File::open(rt, file) {
-        Ok(input) => run.answer_lines(rt, console, input, output),
+        Ok(input) => run.answer_lines(rt, transcript, input, output),
         Err(error) => {
             let _ = eprintln!(rt; "console: {file}: {error}");
             run.status = 2;
@@ -136,7 +134,7 @@ impl Run {
     fn answer_lines<P, R, W>(
         &mut self,
         rt: &P,
-        console: &mut Console,
+        transcript: &mut Transcript,
         input: R,
         output: &mut W,
     ) -> io::Result<()>
@@ -157,7 +155,7 @@ impl Run {
             line.clear();
             let read = read_line(&mut input, output, &mut line)?;
             self.mark(rt, "begin");
-            let outcome = console.answer(read, &line, output);
+            let outcome = transcript.answer(read, &line, output);
             self.mark(rt, "end");
             self.take(outcome?);
             if matches!(read, Read::End) {

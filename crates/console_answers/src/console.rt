@@ -3,7 +3,6 @@
 
 // The answer to a line.
 use crate::help::{list_topics, show_errors, show_row, show_topic};
-use crate::input::Read;
 use console_core::{
     Call, Command, ConsoleError, ConsoleResult, Row, expected_at, find, find_topic, unknown_command,
 };
@@ -13,86 +12,45 @@ use console_sessions::{Sessions, messages, path_messages, typed};
 use console_types::{
     comparisons, decimals, extensions, maps, names, parts, primitives, structs, types, unions,
 };
-use dtype_base::VortexError;
 use std::alloc::Global;
-use std::io::{self, Write};
 use std::str;
 
 /// What lasts from line to line.
 #[derive(Drop)]
 pub struct Console {
     alloc: Global,
-    is_echoing: bool,
     sets: Sets,
     sessions: Sessions,
 }
 
-/// What a line came to.
-#[derive(Clone, Copy, PartialEq, Eq)]
-pub enum Outcome {
-    /// It was answered.
-    Answered,
-    /// It can't be read, or names a set or a session that isn't there.
-    Unread,
-    /// It ends the console.
-    Ended,
-    /// There was no line.
-    NoLine,
+/// What answers a line that can be read.
+#[derive(Drop)]
+pub enum Answer {
+    /// This text, which may have several lines.
+    Text(String),
+    /// Nothing: the line is blank or a comment.
+    None,
+    /// The console ends.
+    End,
 }
 
 impl Console {
-    /// Returns a console with no set and no session. If it echoes, it writes each line above its answer.
-    pub fn new(alloc: Global, is_echoing: bool) -> Self {
+    /// Returns a console with no set and no session.
+    pub fn new(alloc: Global) -> Self {
         Console {
             alloc,
-            is_echoing,
             sets: Sets::new(alloc),
             sessions: Sessions::new(alloc),
         }
     }
 
-    /// Writes the answer to what was read of a line, and returns what it came to.
-    pub fn answer<W: Write>(
-        &mut self,
-        read: Read,
-        line: &[u8],
-        output: &mut W,
-    ) -> io::Result<Outcome> {
-        let line = line.strip_suffix(b"\r".as_slice()).unwrap_or(line);
-        let answer = match read {
-            Read::Line => self.answer_to(line),
-            Read::TooLong => Err(ConsoleError::from(VortexError::OutOfMemory)),
-            Read::End => return Ok(Outcome::NoLine),
-        };
-        if let Ok(Answer::End) = answer {
-            return Ok(Outcome::Ended);
-        }
-        if self.is_echoing {
-            echo(line, matches!(answer, Ok(Answer::None)), output)?;
-        }
-        self.write(answer, output)
-    }
-
-    // Writes an answer, and returns what it says of its line.
-    fn write<W: Write>(
-        &self,
-        answer: ConsoleResult<Answer>,
-        output: &mut W,
-    ) -> io::Result<Outcome> {
-        match answer {
-            Ok(Answer::Text(answer)) => writeln!(output, "{answer}")?,
-            Ok(_) if self.is_echoing => {}
-            Ok(_) => output.write_all(b"\n")?,
-            Err(error) => {
-                writeln!(output, "{error}")?;
-                return Ok(outcome_of(&error));
-            }
-        }
-        Ok(Outcome::Answered)
-    }
-
-    // Returns the answer to a line.
-    fn answer_to(&mut self, line: &[u8]) -> ConsoleResult<Answer> {
+    /// Returns the answer to a line, which is given without its newline.
+    ///
+    /// # Errors
+    ///
+    /// [`ConsoleError`]: the line can't be read, it names a set or a session that isn't there, the call that it names
+    /// can't be made of these arguments, or the library returned an error. Its text is the console's answer.
+    pub fn answer(&mut self, line: &[u8]) -> ConsoleResult<Answer> {
         let text = match str::from_utf8(line) {
             Ok(text) => text,
             Err(error) => return Err(expected_at(error.valid_up_to().saturating_add(1), "UTF-8")),
@@ -200,16 +158,6 @@ impl Console {
     }
 }
 
-// The answer to a line.
-#[derive(Drop)]
-enum Answer {
-    Text(String),
-    // The line is blank or a comment.
-    None,
-    // The line ends the console.
-    End,
-}
-
 // Reads the word of a command, and returns its row.
 fn read_command(call: &mut Call<'_>) -> ConsoleResult<&'static Row> {
     let position = call.line.position();
@@ -218,23 +166,4 @@ fn read_command(call: &mut Call<'_>) -> ConsoleResult<&'static Row> {
         Some(row) => Ok(row),
         None => Err(unknown_command(call.alloc, position, word)),
     }
-}
-
-// Returns what a line came to that is answered by this error.
-fn outcome_of(error: &ConsoleError) -> Outcome {
-    match error {
-        ConsoleError::Library { .. } | ConsoleError::Condition(_) => Outcome::Answered,
-        ConsoleError::Unreadable { .. }
-        | ConsoleError::UnknownWord { .. }
-        | ConsoleError::UnknownName(_) => Outcome::Unread,
-    }
-}
-
-// Writes a line before its answer: after `> `, or as it is where it has no answer.
-fn echo<W: Write>(line: &[u8], is_comment: bool, output: &mut W) -> io::Result<()> {
-    if !is_comment {
-        output.write_all(b"> ")?;
-    }
-    output.write_all(line)?;
-    output.write_all(b"\n")
 }

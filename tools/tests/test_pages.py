@@ -17,7 +17,6 @@ CHANGES = [
     ("README.md", "", "```console\n> name a\nb\n```\n", "README.md:LINE: > name a: no golden test has this line and"),
     (CALLING, "", "```text\nfn FieldName::gone()\n```\n", "fn FieldName::gone(): no function has this signature"),
     (CALLING, "(into_iter_items r.0)", "(into_iter_items r.1)", "no such clause: ensures ok: Makes result (λ r. set_of"),
-    ("docs/TRUST.md", "", "word " * 900, " words, where it may have 900"),
     ("docs/TRUST.md", "", "\n[there](GONE.md)\n", "docs/TRUST.md: there is no GONE.md"),
     ("docs/TRUST.md", "", "\n[here](GUIDE.md#gone)\n", "docs/TRUST.md: docs/GUIDE.md has no heading #gone"),
     ("docs/GUIDE.md", "| 0 |", "| 1 |", "docs/GUIDE.md: lacks error 0, OutOfMemory"),

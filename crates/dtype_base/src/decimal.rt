@@ -10,16 +10,20 @@ use crate::{PType, VortexError, VortexResult};
 use std::fmt;
 use std::marker::Model;
 
-/// The greatest precision of a decimal type: every number of 76 digits fits a signed 256-bit integer.
+/// The greatest precision of a decimal type, 76: every number of 76 decimal digits fits a signed 256-bit integer.
 pub const MAX_PRECISION: u8 = 76;
-/// The greatest scale of a decimal type.
+/// The greatest scale of a decimal type, 76: a scale is at most the precision.
 pub const MAX_SCALE: i8 = MAX_PRECISION as i8;
 
 const _: () = prove!(MAX_PRECISION == 76 && MAX_SCALE == 76);
 
-/// A decimal type. Its precision, 1 to 76, is the number of digits of its values. Its scale, -128 to 76 and at most the
-/// precision, is the number of those digits after the decimal point. A negative scale is the number of zeros that follow
-/// the digits, before the point.
+/// A decimal type, for example `decimal(10,2)`: numbers of at most 10 decimal digits, 2 of them after the decimal
+/// point, such as 12345678.90.
+///
+/// The precision, from 1 to 76, is the greatest number of decimal digits of a value. The scale, from -128 to 76 and at
+/// most the precision, is how many of those digits are after the decimal point. A negative scale -k means that each
+/// value is a multiple of 10^k: its digits are followed by k zeros before the point. The values of `decimal(3,-2)` are
+/// the multiples of 100 up to 99900.
 #[derive(Clone, Copy, Debug, PartialEq, Eq, Hash)]
 pub struct DecimalDType {
     precision: u8,
@@ -39,11 +43,11 @@ impl Model for DecimalDType {
 }
 
 impl DecimalDType {
-    /// Makes the decimal type of this precision and scale. Every negative scale is accepted.
+    /// Returns the decimal type of this precision and scale. Every negative scale, down to -128, is accepted.
     ///
     /// # Errors
     ///
-    /// In this order:
+    /// The first that applies:
     /// - `PrecisionZero` (1): the precision is 0.
     /// - `PrecisionTooLarge` (2): the precision is above 76.
     /// - `ScaleTooLarge` (3): the scale is above 76.
@@ -58,7 +62,8 @@ impl DecimalDType {
         Ok(DecimalDType { precision, scale })
     }
 
-    /// Makes the decimal type of this precision and scale, which have to be valid: `try_new` tests them.
+    /// Returns the decimal type of this precision and scale. The caller must prove that they are valid: the precision
+    /// is from 1 to 76, and the scale is at most the precision. `try_new` tests this.
     pub fn new(precision: u8, scale: i8) -> Self
         requires { IsDecimalWithin greatest_precision precision scale }
         ensures { result ≡ record { precision = precision; scale = scale } }
@@ -66,7 +71,7 @@ impl DecimalDType {
         Self { precision, scale }
     }
 
-    /// Returns the number of digits of a value, 1 to 76.
+    /// Returns the greatest number of decimal digits of a value, from 1 to 76.
     pub fn precision(&self) -> u8
         ensures value { result ≡ self.now.precision }
         ensures valid { IsValidDecimal self.now }
@@ -74,7 +79,7 @@ impl DecimalDType {
         self.precision
     }
 
-    /// Returns the number of digits after the decimal point, -128 to 76, at most the precision.
+    /// Returns the number of digits after the decimal point, from -128 to 76 and at most the precision.
     pub fn scale(&self) -> i8
         ensures value { result ≡ self.now.scale }
         ensures valid { IsValidDecimal self.now }
@@ -82,7 +87,8 @@ impl DecimalDType {
         self.scale
     }
 
-    /// Returns the least number of bits that hold every unsigned number of as many digits as the precision: 4 to 253.
+    /// Returns the least number of bits in which every unsigned number of as many decimal digits as the precision fits:
+    /// from 4 for one digit (numbers up to 9) to 253 for 76 digits. The sign isn't counted.
     pub fn required_bit_width(&self) -> usize
         ensures { IsBitWidth self.now.precision result }
     {
@@ -98,7 +104,7 @@ const BIT_WIDTHS: [u8; MAX_PRECISION as usize] = [
     213, 216, 220, 223, 226, 230, 233, 236, 240, 243, 246, 250, 253,
 ];
 
-/// Prints the precision and the scale, as `decimal(10,2)`.
+/// Prints the precision and the scale, for example `decimal(10,2)`.
 impl fmt::Display for DecimalDType {
     ghost use Rattle.dtype_base.specs.Decimals.{decimal_text};
 
@@ -109,11 +115,12 @@ impl fmt::Display for DecimalDType {
     }
 }
 
-/// Tests the precision and the scale of a decimal type whose greatest precision and scale are `max`, at most 127.
+/// Returns `Ok` if a decimal type whose greatest precision and greatest scale are both `max` may have this precision
+/// and scale. The caller must prove that `max` is at most 127, the greatest scale that an `i8` holds.
 ///
 /// # Errors
 ///
-/// In this order:
+/// The first that applies:
 /// - `PrecisionZero` (1): the precision is 0.
 /// - `PrecisionTooLarge` (2): the precision is above `max`.
 /// - `ScaleTooLarge` (3): the scale is above `max`.
@@ -142,8 +149,11 @@ pub fn check_precision_and_scale(precision: u8, scale: i8, max: u8) -> VortexRes
     Ok(())
 }
 
-/// A storage type for the values of a decimal type: a signed integer. Its number, 0 to 5, is that of the messages of
-/// Vortex, and the order, narrowest first, is that of the numbers.
+/// A storage type of decimal values: a signed integer that stores the digits of a value without its decimal point. For
+/// example, 12.34 of the type `decimal(4,2)` is stored as 1234, for which `I16` is wide enough.
+///
+/// Its number, from 0 for `I8` to 5 for `I256`, is the one that Vortex messages use. Storage types are ordered by it,
+/// narrowest first.
 #[derive(Clone, Copy, Debug, PartialEq, Eq, Hash, PartialOrd, Ord)]
 pub enum DecimalType {
     /// An 8-bit signed integer.
@@ -161,8 +171,9 @@ pub enum DecimalType {
 }
 
 impl DecimalType {
-    /// Returns the narrowest storage type that has all values of the decimal type's precision. They have all values of up
-    /// to 2, 4, 9, 18, 38 and 76 digits.
+    /// Returns the narrowest storage type in which all values of the decimal type's precision fit. All values of up to
+    /// 2 digits fit `I8`, of up to 4 digits `I16`, of up to 9 digits `I32`, of up to 18 digits `I64`, of up to 38
+    /// digits `I128`, and of up to 76 digits `I256`.
     pub fn smallest_decimal_value_type(decimal: &DecimalDType) -> DecimalType
         ensures { smallest_storage decimal.now.precision ≡ Some result }
     {
@@ -190,8 +201,9 @@ impl DecimalType {
         }
     }
 
-    /// Returns whether this storage type has all values of the decimal type's precision. So it is the smallest that has
-    /// them, or one with a greater number.
+    /// Returns whether all values of the decimal type's precision fit this storage type. They do exactly if it is the
+    /// smallest that `smallest_decimal_value_type` returns, or a wider one. For example, `I32` is compatible with
+    /// `decimal(4,2)` and `I8` isn't.
     pub fn is_compatible_decimal_value_type(self, decimal: DecimalDType) -> bool
         ensures digits { IsTrue result ↔ (decimal.precision ≤ (storage self).digits) }
         ensures number { IsTrue result ↔ IsCompatible self decimal.precision }
@@ -200,7 +212,7 @@ impl DecimalType {
     }
 }
 
-/// Prints the name in lower case, as `i128`.
+/// Prints the storage type in lower case, for example `i128`.
 impl fmt::Display for DecimalType {
     ghost output = { λ t. Some (storage t).text };
 
@@ -216,7 +228,7 @@ impl fmt::Display for DecimalType {
     }
 }
 
-/// The storage type of the same name.
+/// Returns the storage type with the same width as a signed integer type. For example, `i32` converts to `I32`.
 ///
 /// # Errors
 ///

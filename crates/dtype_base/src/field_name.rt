@@ -15,7 +15,8 @@ use std::hash::{Hash, Hasher};
 use std::marker::Model;
 use std::rc::RcStr;
 
-/// The name of a field: a text, which copies share. Its model is the text's bytes, and names are ordered by them.
+/// The name of a field: a text, which copies of the name share. In contracts a name is the list of the bytes of its
+/// text, and names are ordered by these bytes.
 #[derive(Debug, Drop)]
 pub struct FieldName {
     inner: RcStr,
@@ -28,7 +29,7 @@ impl Model for FieldName {
 }
 
 impl FieldName {
-    /// Makes a name of a copy of the text.
+    /// Returns the name with a copy of this text.
     ///
     /// # Errors
     ///
@@ -41,21 +42,21 @@ impl FieldName {
         })
     }
 
-    /// Makes a name of a shared text, which it keeps. Doesn't allocate.
+    /// Returns the name with this shared text, which it takes over. Doesn't allocate.
     pub fn from_inner(text: RcStr) -> Self
         ensures { result ≡ rc_str_bytes text }
     {
         FieldName { inner: text }
     }
 
-    /// Returns the shared text.
+    /// Returns a reference to the shared text.
     pub fn inner(&self) -> &RcStr
         ensures { rc_str_bytes result.now ≡ self.now }
     {
         &self.inner
     }
 
-    /// Returns the shared text, and consumes the name.
+    /// Consumes the name and returns its shared text.
     pub fn into_inner(self) -> RcStr
         ensures { rc_str_bytes result ≡ self }
     {
@@ -69,7 +70,7 @@ impl FieldName {
         self.inner.as_str()
     }
 
-    /// Returns a copy of the text, not escaped.
+    /// Returns a new string with the text as it is: without the escapes that `Display` writes.
     ///
     /// # Errors
     ///
@@ -87,11 +88,14 @@ impl FieldName {
         self.as_str() == text
     }
 
-    /// Returns a copy of the name, which shares its text. Doesn't allocate.
+    /// Returns a copy of the name, which shares the text.
+    ///
+    /// It raises a reference count and doesn't allocate, so `_alloc` isn't used. The signature takes it so that it
+    /// needn't change if a copy comes to allocate.
     ///
     /// # Errors
     ///
-    /// - `OutOfMemory` (0): the reference count is exhausted.
+    /// - `OutOfMemory` (0): the reference count of the text is at its maximum, so no further copy can be counted.
     pub fn try_clone(&self, _alloc: Global) -> VortexResult<Self>
         ensures { Makes result (λ n. n ≡ self.now) }
     {
@@ -120,7 +124,7 @@ impl Eq for FieldName {
     ghost laws = { nat_list_eq_equiv };
 }
 
-/// Names are ordered by the bytes of their texts.
+/// Compares two names by the bytes of their texts, from the first byte on.
 impl PartialOrd for FieldName {
     ghost use Rattle.std.specs.Ordering.{nat_cmp};
     ghost use Rattle.std.specs.Cmp.Lexicographic.{slice_cmp, texts_po};
@@ -166,9 +170,10 @@ impl Hash for FieldName {
     }
 }
 
-/// Prints the text with backslashes, double quotes and ASCII control characters escaped. Other characters are printed as
-/// they are, also those that a terminal or an editor takes for control characters or line ends, as U+0085, U+009B and
-/// U+2028: who shows names of unknown origin escapes these too.
+/// Prints the text, with a backslash before each backslash and each double quote, and with ASCII control characters
+/// escaped. Other characters are printed as they are. That includes characters that some terminals and editors treat as
+/// control characters or as line ends, such as U+0085, U+009B and U+2028. A program that shows names of unknown origin
+/// must escape these itself.
 impl fmt::Display for FieldName {
     ghost output = { λ n. Some (escaped n) };
 

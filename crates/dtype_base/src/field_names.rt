@@ -15,7 +15,7 @@ use std::hash::{Hash, Hasher};
 use std::marker::Model;
 use std::ops::Index;
 
-/// A list of names, in which names may repeat. Its model is the list of the names' bytes.
+/// A list of names, in which a name may occur more than once. In contracts it is the list of the names' bytes.
 #[derive(Debug, Drop)]
 pub struct FieldNames {
     items: Vec<FieldName>,
@@ -37,14 +37,14 @@ impl FieldNames {
         }
     }
 
-    /// Makes the list of these names. Doesn't allocate.
+    /// Returns the list of these names, in order. Doesn't allocate.
     pub fn from_vec(names: Vec<FieldName>) -> Self
         ensures { result ≡ names.items }
     {
         FieldNames { items: names }
     }
 
-    /// Makes the list of names with these texts, in order.
+    /// Returns the list of names with these texts, in order.
     ///
     /// # Errors
     ///
@@ -59,7 +59,7 @@ impl FieldNames {
         Ok(FieldNames { items })
     }
 
-    /// Makes the list of the names that an iterator yields, in order.
+    /// Returns the list of the names that an iterator yields, in order. The caller must prove that the iterator ends.
     ///
     /// # Errors
     ///
@@ -92,7 +92,7 @@ impl FieldNames {
         self.items.is_empty()
     }
 
-    /// Returns the name at this position, or `None` at or past the end.
+    /// Returns the name at this position, or `None` if the position isn't below the number of names.
     pub fn get(&self, index: usize) -> Option<&FieldName>
         ensures { option_copied result ≡ slice_get self.now index }
     {
@@ -106,14 +106,14 @@ impl FieldNames {
         FieldNamesIter::new(self.items.as_slice())
     }
 
-    /// Returns an iterator over the names, in order, and consumes the list.
+    /// Consumes the list and returns an iterator over the names, in order.
     pub fn into_iter(self) -> FieldNamesIntoIter
         ensures { result ≡ self }
     {
         FieldNamesIntoIter::new(self.items)
     }
 
-    /// Returns whether the names are these texts, in this order.
+    /// Returns whether the list has exactly these texts as its names, in this order.
     pub fn eq_texts(&self, texts: &[&str]) -> bool
         ensures { IsTrue result ↔ (self.now ≡ map (λ t. t.now) texts.now) }
     {
@@ -129,7 +129,8 @@ impl FieldNames {
         true
     }
 
-    /// Returns the first position of the name, or `None` where no name is equal to it. Compares one name after another.
+    /// Returns the first position of the name, or `None` if the name isn't in the list. It compares one name after
+    /// another; `IndexedNames` finds a name with fewer comparisons.
     pub fn find(&self, name: &str) -> Option<usize>
         ensures { result ≡ first_place self.now name.now }
     {
@@ -143,7 +144,7 @@ impl FieldNames {
         self.items.as_slice()
     }
 
-    /// Returns a copy of the list. The names share their texts.
+    /// Returns a copy of the list. The copied names share their texts with the originals.
     ///
     /// # Errors
     ///
@@ -199,7 +200,7 @@ impl Hash for FieldNames {
     }
 }
 
-/// The name at a position below the length.
+/// Returns the name at a position. The caller must prove that the position is below the number of names.
 impl Index<usize> for FieldNames {
     type Output = FieldName;
 
@@ -236,7 +237,7 @@ impl<'a> IntoIterator for &'a FieldNames {
     }
 }
 
-/// `collect` makes the list of the names that an iterator yields, in order.
+/// Collects the names that an iterator yields into a list, in order.
 impl FromIterator<FieldName> for FieldNames {
     type Alloc = Global;
 
@@ -250,7 +251,7 @@ impl FromIterator<FieldName> for FieldNames {
     }
 }
 
-/// Prints the names in brackets, each escaped and in double quotes, as `["a", "b"]`.
+/// Prints the names in brackets, each escaped and in double quotes, for example `["a", "b"]`.
 impl fmt::Display for FieldNames {
     ghost use Rattle.dtype_base.specs.FieldNames.{names_text};
 

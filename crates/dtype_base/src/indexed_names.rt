@@ -17,7 +17,8 @@ use crate::{FieldName, FieldNames, VortexError, VortexResult};
 use std::alloc::Global;
 use std::marker::Model;
 
-/// A list of names with an index, so that a lookup compares few names. Its model is the list.
+/// A list of names with an index, so that a lookup compares only a few of them. In contracts it is the list of names,
+/// in which a name may occur more than once.
 #[derive(Debug, Drop)]
 pub struct IndexedNames {
     index: NameIndex,
@@ -37,7 +38,7 @@ impl Model for IndexedNames {
 }
 
 impl IndexedNames {
-    /// Makes the index of these names, which it keeps. Names may repeat.
+    /// Returns these names with an index of them. A name may occur more than once.
     ///
     /// # Errors
     ///
@@ -56,9 +57,14 @@ impl IndexedNames {
         &self.names
     }
 
-    /// Returns the first position of the name, or `None` where no name is equal to it, and how many names were
-    /// compared. That number is the same for every name. It depends on how many names are in the longest bucket: it is
-    /// 0 among none, else one more than the binary digits of their number less one. Doesn't allocate.
+    /// Returns the first position of the name, or `None` if it isn't in the list, and the number of names that were
+    /// compared.
+    ///
+    /// That number is the same for every name, whether it is in the list or not. It is 0 if the list is empty.
+    /// Otherwise the index has as many buckets as names, each name in the bucket of its hash, and the number is that of
+    /// a binary search among as many names as the longest bucket has: 1 comparison if that is one name, 2 for two
+    /// names, 3 for three or four names, 4 for five to eight names. So it is at most 1 plus the number of binary digits
+    /// of the length of the list, even if all names are in one bucket. Doesn't allocate.
     #[tactic(auto, using(crate::proofs::lemmas::Lookups::most_compared, crate::proofs::lemmas::Lookups::found_compared))]
     pub fn find_counted(&self, name: &str) -> (Option<usize>, u64)
         ensures first { result.0 ≡ first_place self.now name.now }
@@ -69,12 +75,15 @@ impl IndexedNames {
         search(self.names.as_slice(), &self.index, name)
     }
 
-    /// Returns the selected names in the order asked, with their index, and for each the position of the first equal
-    /// name in this list. Names may be asked more than once. The names share their texts.
+    /// Returns the names asked for, in that order and with an index of their own, and for each of them its first
+    /// position in this list. A name may be asked for more than once. For example, selecting `b`, `a`, `b` from `a`,
+    /// `b` returns the names `b`, `a`, `b` and the positions 1, 0, 1. The returned names share their texts with the
+    /// originals.
     ///
     /// # Errors
     ///
-    /// - `FieldNotFound` (16): a name asked isn't in this list; with the position of the first such among those asked.
+    /// - `FieldNotFound` (16): a name asked for isn't in this list. The error contains the position, in `asked`, of the
+    ///   first such name.
     /// - `OutOfMemory` (0): an allocation fails.
     pub fn select(&self, alloc: Global, asked: &[FieldName]) -> VortexResult<(Self, Vec<usize>)>
         ensures { MatchResult result
@@ -87,7 +96,8 @@ impl IndexedNames {
         Ok((IndexedNames { names, index }, first_positions))
     }
 
-    /// Returns the same names with the same index: nothing is sorted. The names share their texts.
+    /// Returns a copy of the names and of their index, which isn't built again. The copied names share their texts with
+    /// the originals.
     ///
     /// # Errors
     ///
@@ -106,7 +116,7 @@ impl IndexedNames {
         Ok(IndexedNames { names, index })
     }
 
-    /// Returns whether no name repeats. Doesn't allocate.
+    /// Returns whether no name occurs more than once. Doesn't allocate.
     pub fn are_distinct(&self) -> bool
         ensures { IsTrue result ↔ Distinct self.now }
     {

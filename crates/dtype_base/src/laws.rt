@@ -23,19 +23,25 @@ use crate::{
     MessageFault, Nullability, PType, RESERVED_VALIDITY_FIELD_NAME, VortexError,
 };
 
-/// Primitive types are ordered by their numbers.
+/// For all primitive types `p` and `q`, `cmp` compares `p` and `q` as it compares their numbers. For example, `u8`
+/// (number 0) is less than `i8` (number 4), and `i64` (number 7) is less than `f16` (number 8). With this law a caller
+/// can sort primitive types and know the order that results.
 pub fn primitive_names_are_ordered_by_number()
     ensures { (p q : PType) → ⟦<PType as Ord>⟧.cmp p q
         ≡ nat_cmp (ptype_row p).number (ptype_row q).number }
 {}
 
-/// Storage types are ordered by their numbers.
+/// For all storage types `s` and `t`, `cmp` compares `s` and `t` as it compares their numbers, so a narrower storage
+/// type is less than a wider one. For example, `i64` (number 3) is less than `i128` (number 4).
 pub fn storage_types_are_ordered_by_number()
     ensures { (s t : DecimalType) → ⟦<DecimalType as Ord>⟧.cmp s t
         ≡ nat_cmp (storage s).number (storage t).number }
 {}
 
-/// `==` of a type without a text holds exactly of the same values.
+/// For all `a` and `b` of one of these types, `a == b` is true exactly if `a` and `b` are the same value: two
+/// nullabilities, two primitive types, two storage types, or two decimals. For example, two decimals are equal exactly
+/// if both their precisions and their scales are. With this law a caller can conclude from a test by `==` that two
+/// values are the same in contracts.
 pub fn equal_where_the_same()
     ensures nullabilities { (a b : Nullability)
         → Decides (⟦<Nullability as PartialEq>⟧.eq a b) (a ≡ b) }
@@ -47,7 +53,8 @@ pub fn equal_where_the_same()
         → Decides (⟦<DecimalDType as PartialEq>⟧.eq a b) (a ≡ b) }
 {}
 
-/// `clone` of a type without a text gives the same value.
+/// For all `a` and `b` of one of these types, if `b` is what `clone` returns for `a`, then `b` is the same value as
+/// `a`. For example, a clone of `decimal(10,2)` is `decimal(10,2)`.
 pub fn clones_are_the_same()
     ensures nullabilities { (a b : Nullability)
         → ⟦<Nullability as Clone>⟧.is_clone a b → b ≡ a }
@@ -59,28 +66,34 @@ pub fn clones_are_the_same()
         → ⟦<DecimalDType as Clone>⟧.is_clone a b → b ≡ a }
 {}
 
-/// `==` of names holds exactly where their bytes are the same, and of lists where the names are, in order.
+/// For all `a` and `b`, two names with the bytes `a` and `b` are equal by `==` exactly if `a` and `b` are the same
+/// bytes, and two lists of names are equal exactly if they contain the same names in the same order. For example,
+/// `["x", "y"]` isn't equal to `["y", "x"]`.
 pub fn names_are_equal_where_their_bytes_are()
     ensures names { (a b : List ℕ) → Decides (⟦<FieldName as PartialEq>⟧.eq a b) (a ≡ b) }
     ensures lists { (a b : List (List ℕ)) → Decides (⟦<FieldNames as PartialEq>⟧.eq a b) (a ≡ b) }
 {}
 
-/// `==` of errors holds exactly where their kinds and all that they hold are the same.
+/// For all errors `a` and `b`, `a == b` is true exactly if `a` and `b` are the same variant with the same values. The
+/// same is so of two message faults. For example, `FieldNotFound { position: 0 }` isn't equal to
+/// `FieldNotFound { position: 1 }`.
 pub fn errors_are_equal_where_the_same()
     ensures kinds { (a b : VortexError) → Decides (⟦<VortexError as PartialEq>⟧.eq a b) (a ≡ b) }
     ensures faults { (a b : MessageFault)
         → Decides (⟦<MessageFault as PartialEq>⟧.eq a b) (a ≡ b) }
 {}
 
-/// The model of a slice of bytes is a list of numbers below 256.
+/// In contracts a slice of `u8` is a list of numbers below 256. A caller names this law when a definition requires
+/// bytes, for example the metadata of a valid extension type.
 pub fn slices_hold_bytes(bytes: &[u8])
     ensures { Bytes bytes.now }
 {
     let _ = bytes;
 }
 
-/// Both iterators over names yield them in order: `next` returns the first of those that are left, and all of them before
-/// `None`, which comes after as many items as `len` says.
+/// Both iterators over names yield them in order: `next` returns the first of the names that are left, and `None` once
+/// all have been returned, which is after as many names as `len` announced. For example, an iterator over `["x", "y"]`
+/// returns `x`, then `y`, then `None`. A caller needs this to know which names a `for` loop visits.
 pub fn names_are_given_in_order()
     ensures lent { YieldsRefsInOrder ⟦<FieldNamesIter<'static> as Iterator>⟧.next_gives (λ left. left) }
     ensures borrowed_end { (left : List (List ℕ))
@@ -90,8 +103,10 @@ pub fn names_are_given_in_order()
         → UpTo (⟦<FieldNamesIntoIter as Iterator>⟧.remaining left) (length left) }
 {}
 
-/// `first_place`, which is what every lookup returns, is the first position of the name, and `None` exactly where the name
-/// is absent.
+/// For all lists `names`, names `name` and positions `i`, `first_place names name` is `Some i` exactly if `i` is the
+/// first position of `name` in `names`, and `None` exactly if `name` isn't in `names`. For example, the first position
+/// of `a` in `["b", "a", "a"]` is 1. Every lookup by name returns `first_place`, so this law says what each of them
+/// returns.
 pub fn lookups_give_the_first_position()
     ensures position { (names : List (List ℕ)) (name : List ℕ) (i : ℕ)
         → (first_place names name ≡ Some i) ↔ FirstAt names name i }
@@ -99,12 +114,13 @@ pub fn lookups_give_the_first_position()
         → (first_place names name ≡ None) ↔ IsAbsent names name }
 {}
 
-/// The default nullability is non-nullable.
+/// If `n` is what `Nullability::default` returns, then `n` is `NonNullable`.
 pub fn default_nullability_is_non_nullable()
     ensures { (n : Nullability) → ⟦<Nullability as Default>⟧.is_default n → n ≡ NonNullable }
 {}
 
-/// The reserved field name is its text.
+/// The constant `RESERVED_VALIDITY_FIELD_NAME` is the text `$__vortex_validity`. A caller that compares a name with the
+/// constant can so conclude which bytes the name has.
 pub fn reserved_field_name_is_its_text()
     ensures { RESERVED_VALIDITY_FIELD_NAME.now ≡ codes "$__vortex_validity" }
 {}

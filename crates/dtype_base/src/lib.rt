@@ -1,17 +1,27 @@
 // SPDX-License-Identifier: Apache-2.0
 // SPDX-FileCopyrightText: Copyright the Vortex contributors
 
-//! Errors, nullability, primitive types, decimals and field names: what all types of Vortex are made of.
+//! Errors, nullability, primitive types, decimals and field names: the parts of which every Vortex type is made.
 //!
-//! The contracts say that names are texts and name lists are lists, that the tables of primitive types and decimals
-//! hold, and when exactly each error is returned.
+//! The contracts specify four things. A name is a text, and a list of names is a list of texts. The properties of
+//! primitive types and of decimals are those of two tables. Each lookup of a name returns its first position. Each
+//! error is returned in exactly the cases that its call documents.
 //!
-//! Begin with `VortexError` (all errors of the workspace), then `Nullability`, `PType`, `DecimalDType`,
-//! `DecimalType`, `FieldName`, `FieldNames` and `IndexedNames`. The definitions that the contracts cite are in
-//! `specs/`: `Errors` (numbers), `Nullability`, `Primitives` and `Decimals` (the two tables), `Bytes`, `FieldNames`
-//! (`first_place`), `Distinct`, `Comparisons`, `NameHashes` and `BinaryDigits` (the price of a lookup) and `Escapes`
-//! (the text of a name); `specs/private/` has those of the index of names, which no other crate cites. `laws` states
-//! the theorems about them. What is proved, and what is only tested, is in `docs/PROMISES.md`.
+//! Begin with `VortexError` (all errors of the workspace), then read `Nullability`, `PType`, `DecimalDType`,
+//! `DecimalType`, `FieldName`, `FieldNames` and `IndexedNames`.
+//!
+//! The definitions that the contracts cite are in `specs/`:
+//! - `Errors`: the number of each error.
+//! - `Nullability`: the texts of a nullability, and how two are combined.
+//! - `Primitives` and `Decimals`: the two tables.
+//! - `Bytes`: which lists of numbers are bytes.
+//! - `FieldNames`: `first_place`, the first position of a name.
+//! - `Distinct`: whether a list has no repeated element.
+//! - `Comparisons`, `NameHashes` and `BinaryDigits`: how many names a lookup compares.
+//! - `Escapes`: how a name is printed.
+//!
+//! `specs/private/` contains the definitions about the index of names, which no other crate cites. `laws` states the
+//! theorems about these definitions. `docs/PROMISES.md` lists what is proved and what is only tested.
 #![tactic(auto)]
 
 mod decimal;
@@ -38,5 +48,6 @@ pub use nullability::Nullability;
 pub use ptype::PType;
 pub use vortex_error::{MessageFault, VortexError, VortexResult};
 
-/// The name that is reserved for the field that says which values of a struct are null.
+/// The field name that Vortex reserves for the field that says which values of a struct are null. This library doesn't
+/// treat it differently from other names.
 pub const RESERVED_VALIDITY_FIELD_NAME: &str = "$__vortex_validity";

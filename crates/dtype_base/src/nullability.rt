@@ -6,7 +6,7 @@ ghost use Rattle.std.specs.Prelude.{◌≡◌, ◌↔◌, IsTrue, Some, true, fa
 use std::fmt;
 use std::ops::{BitOr, BitOrAssign};
 
-/// Whether values of a type may be null.
+/// Whether a value of a type may be null.
 #[derive(Clone, Copy, Debug, Default, PartialEq, Eq, Hash)]
 pub enum Nullability {
     /// No value is null.
@@ -19,7 +19,7 @@ pub enum Nullability {
 impl Nullability {
     ghost use Rattle.dtype_base.specs.Nullability.{long_text};
 
-    /// Returns whether values may be null.
+    /// Returns whether this is `Nullable`.
     pub fn is_nullable(&self) -> bool
         ensures { IsTrue result ↔ (self.now ≡ Nullability.Nullable) }
     {
@@ -40,7 +40,7 @@ impl Nullability {
     }
 }
 
-/// `a | b` is non-nullable only where both are.
+/// Returns `NonNullable` if both are, and otherwise `Nullable`.
 impl BitOr for Nullability {
     ghost use Rattle.dtype_base.specs.Nullability.{either};
 
@@ -66,7 +66,7 @@ impl BitOrAssign for Nullability {
     }
 }
 
-/// `true` is nullable.
+/// Returns `Nullable` for `true` and `NonNullable` for `false`.
 impl From<bool> for Nullability {
     ghost use Rattle.dtype_base.specs.Nullability.{nullability_of};
 
@@ -81,7 +81,7 @@ impl From<bool> for Nullability {
     }
 }
 
-/// Nullable is `true`.
+/// Returns `true` for `Nullable` and `false` for `NonNullable`.
 impl From<Nullability> for bool {
     ghost use Rattle.dtype_base.specs.Nullability.{nullability_of};
 
@@ -92,7 +92,7 @@ impl From<Nullability> for bool {
     }
 }
 
-/// Prints what the text of a type ends with: `?` where values may be null, else nothing.
+/// Prints `?` for `Nullable`, and nothing for `NonNullable`: this is how the text of a type ends.
 impl fmt::Display for Nullability {
     ghost use Rattle.dtype_base.specs.Nullability.{nullability_text};
 

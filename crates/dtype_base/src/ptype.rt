@@ -5,8 +5,8 @@ ghost use Rattle.std.specs.Prelude.{◌≡◌, ◌↔◌, ◌*◌, IsTrue, Some}
 
 use std::fmt;
 
-/// A primitive type: an integer or a float of a fixed width. Its number, 0 to 10, is that of the messages of Vortex, and
-/// the order is that of the numbers.
+/// A primitive type: an integer type or a floating-point type of a fixed width. Its number, from 0 for `U8` to 10 for
+/// `F64`, is the one that Vortex messages use. Primitive types are ordered by it.
 #[derive(Clone, Copy, Debug, PartialEq, Eq, Hash, PartialOrd, Ord)]
 pub enum PType {
     /// An 8-bit unsigned integer.
@@ -39,28 +39,28 @@ const F16_MAX: u64 = 65504;
 impl PType {
     ghost use Rattle.dtype_base.specs.Primitives.{ptype_row, IsUnsigned, IsSigned, IsInteger, IsFloat, narrowest_signed, narrowest_unsigned, wider};
 
-    /// Returns whether values are unsigned integers.
+    /// Returns whether this is an unsigned integer type.
     pub fn is_unsigned_int(self) -> bool
         ensures { IsTrue result ↔ IsUnsigned self }
     {
         matches!(self, PType::U8 | PType::U16 | PType::U32 | PType::U64)
     }
 
-    /// Returns whether values are signed integers.
+    /// Returns whether this is a signed integer type.
     pub fn is_signed_int(self) -> bool
         ensures { IsTrue result ↔ IsSigned self }
     {
         matches!(self, PType::I8 | PType::I16 | PType::I32 | PType::I64)
     }
 
-    /// Returns whether values are integers.
+    /// Returns whether this is an integer type, signed or unsigned.
     pub fn is_int(self) -> bool
         ensures { IsTrue result ↔ IsInteger self }
     {
         self.is_unsigned_int() || self.is_signed_int()
     }
 
-    /// Returns whether values are floats.
+    /// Returns whether this is a floating-point type.
     pub fn is_float(self) -> bool
         ensures { IsTrue result ↔ IsFloat self }
     {
@@ -86,7 +86,8 @@ impl PType {
         8 * self.byte_width()
     }
 
-    /// Returns the greatest value, or `u64::MAX` for `f32` and `f64`, whose greatest values are above that.
+    /// Returns the greatest value of the type as a `u64`. For `f16` it is 65504. For `f32` and `f64`, whose greatest
+    /// values are above `u64::MAX`, it is `u64::MAX`.
     pub fn max_value_as_u64(&self) -> u64
         ensures { result ≡ (ptype_row self.now).greatest }
     {
@@ -104,7 +105,7 @@ impl PType {
         }
     }
 
-    /// Returns the signed integer type of the same width. A float is returned as it is.
+    /// Returns the signed integer type of the same width. A floating-point type is returned unchanged.
     pub fn to_signed(self) -> PType
         ensures { result ≡ (ptype_row self).signed }
     {
@@ -118,7 +119,7 @@ impl PType {
         }
     }
 
-    /// Returns the unsigned integer type of the same width. A float is returned as it is.
+    /// Returns the unsigned integer type of the same width. A floating-point type is returned unchanged.
     pub fn to_unsigned(self) -> PType
         ensures { result ≡ (ptype_row self).unsigned }
     {
@@ -132,7 +133,7 @@ impl PType {
         }
     }
 
-    /// Returns the narrowest unsigned integer type that holds the value.
+    /// Returns the narrowest unsigned integer type that the value fits. For 256 it is `u16`.
     pub fn min_unsigned_ptype_for_value(value: u64) -> PType
         ensures { narrowest_unsigned value ≡ Some result }
     {
@@ -147,7 +148,7 @@ impl PType {
         }
     }
 
-    /// Returns the narrowest signed integer type that holds the value.
+    /// Returns the narrowest signed integer type that the value fits. For -129 it is `i16`.
     pub fn min_signed_ptype_for_value(value: i64) -> PType
         ensures { narrowest_signed value ≡ Some result }
     {
@@ -162,7 +163,8 @@ impl PType {
         }
     }
 
-    /// Returns the wider of two unsigned integer types, and `self` where they are equally wide.
+    /// Returns the wider of two unsigned integer types, or `self` if they are equally wide. The caller must prove that
+    /// both are unsigned integer types.
     pub fn max_unsigned_ptype(self, other: PType) -> PType
         requires self_kind { IsUnsigned self }
         requires other_kind { IsUnsigned other }
@@ -171,7 +173,8 @@ impl PType {
         self.wider_of(other)
     }
 
-    /// Returns the wider of two signed integer types, and `self` where they are equally wide.
+    /// Returns the wider of two signed integer types, or `self` if they are equally wide. The caller must prove that
+    /// both are signed integer types.
     pub fn max_signed_ptype(self, other: PType) -> PType
         requires self_kind { IsSigned self }
         requires other_kind { IsSigned other }
@@ -191,7 +194,7 @@ impl PType {
     }
 }
 
-/// Prints the name in lower case, as `u8`.
+/// Prints the primitive type in lower case, for example `u8`.
 impl fmt::Display for PType {
     ghost use Rattle.dtype_base.specs.Primitives.{ptype_row};
 

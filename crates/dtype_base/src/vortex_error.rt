@@ -9,136 +9,138 @@ use crate::PType;
 use std::alloc::{AllocError, AllocFailed};
 use thiserror::Error;
 
-/// The result of a call that may return an error.
+/// The result of a call that can fail: its value, or a `VortexError`.
 pub type VortexResult<T> = Result<T, VortexError>;
 
-/// An error of this workspace. Each kind has a number, 0 to 36, which `number` returns and the documentation cites, and
-/// holds the values that its text shows.
+/// An error of this workspace. Each variant has a number from 0 to 36, which `number` returns and which the
+/// documentation cites, and carries the values that its text shows. For example,
+/// `IndexOutOfBounds { index: 9, fields: 2 }` has the number 17 and prints
+/// `index 9 out of bounds for struct with 2 fields`.
 #[derive(Debug, Drop, PartialEq, Eq, Error)]
 pub enum VortexError {
-    /// 0: an allocation failed.
+    /// 0: an allocation failed, or a reference count is at its maximum.
     #[error("out of memory")]
     OutOfMemory,
-    /// 1: a decimal of precision 0.
+    /// 1: the precision of a decimal is 0.
     #[error("decimal precision must be between 1 and {max} (inclusive)")]
     PrecisionZero { max: u8 },
-    /// 2: a decimal precision above the maximum.
+    /// 2: the precision of a decimal is above the greatest that is allowed.
     #[error("decimal precision {precision} exceeds MAX_PRECISION {max}")]
     PrecisionTooLarge { precision: u8, max: u8 },
-    /// 3: a decimal scale above the maximum.
+    /// 3: the scale of a decimal is above the greatest that is allowed.
     #[error("decimal scale {scale} exceeds MAX_SCALE {max}")]
     ScaleTooLarge { scale: i8, max: i8 },
-    /// 4: a positive decimal scale above the precision.
+    /// 4: the scale of a decimal is above its precision.
     #[error("decimal scale {scale} is greater than precision {precision}")]
     ScaleAbovePrecision { scale: i8, precision: u8 },
-    /// 5: a type that isn't a decimal.
+    /// 5: the type isn't a decimal.
     #[error("Cannot convert DType into DecimalType")]
     NotDecimal,
-    /// 6: a type that isn't a primitive.
+    /// 6: the type isn't a primitive type.
     #[error("Cannot convert DType into PType")]
     NotPrimitive,
-    /// 7: a primitive type that can't store decimals.
+    /// 7: the primitive type can't store decimals: it isn't `i8`, `i16`, `i32` or `i64`.
     #[error("cannot convert ptype {ptype} to DecimalType")]
     NotDecimalPType { ptype: PType },
-    /// 8: bytes whose length isn't the integer's.
+    /// 8: the number of bytes isn't the width of the integer to be read.
     #[error("bytes have another length")]
     BytesLength,
-    /// 9: a nullable map key.
+    /// 9: the key type of a map is nullable.
     #[error("map key dtype must be non-nullable")]
     MapKeyNullable,
-    /// 10: a union with unequal numbers of types and names.
+    /// 10: a union has more or fewer types than names.
     #[error("union names and dtypes length mismatch")]
     UnionTypesLength,
-    /// 11: a union with unequal numbers of tags and names.
+    /// 11: a union has more or fewer tags than names.
     #[error("union names and type_ids length mismatch")]
     UnionTagsLength,
-    /// 12: a union without variants.
+    /// 12: a union has no variants.
     #[error("union must have at least one variant")]
     UnionEmpty,
-    /// 13: a union with a repeated tag.
+    /// 13: two variants of a union have the same tag.
     #[error("type_ids must be distinct")]
     UnionTagsRepeat,
-    /// 14: a union with more than 256 variants.
+    /// 14: a union has more than 256 variants.
     #[error("union supports at most 256 consecutive variants")]
     UnionTooMany,
-    /// 15: a union with a repeated name.
+    /// 15: two variants of a union have the same name.
     #[error("union variant names must be distinct")]
     UnionNamesRepeat,
-    /// 16: a projection to a name that no field has, with the name's position in the projection.
+    /// 16: no field has a name that was selected. `position` is the position of that name among those selected, from 0.
     #[error("field {position} of the projection not found")]
     FieldNotFound { position: usize },
-    /// 17: a field index at or past the end.
+    /// 17: the index of a field isn't below the number of fields.
     #[error("index {index} out of bounds for struct with {fields} fields")]
     IndexOutOfBounds { index: usize, fields: usize },
-    /// 18: a merge in which a name repeats.
+    /// 18: two structs can't be merged, because a name occurs twice in the two together.
     #[error("Can't merge struct fields with duplicate names")]
     DuplicateNames,
-    /// 19: a width above `usize::MAX`.
+    /// 19: the width of a value in bytes is above `usize::MAX`.
     #[error("element size is bigger than usize")]
     WidthOverflow,
-    /// 20: a step into the exact root.
+    /// 20: a mask that selects the root alone can't be stepped into.
     #[error("Cannot step into exact root field path")]
     ExactRoot,
-    /// 21: the first field of the mask of all fields.
+    /// 21: the mask of all paths has no first field.
     #[error("Cannot get starting field from All mask")]
     AllMask,
-    /// 22: metadata or a storage type that the extension rejects.
+    /// 22: the plugin or vtable of an extension type doesn't accept the metadata or the storage type.
     #[error("extension metadata or storage refused")]
     MetadataRefused,
-    /// 23: a downcast through a vtable of another id.
+    /// 23: an extension can't be downcast by a vtable that has another id.
     #[error("extension id differs")]
     ExtensionIdDiffers,
-    /// 24 to 36: a message that isn't that of a type or of a path.
+    /// 24 to 36: a message doesn't describe a type or a path.
     #[error("{0}")]
     Message(MessageFault),
 }
 
-/// What is wrong with a message. The numbers are 24 to 36, in the order of the kinds.
+/// What is wrong with a message. The numbers, 24 to 36, are in the order of the variants.
 #[derive(Debug, Drop, PartialEq, Eq, Error)]
 pub enum MessageFault {
-    /// 24: a type message without a kind.
+    /// 24: the message of a type has no kind.
     #[error("Unrecognized DType")]
     TypeMissing,
-    /// 25: a primitive number that no primitive type has.
+    /// 25: the number of a primitive type isn't from 0 to 10.
     #[error("unknown primitive number")]
     PrimitiveNumber,
-    /// 26: a decimal precision above 255.
+    /// 26: the precision of a decimal is above 255.
     #[error("precision does not fit in u8")]
     PrecisionRange,
-    /// 27: a decimal scale that doesn't fit 8 bits.
+    /// 27: the scale of a decimal isn't from -128 to 127.
     #[error("scale does not fit in i8")]
     ScaleRange,
-    /// 28: a list without an element.
+    /// 28: a list has no element type.
     #[error("Invalid list element type")]
     ListElementMissing,
-    /// 29: a fixed-size list without an element.
+    /// 29: a fixed-size list has no element type.
     #[error("Invalid fixed-size list element type")]
     FixedElementMissing,
-    /// 30: a map without a key.
+    /// 30: a map has no key type.
     #[error("Invalid map key type")]
     MapKeyMissing,
-    /// 31: a map without a value.
+    /// 31: a map has no value type.
     #[error("Invalid map value type")]
     MapValueMissing,
-    /// 32: a struct with unequal numbers of types and names.
+    /// 32: a struct has more or fewer types than names.
     #[error("struct names and dtypes length mismatch")]
     StructLengths,
-    /// 33: a union tag that isn't from 0 to 255.
+    /// 33: a tag of a union isn't from 0 to 255.
     #[error("type_id does not fit in u8")]
     TypeIdRange,
-    /// 34: an extension without a storage.
+    /// 34: an extension has no storage type.
     #[error("Extension DType missing storage proto")]
     StorageMissing,
-    /// 35: an extension whose id isn't registered, in a session that rejects unknown ids.
+    /// 35: no plugin is registered under the id of an extension, and the session doesn't keep unknown ids.
     #[error("Unregistered extension type ID")]
     ExtensionUnregistered,
-    /// 36: a part of a path without its kind.
+    /// 36: a part of a path has no kind.
     #[error("FieldPath part missing type")]
     PathPartMissing,
 }
 
 impl MessageFault {
-    /// Returns the error's number, 24 to 36, in the order of the kinds.
+    /// Returns the number of the fault, from 24 to 36.
     pub fn number(&self) -> u8
         ensures { result ≡ fault_number self.now }
     {
@@ -161,7 +163,7 @@ impl MessageFault {
 }
 
 impl VortexError {
-    /// Returns the error's number, 0 to 36, in the order of the kinds.
+    /// Returns the number of the error, from 0 to 36.
     pub fn number(&self) -> u8
         ensures { result ≡ number_of self.now }
     {
@@ -195,7 +197,7 @@ impl VortexError {
     }
 }
 
-/// A failed allocation is `OutOfMemory`.
+/// Converts a failed allocation to `OutOfMemory`.
 impl From<AllocError> for VortexError {
     ghost from_gives = { λ _ e. e ≡ OutOfMemory };
 
@@ -204,7 +206,7 @@ impl From<AllocError> for VortexError {
     }
 }
 
-/// A failed allocation is `OutOfMemory`.
+/// Converts a failed allocation to `OutOfMemory`.
 impl<T: Drop> From<AllocFailed<T>> for VortexError {
     ghost from_gives = { λ _ e. e ≡ OutOfMemory };
 

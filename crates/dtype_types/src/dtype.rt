@@ -20,19 +20,19 @@ use dtype_base::{DecimalDType, Nullability, PType};
 pub use kinds::Kind;
 pub use lattice::{intersect_nullability, merge_nullability};
 
-/// A logical type: what values may be, whatever the layout in which they are stored.
+/// A logical type: it says which values a column may contain, and nothing about how they are stored.
 ///
-/// `{id=u64, tags=list(utf8)?}` is a non-nullable struct of two fields, the second a nullable list of texts:
-/// made by `DType::struct_` of `DType::from(PType::U64)` and of `DType::list` over `DType::Utf8`, and printed
-/// so.
+/// For example, `{id=u64, tags=list(utf8)?}` is a non-nullable struct of two fields. The field `id` is a `u64`, and the
+/// field `tags` is a nullable list of texts. `DType::struct_` makes it from `DType::from(PType::U64)` and from
+/// `DType::list` of `DType::Utf8`. It is printed as it is written here: `?` follows what is nullable.
 #[derive(Debug, Drop)]
 #[cycle(dtype)]
 pub enum DType {
-    /// Null alone; it is nullable.
+    /// The type whose only value is null. It is always nullable.
     Null,
     /// Booleans.
     Bool(Nullability),
-    /// Numbers of a primitive type.
+    /// Integers or floating-point numbers of a primitive type.
     Primitive(PType, Nullability),
     /// Decimal numbers of a precision and a scale.
     Decimal(DecimalDType, Nullability),
@@ -40,19 +40,20 @@ pub enum DType {
     Utf8(Nullability),
     /// Bytes.
     Binary(Nullability),
-    /// Lists of any length of an element type.
+    /// Lists of any length whose elements are of one type.
     List(Box<DType>, Nullability),
-    /// Lists of one length of an element type.
+    /// Lists of one fixed length whose elements are of one type.
     FixedSizeList(Box<DType>, u32, Nullability),
-    /// Entries of a key type and a value type.
+    /// Maps: lists of entries, each a key and a value.
     Map(MapDType, Nullability),
-    /// Fields in order, each of its type.
+    /// Structs: fields in order, each with a name and a type.
     Struct(StructFields, Nullability),
-    /// One of several variants, distinguished by its tag.
+    /// Unions: a value is of one of several variants, and its tag says of which.
     Union(UnionVariants, Nullability),
-    /// Values that carry their own types.
+    /// Values that each carry their own type.
     Variant(Nullability),
-    /// An extension type: an id and metadata over a storage type. It is nullable where the storage is.
+    /// Values of an extension type, such as a date: an id and metadata over a storage type. It is nullable exactly if
+    /// its storage type is.
     Extension(ExtDTypeRef),
 }
 

@@ -19,7 +19,7 @@ use std::hash::{Hash, Hasher};
 use std::marker::Model;
 use std::rc::RcStr;
 
-/// The id of an extension type: a text.
+/// The id of an extension type: a text, for example `vortex.date`. In contracts it is the list of the text's bytes.
 #[derive(Debug, Drop)]
 pub struct ExtId {
     text: RcStr,
@@ -32,7 +32,7 @@ impl Model for ExtId {
 }
 
 impl ExtId {
-    /// Returns the id with this text.
+    /// Returns the id with a copy of this text.
     ///
     /// # Errors
     ///
@@ -52,11 +52,14 @@ impl ExtId {
         self.text.as_str()
     }
 
-    /// Returns an id with the same text, which the two share. Doesn't allocate.
+    /// Returns an id with the same text, which the two share.
+    ///
+    /// It raises a reference count and doesn't allocate, so `_alloc` isn't used. The signature takes it so that it
+    /// needn't change if a copy comes to allocate.
     ///
     /// # Errors
     ///
-    /// - `OutOfMemory` (0): the reference count is exhausted.
+    /// - `OutOfMemory` (0): the reference count of the text is at its maximum, so no further copy can be counted.
     pub fn try_clone(&self, _alloc: Global) -> VortexResult<Self>
         ensures { Makes result (λ id. id ≡ self.now) }
     {
@@ -99,7 +102,7 @@ impl Hash for ExtId {
     }
 }
 
-/// Writes the text, without escapes.
+/// Writes the text as it is, without escapes.
 impl fmt::Display for ExtId {
     ghost output = { λ id. Some id };
 
@@ -108,8 +111,9 @@ impl fmt::Display for ExtId {
     }
 }
 
-/// An extension type without its library: the id, the metadata as bytes, and the storage type. So a program that
-/// doesn't know the library can read such a type, keep it and write it again.
+/// An extension type whose library needn't be known (an erased extension): an id, the metadata as bytes, and a storage
+/// type. For example, `x.date[1B](i32?)` has the id `x.date`, one byte of metadata and the storage type `i32?`. A
+/// program that doesn't know what `x.date` means can still read such a type, keep it and write it again.
 #[derive(Debug, Drop)]
 #[cycle(dtype)]
 pub struct ExtDTypeRef {
@@ -143,7 +147,7 @@ impl ExtDTypeRef {
         &self.parts.id
     }
 
-    /// Returns the extension of this id, metadata and storage.
+    /// Returns the extension type with this id, this metadata and this storage type.
     ///
     /// # Errors
     ///
@@ -168,7 +172,7 @@ impl ExtDTypeRef {
         })
     }
 
-    /// Consumes the extension and returns its id, its metadata and its storage.
+    /// Consumes the extension type and returns its id, its metadata and its storage type.
     pub fn into_parts(self) -> (ExtId, Vec<u8>, DType)
         ensures { extension_tree self ≡ extension result.0 result.1.items (tree result.2) }
     {
@@ -187,7 +191,7 @@ impl ExtDTypeRef {
         &self.parts.metadata
     }
 
-    /// Returns a copy of the metadata.
+    /// Returns a copy of the metadata, as bytes.
     ///
     /// # Errors
     ///
@@ -198,7 +202,7 @@ impl ExtDTypeRef {
         Ok(Vec::from_slice(alloc, &self.parts.metadata)?)
     }
 
-    /// Returns a value that prints the number of bytes of metadata.
+    /// Returns a value whose `Display` prints the number of bytes of the metadata, for example `2B`.
     pub fn display_metadata(&self) -> MetadataDisplay<'_>
         ensures { result ≡ extension_metadata self.now }
     {
@@ -207,7 +211,8 @@ impl ExtDTypeRef {
         }
     }
 
-    /// Returns whether the extensions are equal when every nullability in their storages is ignored.
+    /// Returns whether the two extension types are equal if every nullability in their storage types is ignored: the
+    /// ids and the metadata must be the same.
     #[tactic(auto, using(crate::proofs::KindLaws::erased_tests))]
     pub fn eq_ignore_nullability(&self, other: &Self) -> bool
         ensures { IsTrue result
@@ -216,7 +221,7 @@ impl ExtDTypeRef {
         self.equal_under(other, NullabilityRule::Ignored)
     }
 
-    /// Returns the outer nullability, which is the storage's.
+    /// Returns the outer nullability, which is that of the storage type.
     #[cycle(nullability)]
     pub fn nullability(&self) -> Nullability
         ensures { result ≡ nullability (storage_tree self.now) }
@@ -224,7 +229,7 @@ impl ExtDTypeRef {
         self.parts.storage.nullability()
     }
 
-    /// Returns whether values may be null.
+    /// Returns whether a value of the type may be null: whether the storage type is nullable.
     pub fn is_nullable(&self) -> bool
         ensures { IsTrue result ↔ IsNullable (storage_tree self.now) }
     {
@@ -282,7 +287,7 @@ impl ExtDTypeRef {
     ///
     /// # Errors
     ///
-    /// - `OutOfMemory` (0): an allocation fails.
+    /// - `OutOfMemory` (0): an allocation fails, or a reference count is at its maximum.
     #[cycle(copy)]
     pub fn try_clone(&self, alloc: Global) -> VortexResult<Self>
         ensures { Makes result (λ e. extension_tree e ≡ extension_tree self.now) }
@@ -317,8 +322,8 @@ impl ExtDTypeRef {
         self.parts.storage.can_be_nonnullable()
     }
 
-    /// Returns the extension with another outer nullability of its storage. The id and the metadata stay. The
-    /// condition is that the storage can be non-nullable where `n` is `NonNullable`.
+    /// Returns the extension type with the outer nullability of its storage type set to `n`. The id and the metadata
+    /// stay the same. If `n` is `NonNullable`, the caller must prove that the storage type can be made non-nullable.
     ///
     /// # Errors
     ///
@@ -335,7 +340,7 @@ impl ExtDTypeRef {
     }
 }
 
-/// Two extensions are equal where their ids, their metadata and their storages are.
+/// Returns whether the two have equal ids, equal metadata and equal storage types.
 #[tactic(auto, using(crate::proofs::lemmas::Equality::equality))]
 impl PartialEq for ExtDTypeRef {
     ghost use Rattle.dtype_types.specs.equality.Equality.{same_by};
@@ -376,7 +381,7 @@ impl Hash for ExtDTypeRef {
     }
 }
 
-/// Prints the number of bytes of metadata that an extension has. In contracts it is the metadata.
+/// A value whose `Display` prints the number of bytes of an extension's metadata. In contracts it is the metadata.
 #[derive(Debug, Drop)]
 pub struct MetadataDisplay<'a> {
     bytes: &'a [u8],
@@ -388,7 +393,7 @@ impl<'a> Model for MetadataDisplay<'a> {
     ghost view = { λ m. m.bytes.now };
 }
 
-/// Writes the number of bytes and `B`, as `2B`.
+/// Writes the number of bytes followed by `B`, for example `2B`.
 impl fmt::Display for MetadataDisplay<'_> {
     ghost use Rattle.dtype_types.specs.texts.Text.{metadata_text};
 
@@ -400,7 +405,8 @@ impl fmt::Display for MetadataDisplay<'_> {
     }
 }
 
-/// Writes the id, the number of metadata bytes in brackets, and the storage in parentheses: `x.tag[2B](utf8?)`.
+/// Writes the id, the number of metadata bytes in brackets, and the storage type in parentheses, for example
+/// `x.tag[2B](utf8?)`.
 #[tactic(auto, unfolding(crate::specs::texts::TextOf::extension_text))]
 impl fmt::Display for ExtDTypeRef {
     ghost use Rattle.dtype_types.specs.texts.TextOf.{extension_text};

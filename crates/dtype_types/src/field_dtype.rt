@@ -14,7 +14,8 @@ use dtype_base::{PType, VortexResult};
 use std::alloc::Global;
 use std::hash::{Hash, Hasher};
 
-/// The type of a field, from which structs are made.
+/// The type of a field of a struct. `StructFields` is made from pairs of a name and a `FieldDType`. `FieldDType::from`
+/// makes one from a `DType` or from a `PType`.
 #[derive(Debug, Drop)]
 pub struct FieldDType {
     dtype: DType,
@@ -35,11 +36,11 @@ impl FieldDType {
         self.dtype
     }
 
-    /// Returns a field's type equal to this one.
+    /// Returns a field type equal to this one.
     ///
     /// # Errors
     ///
-    /// - `OutOfMemory` (0): an allocation fails.
+    /// - `OutOfMemory` (0): an allocation fails, or a reference count is at its maximum.
     pub fn try_clone(&self, alloc: Global) -> VortexResult<Self>
         ensures { Makes result (λ f. field_tree f ≡ field_tree self.now) }
     {
@@ -64,7 +65,7 @@ impl From<DType> for FieldDType {
     }
 }
 
-/// Returns the non-nullable type of this `PType`.
+/// Returns the non-nullable type of this primitive type.
 impl From<PType> for FieldDType {
     ghost from_gives = { λ ptype f. (field_tree f ≡ primitive ptype NonNullable) × Valid (field_tree f) };
 

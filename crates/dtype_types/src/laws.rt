@@ -38,32 +38,39 @@ use crate::{
 };
 use std::hash::Hash;
 
-/// `==` of kinds holds exactly of the same kind.
+/// For all kinds `a` and `b`, `a == b` is true exactly if `a` and `b` are the same kind. With this law a caller can
+/// conclude from `dtype.kind() == Kind::Struct` that `as_struct_fields` may be called.
 pub fn kinds_are_equal_where_the_same()
     ensures { (a b : Kind) → Decides (⟦<Kind as PartialEq>⟧.eq a b) (a ≡ b) }
 {}
 
-/// `==` of ids holds exactly where their texts are the same.
+/// For all ids `a` and `b`, `a == b` is true exactly if their texts have the same bytes. For example, `x.tag` isn't
+/// equal to `X.tag`.
 pub fn ids_are_equal_where_their_texts_are()
     ensures { (a b : List ℕ) → Decides (⟦<ExtId as PartialEq>⟧.eq a b) (a ≡ b) }
 {}
 
-/// Types that are equal write the same to every hasher.
+/// For all types `a` and `b`, if `a == b` is true then `a` and `b` write the same to every hasher. So types can be the
+/// keys of a hash map.
 pub fn equality_agrees_with_hash()
     ensures { (a b : DType) → IsTrue (⟦<DType as PartialEq>⟧.eq a b)
         → ⟦<DType as Hash>⟧.hash_input a ≡ ⟦<DType as Hash>⟧.hash_input b }
 {}
 
-/// Equality ignoring nullability is an equivalence, and types that are so equal write the same to every hasher through
-/// `hash_ignore_nullability`.
+/// Two statements about equality without nullabilities (`erase a ≡ erase b`). First, it is reflexive, symmetric and
+/// transitive. Second, for all `a` and `b` that are equal in this way, `hash_ignore_nullability` writes the same for
+/// both to every hasher. For example, it writes the same for `list(i32?)` and for `list(i32)?`. So types without their
+/// nullabilities can be the keys of a hash map.
 pub fn equality_ignoring_nullability_agrees_with_its_hash()
     ensures equivalence { Equivalence (λ (a b : Tree). erase a ≡ erase b) }
     ensures hash { (a b : Tree) → erase a ≡ erase b
         → hash_writes_ignoring_nullability a ≡ hash_writes_ignoring_nullability b }
 {}
 
-/// Setting a type's nullability, where it can be set, gives that nullability and changes nothing but nullabilities: the
-/// erased trees are equal. Of two settings the last decides.
+/// Three statements about setting the outer nullability of a type, where `SetNull t n u` says that `u` is `t` with its
+/// outer nullability set to `n`. First, the outer nullability of `u` is then `n`. Second, `u` and `t` are equal except
+/// for nullabilities. Third, if the nullability is set twice, the second setting decides: setting `m` and then `n`
+/// makes the same type as setting `n`. For example, `i32` set to `Nullable` and then to `NonNullable` is `i32`.
 #[tactic(auto, using(crate::proofs::lemmas::Nullabilities::set_is, crate::proofs::lemmas::Nullabilities::set_keeps, crate::proofs::lemmas::Nullabilities::set_again))]
 pub fn nullability_is_set_alone()
     ensures sets { (t u : Tree) (n : Nullability) → SetNull t n u → nullability u ≡ n }
@@ -72,15 +79,17 @@ pub fn nullability_is_set_alone()
         → SetNull t m u → (SetNull u n v ↔ SetNull t n v) }
 {}
 
-/// `DType::BYTES` is the non-nullable `U8`.
+/// The constant `DType::BYTES`, which this law returns, is the non-nullable `u8`.
 pub fn bytes_are_non_nullable_u8() -> DType
     ensures { tree result ≡ primitive PType.U8 NonNullable }
 {
     DType::BYTES
 }
 
-/// In a valid union `tag_to_child_index` returns a position for the tag that `child_index_to_tag` returns for that
-/// position.
+/// In each valid union `u`, the first position of a tag is the position of its variant: if the variant at position `i`
+/// has the tag `tag`, then `tag` is first found at `i`. So `tag_to_child_index` returns `Some(i)` for the tag that
+/// `child_index_to_tag` returns for `i`. For example, in `union(int@5=i32, string@9=utf8)` the tag 9 is at position 1,
+/// and the position 1 has the tag 9.
 #[tactic(auto, using(crate::proofs::lemmas::Tags::position_of_tag))]
 pub fn tags_tell_positions()
     ensures { (u : UnionVariants) → Valid (union_tree u) → (i tag : ℕ)
@@ -88,58 +97,68 @@ pub fn tags_tell_positions()
         → position (λ g. g == tag) (variant_tags (variant_list u)) ≡ Some i }
 {}
 
-/// The sample of a valid type is a value of it, so each valid type has a value.
+/// For each valid type `t`, the value `sample t` is a value of `t`. So each valid type has a value, and no statement
+/// about all values of a valid type is true for want of values.
 pub fn samples_are_values()
     ensures { (t : Tree) → Valid t → Of (sample t) t }
 {}
 
-/// Null is a value of exactly the nullable types.
+/// For each type `t`, null is a value of `t` exactly if the outer nullability of `t` is `Nullable`. For example, null
+/// is a value of `list(i32)?` and not of `list(i32?)`.
 pub fn null_is_a_value_of_nullable_types()
     ensures { (t : Tree) → Of null_value t ↔ IsNullable t }
 {}
 
-/// The values of a type made nullable are those of the type, and null.
+/// For all types `t` and `u`, if `u` is `t` with its outer nullability set to `Nullable`, then the values of `u` are
+/// the values of `t`, and null. For example, the values of `bool?` are true, false and null.
 pub fn nullable_types_have_null_besides()
     ensures { (t u : Tree) → SetNull t Nullable u
         → AddsNull t u }
 {}
 
-/// The order of types by nullability, which both comparisons with nullability test, is an order: each
-/// type is below itself, what is below a type is below all that it is below, and two types that are
-/// below one another are equal.
+/// `Sub`, the relation that `eq_with_nullability_subset` tests, is a partial order: each type is a subset of itself; if
+/// `a` is a subset of `b` and `b` of `c`, then `a` is a subset of `c`; and if `a` and `b` are subsets of each other,
+/// they are equal. For example, `i32` is a subset of `i32?`, and `i32?` isn't one of `i32`.
 pub fn sub_is_an_order()
     ensures { IsOrder Sub }
 {}
 
-/// Each value of a type is a value of every type that it is below.
+/// For all types `a` and `b`, if `a` is a subset of `b` (`Sub a b`), then each value of `a` is a value of `b`. For
+/// example, each value of `list(i32)` is a value of `list(i32?)?`. So a column of type `a` may be used where one of
+/// type `b` is required.
 pub fn values_of_what_is_below_are_values()
     ensures { (a b : Tree) → Sub a b → IncludedIn a b }
 {}
 
-/// Of two valid types that are equal except for nullabilities and in which no fixed size is 0, one is below the other
-/// exactly where each of its values is a value of the other.
+/// For all types `a` and `b` that are equal except for nullabilities, if `a` is valid and contains no fixed-size list
+/// of size 0, then `a` is a subset of `b` exactly if each value of `a` is a value of `b`. The premise about size 0 is
+/// needed: each value of `fixed_size_list(i32?)[0]`, which is only the empty list, is a value of
+/// `fixed_size_list(i32)[0]`, and yet the first isn't a subset of the second.
 #[tactic(auto, using(crate::proofs::lemmas::SubValues::sub_values, crate::proofs::TellLaws::included_is_sub))]
 pub fn the_order_is_inclusion_of_values()
     ensures { (a b : Tree) → Valid a → HasNoSizeZero a → erase a ≡ erase b
         → (Sub a b ↔ IncludedIn a b) }
 {}
 
-/// Of two such types of which the first isn't below the second, `tell` gives a value of the first that isn't one of the
-/// second.
+/// For all types `a` and `b` that are equal except for nullabilities, if `a` is valid and contains no fixed-size list
+/// of size 0, and `a` isn't a subset of `b`, then `tell a b` is a value of `a` that isn't a value of `b`. For example,
+/// `tell` of `list(i32?)` and `list(i32)` is the list of one null. So a refused comparison can be explained by a value.
 #[tactic(auto, using(crate::proofs::TellLaws::tells_apart))]
 pub fn tell_tells_apart()
     ensures { (a b : Tree) → Valid a → HasNoSizeZero a → erase a ≡ erase b
         → ¬ (Sub a b) → IsSomeAnd (tell a b) (λ v. Of v a × ¬ (Of v b)) }
 {}
 
-/// Of types that are equal except for nullabilities, also with a fixed size 0, `tell` gives nothing exactly where the
-/// first is below the second.
+/// For all types `a` and `b` that are equal except for nullabilities, also with a fixed-size list of size 0, `tell a b`
+/// is `None` exactly if `a` is a subset of `b`.
 #[tactic(auto, using(crate::proofs::TellLaws::told_exactly))]
 pub fn tell_gives_exactly_where_not_below()
     ensures { (a b : Tree) → erase a ≡ erase b → ((tell a b ≡ None) ↔ Sub a b) }
 {}
 
-/// The iterators over types, fields and variants yield exactly `len` items, in order, then `None`.
+/// The iterators over types, over fields and over variants yield exactly as many items as `len` announced, in order,
+/// and then `None`. For example, the iterator over the fields of `{a=i32, b=utf8}` returns `a` with `i32`, then `b`
+/// with `utf8`, then `None`. A caller needs this to know which fields a `for` loop visits.
 pub fn parts_are_given_in_order()
     ensures types { GivesInOrder ⟦<DTypeIter<'static> as Iterator>⟧.next_gives
         ⟦<DTypeIter<'static> as Iterator>⟧.remaining (λ d. tree d.now) (map tree) }
@@ -149,8 +168,10 @@ pub fn parts_are_given_in_order()
         ⟦<VariantIter<'static> as Iterator>⟧.remaining borrowed_triple (λ left. left) }
 {}
 
-/// A type that is made of valid types is valid: what the constructors of types, structs, unions, maps and
-/// extensions make, and the type of a map's entries.
+/// A type that is made from valid types is valid. There is one statement for each way to make a type: primitive types,
+/// lists, fixed-size lists whose size is below 2^32, maps whose key type is non-nullable, the type of a map's entries,
+/// structs, unions whose names, types and tags `UnionVariants::try_new` accepts, and extensions whose metadata is
+/// bytes. For example, if `t` is valid then so is `list(t)?`.
 #[tactic(auto, using(crate::proofs::lemmas::ValidLists::valid_struct_of, crate::proofs::lemmas::ValidLists::listed_variants, crate::proofs::lemmas::ValidLists::valid_variants, crate::proofs::lemmas::Validity::entries_valid))]
 pub fn types_made_of_valid_types_are_valid()
     ensures primitives { (p : PType) (n : Nullability) → Valid (primitive p n) }
@@ -169,12 +190,15 @@ pub fn types_made_of_valid_types_are_valid()
         → Valid (extension id metadata t) }
 {}
 
-/// A type whose outer nullability was set is valid exactly where it was valid before.
+/// For all types `t` and `u`, if `u` is `t` with its outer nullability set, then `t` is valid exactly if `u` is. For
+/// example, `list(decimal(5,2))` and `list(decimal(5,2))?` are both valid.
 pub fn setting_a_nullability_keeps_validity()
     ensures { (t u : Tree) (n : Nullability) → SetNull t n u → (Valid t ↔ Valid u) }
 {}
 
-/// A copy of a valid type, struct, union, map, extension or field's type is valid.
+/// A copy of something valid is valid. There is one statement each for a type, the fields of a struct, the variants of
+/// a union, the parts of a map, an extension, and the type of a field. So what `try_clone` returns for a valid type may
+/// be used wherever a valid type is required.
 pub fn copies_of_valid_types_are_valid()
     ensures types { (d copy : DType) → tree copy ≡ tree d → Valid (tree d) → Valid (tree copy) }
     ensures structs { (s copy : StructFields) → struct_pairs copy ≡ struct_pairs s → Valid (struct_tree s)
@@ -189,7 +213,9 @@ pub fn copies_of_valid_types_are_valid()
         → Valid (field_tree copy) }
 {}
 
-/// What a valid type holds is valid: an element, a map, a struct, a union, an extension.
+/// The part of a valid type that an `as_.._opt` or `into_.._opt` call returns is valid: the element type of a list, the
+/// parts of a map, the fields of a struct, the variants of a union, and an extension. For example, if `list(t)` is
+/// valid then so is `t`.
 #[tactic(auto, using(crate::proofs::lemmas::ValidParts::valid_parts))]
 pub fn parts_of_a_valid_type_are_valid()
     ensures list_element { (t u : Tree) → list_element t ≡ Some u → Valid t → Valid u }
@@ -205,8 +231,10 @@ pub fn parts_of_a_valid_type_are_valid()
         → Valid (extension_tree e) }
 {}
 
-/// The types in a valid struct, union, map or extension are valid: of a field or a variant at a position
-/// or by its name, of all of them, of a key and a value, and a storage.
+/// Each type in the fields of a valid struct, in the variants of a valid union, in a valid map or in a valid extension
+/// is valid. There is one statement each for a field or a variant at a position, for one that is found by its name, for
+/// all of them, for a map's key type and value type, and for a storage type. For example, if `{a=t, b=u}` is valid then
+/// so is the type `t` of its field `a`.
 #[tactic(auto, using(crate::proofs::lemmas::Validity::types_in_valid_parts))]
 pub fn types_in_valid_parts_are_valid()
     ensures field_at { (s : StructFields) (i : ℕ) (t : Tree) → slice_get (field_types (children s)) i ≡ Some t
@@ -225,7 +253,8 @@ pub fn types_in_valid_parts_are_valid()
     ensures storage { (e : ExtDTypeRef) → Valid (extension_tree e) → Valid (storage_tree e) }
 {}
 
-/// Fields that are selected from valid ones, joined of two, or left once one is removed are valid.
+/// Fields that are selected from the fields of a valid struct (`project`), fields of two valid structs that are joined
+/// (`disjoint_merge`), and the fields of a valid struct that are left after one is removed (`without_field`) are valid.
 #[tactic(auto, using(crate::proofs::lemmas::Validity::removal_valid, crate::proofs::lemmas::Validity::valid_joined, crate::proofs::lemmas::Validity::valid_projected))]
 pub fn selections_of_valid_fields_are_valid()
     ensures projected { (s projection : StructFields) (names : List (List ℕ))

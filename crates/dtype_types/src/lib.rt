@@ -1,17 +1,26 @@
 // SPDX-License-Identifier: Apache-2.0
 // SPDX-FileCopyrightText: Copyright the Vortex contributors
 
-//! Struct, union and map types, erased extensions, and `DType`, the type that holds them.
+//! Logical types: `DType`, the structs, unions and maps from which it is made, and extension types whose library
+//! needn't be known.
 //!
-//! In contracts a `DType` is a finite tree (`tree` of `specs/tree/TreeOf`), and each call is a definition on trees:
-//! nullability, lookups, copies, comparisons, texts. The types that a call returns are valid where those that it takes
-//! are (`Valid` of the tree; `laws`). A struct is a list of pairs of a name and a type, a union a list of triples of a
-//! name, a type and a tag (`named` and `tagged`).
+//! In contracts a `DType` is a finite tree: `tree d` of `specs/tree/TreeOf`. Each call is specified by a definition on
+//! trees: what the nullability of a type is, which field a name finds, when two types are equal, how a type is printed.
+//! If the types that a call takes are valid (`Valid` of their trees), then the types that it returns are valid too
+//! (`laws`). A struct is a list of pairs of a name and a type; a union is a list of triples of a name, a type and a tag
+//! (`named` and `tagged`).
 //!
-//! Begin with `DType` in `dtype.rt` and its calls in `dtype/`, a file a topic, then `StructFields`. The
-//! definitions are in the folders of `specs/`: `tree` (the tree of a type, and validity), `parts` (structs, unions and
-//! maps), `nullability` (and the order by it), `values` (and which are of which type), `texts` and `equality` (and
-//! hashes). `laws` has theorems about the definitions. `docs/PROMISES.md` says what is proved, and what is only tested.
+//! Begin with `DType` in `dtype.rt`; its calls are in `dtype/`, one file for each topic. Then read `StructFields`.
+//!
+//! The definitions are in the folders of `specs/`:
+//! - `tree`: the tree of a type, its kind, its width, and when it is valid.
+//! - `parts`: structs, unions and maps.
+//! - `nullability`: the outer nullability, the order of types by nullability (`Sub`), and merging.
+//! - `values`: values, and which are values of which type.
+//! - `texts`: what is printed.
+//! - `equality`: when types are equal, and what they write to a hasher.
+//!
+//! `laws` states theorems about these definitions. `docs/PROMISES.md` lists what is proved and what is only tested.
 #![tactic(auto)]
 
 mod dtype;

@@ -17,7 +17,8 @@ use std::fmt;
 use std::hash::{Hash, Hasher};
 use std::rc::Rc;
 
-/// The key type and the value type of a map, and whether its keys are declared sorted.
+/// The key type and the value type of a map, and whether its keys are declared to be sorted. For example,
+/// `map(utf8, i32?, keys_sorted=true)` has the key type `utf8` and the value type `i32?`.
 #[derive(Debug, Drop)]
 #[cycle(dtype)]
 pub struct MapDType {
@@ -41,11 +42,12 @@ impl MapDType {
     ghost use Rattle.dtype_types.specs.nullability.Nullable.{nullability, IsNullable};
     ghost use Rattle.dtype_types.specs.tree.TreeOf.{tree, map_shown, map_tree};
 
-    /// Returns the type of a map with this key and value. Whether its keys are sorted is kept and not checked.
+    /// Returns the map type with this key type and this value type. `keys_sorted` is stored in the type and isn't
+    /// checked against anything.
     ///
     /// # Errors
     ///
-    /// - `MapKeyNullable` (9): the key's type is nullable.
+    /// - `MapKeyNullable` (9): the key type is nullable.
     /// - `OutOfMemory` (0): an allocation fails.
     pub fn try_new(alloc: Global, key: DType, value: DType, keys_sorted: bool) -> VortexResult<Self>
         ensures ok { MatchResult result
@@ -82,14 +84,14 @@ impl MapDType {
         &self.shared.value
     }
 
-    /// Returns whether the keys are declared sorted. Nothing checks it.
+    /// Returns whether the keys are declared to be sorted. Nothing checks that they are.
     pub fn keys_sorted(&self) -> bool
         ensures { result ≡ (map_shown self.now).2 }
     {
         self.shared.keys_sorted
     }
 
-    /// Returns the type of the entries: the non-nullable struct of the fields `key` and `value`.
+    /// Returns the type of the map's entries: a non-nullable struct with the fields `key` and `value`.
     ///
     /// # Errors
     ///
@@ -152,11 +154,14 @@ impl MapDType {
         self.shared.keys_sorted.hash(state);
     }
 
-    /// Returns an equal map type, which shares the key and the value of this one. Doesn't allocate.
+    /// Returns a map type equal to this one, which shares the key type and the value type with it.
+    ///
+    /// It raises a reference count and doesn't allocate, so `_alloc` isn't used. The signature takes it so that it
+    /// needn't change if a copy comes to allocate.
     ///
     /// # Errors
     ///
-    /// - `OutOfMemory` (0): the reference count is exhausted.
+    /// - `OutOfMemory` (0): the reference count is at its maximum, so no further copy can be counted.
     pub fn try_clone(&self, _alloc: Global) -> VortexResult<Self>
         ensures { Makes result (λ m. map_shown m ≡ map_shown self.now) }
     {
@@ -206,7 +211,8 @@ impl Hash for MapDType {
     }
 }
 
-/// Writes `map(`, the key, the value, and whether the keys are sorted.
+/// Writes the key type, the value type, and whether the keys are sorted, for example
+/// `map(utf8, i32?, keys_sorted=false)`.
 #[tactic(auto, unfolding(crate::specs::texts::TextOf::map_text))]
 impl fmt::Display for MapDType {
     ghost use Rattle.dtype_types.specs.texts.TextOf.{map_text};

@@ -27,11 +27,11 @@ use std::fmt;
 use std::hash::{Hash, Hasher};
 use std::rc::Rc;
 
-/// The fields of a struct in order, each a name and a type. Names may repeat, as they may in the formats that
-/// types are read from; every access by name means the first field of that name.
+/// The fields of a struct, in order, each with a name and a type. A name may occur more than once, as it may in the
+/// formats from which types are read. Each call that looks for a name finds the first field of that name.
 ///
-/// Of the fields `int_col=i32?, int_col=i64?`, `field("int_col")` is `i32?` and `find` is 0; a projection to
-/// `int_col, int_col` has `i32?` twice.
+/// For example, in the fields `int_col=i32?, int_col=i64?` the call `field("int_col")` returns `i32?`, and
+/// `find("int_col")` returns 0. A projection to `int_col, int_col` has `i32?` twice.
 #[derive(Debug, Drop)]
 #[cycle(dtype)]
 pub struct StructFields {
@@ -51,7 +51,7 @@ impl StructFields {
     ghost use Rattle.dtype_types.specs.tree.Valid.{Valid};
     ghost use Rattle.dtype_types.specs.tree.Width.{MeasuresFields};
 
-    /// Returns a struct without fields.
+    /// Returns the struct without fields.
     ///
     /// # Errors
     ///
@@ -62,7 +62,8 @@ impl StructFields {
         StructFields::new(alloc, FieldNames::empty(alloc), Vec::new(alloc))
     }
 
-    /// Returns the struct of these names and types, in order. The condition is that there are as many names as types.
+    /// Returns the struct with these names and these types, in order. The caller must prove that there are as many
+    /// names as types.
     ///
     /// # Errors
     ///
@@ -78,7 +79,7 @@ impl StructFields {
         Ok(StructFields { shared })
     }
 
-    /// Returns the struct of these names and the types of these fields, in order. The condition is that there are as
+    /// Returns the struct with these names and these field types, in order. The caller must prove that there are as
     /// many names as types.
     ///
     /// # Errors
@@ -98,7 +99,8 @@ impl StructFields {
         Ok(StructFields::new(alloc, names, dtypes)?)
     }
 
-    /// Returns the struct of the fields that an iterator gives, in order.
+    /// Returns the struct of the fields that an iterator yields, in order. The caller must prove that the iterator
+    /// ends.
     ///
     /// # Errors
     ///
@@ -137,7 +139,8 @@ impl StructFields {
         self.shared.dtypes()
     }
 
-    /// Returns an iterator over the fields in order: references to the name and the type of each.
+    /// Returns an iterator over the fields, in order, which returns a reference to the name and a reference to the type
+    /// of each.
     #[tactic(auto, using(crate::proofs::Sides::zip_sides, crate::proofs::Sides::pairs, crate::proofs::Parts::fields))]
     pub fn pairs(&self) -> FieldIter<'_>
         ensures lent { result ≡ struct_pairs self.now }
@@ -153,24 +156,28 @@ impl StructFields {
         self.shared.len()
     }
 
-    /// Returns the name of the field at this position, or `None` at or past the end.
+    /// Returns the name of the field at this position, or `None` if the position isn't below the number of fields.
     pub fn field_name(&self, index: usize) -> Option<&FieldName>
         ensures { option_copied result ≡ slice_get (field_names (children self.now)) index }
     {
         self.names().as_slice().get(index)
     }
 
-    /// Returns the position of the first field of the name, or `None` where no field has it. It is a search in an
-    /// index of the names.
+    /// Returns the position of the first field with this name, or `None` if no field has it. It searches an index of
+    /// the names; `find_counted` describes how many names it compares.
     pub fn find(&self, name: &str) -> Option<usize>
         ensures { result ≡ first_place (field_names (children self.now)) name.now }
     {
         self.find_counted(name).0
     }
 
-    /// What `find` returns, and how many names were compared for it. That number is the same for every name, found
-    /// or not: one more than the binary digits of the number of names in the longest bucket less one, and 0 where there
-    /// is no field. So it is at most one more than the binary digits of the number of fields. Doesn't allocate.
+    /// Returns what `find` returns, and the number of names that were compared.
+    ///
+    /// That number is the same for every name, whether a field has it or not. It is 0 if there are no fields. Otherwise
+    /// the index has as many buckets as fields, each name in the bucket of its hash, and the number is that of a binary
+    /// search among as many names as the longest bucket has: 1 comparison if that is one name, 2 for two names, 3 for
+    /// three or four names, 4 for five to eight names. So it is at most 1 plus the number of binary digits of the
+    /// number of fields, even if all names are in one bucket. Doesn't allocate.
     #[tactic(auto, using(crate::proofs::Parts::fields))]
     pub fn find_counted(&self, name: &str) -> (Option<usize>, u64)
         ensures first { result.0 ≡ first_place (field_names (children self.now)) name.now }
@@ -181,7 +188,7 @@ impl StructFields {
         self.shared.find_counted(name)
     }
 
-    /// Returns the type of the first field of the name, or `None` where no field has it.
+    /// Returns the type of the first field with this name, or `None` if no field has it.
     #[tactic(auto, using(crate::proofs::lemmas::Lookups::lookups))]
     pub fn field(&self, name: &str) -> Option<&DType>
         ensures { shown tree result ≡ first_named (children self.now) name.now }
@@ -189,7 +196,7 @@ impl StructFields {
         self.field_by_index(self.find(name)?)
     }
 
-    /// Returns the type of the field at this position, or `None` at or past the end.
+    /// Returns the type of the field at this position, or `None` if the position isn't below the number of fields.
     #[tactic(auto, using(crate::proofs::Parts::get_tree, crate::proofs::Parts::types_shown))]
     pub fn field_by_index(&self, index: usize) -> Option<&DType>
         ensures { shown tree result ≡ slice_get (field_types (children self.now)) index }
@@ -206,7 +213,7 @@ impl StructFields {
         DTypeIter::new(self.dtypes())
     }
 
-    /// Returns an iterator over references to the types, in order: the same as `fields`.
+    /// Returns an iterator over references to the types, in order. It is the same as `fields`.
     pub fn field_dtypes(&self) -> DTypeIter<'_>
         ensures all { map tree result ≡ field_types (children self.now) }
         ensures fits { length (map tree result) < 2 ^ 64 }
@@ -214,7 +221,8 @@ impl StructFields {
         self.fields()
     }
 
-    /// Returns whether the fields are equal when every nullability in them is ignored.
+    /// Returns whether the fields are equal if every nullability in them, at any depth, is ignored. Names and their
+    /// order count.
     #[tactic(auto, using(crate::proofs::KindLaws::erased_tests))]
     pub fn eq_ignore_nullability(&self, other: &Self) -> bool
         ensures { IsTrue result
@@ -278,12 +286,14 @@ impl StructFields {
         }
     }
 
-    /// Returns the first field of each of these names, in their order, repeats kept.
+    /// Returns the fields with these names, in the order of `projection`. A name that occurs twice in `projection` is
+    /// there twice in the result, and for a name that several fields have, the first of them is selected. For example,
+    /// projecting `a=i32, b=utf8` to `b, a, b` returns `b=utf8, a=i32, b=utf8`.
     ///
     /// # Errors
     ///
-    /// - `FieldNotFound` (16): no field has one of the names; with the position of the first such name in
-    ///   `projection`.
+    /// - `FieldNotFound` (16): no field has one of the names. The error contains the position, in `projection`, of the
+    ///   first such name.
     /// - `OutOfMemory` (0): an allocation fails.
     #[tactic(auto, using(crate::proofs::Selected::refused_of))]
     pub fn project(&self, alloc: Global, projection: &[FieldName]) -> VortexResult<Self>
@@ -317,11 +327,11 @@ impl StructFields {
         Ok(copies)
     }
 
-    /// Returns the fields of this struct followed by those of the other.
+    /// Returns the fields of this struct followed by those of the other. All names must be different.
     ///
     /// # Errors
     ///
-    /// - `DuplicateNames` (18): a name is there twice, also within one of the two.
+    /// - `DuplicateNames` (18): a name occurs twice in the two structs together, perhaps twice in one of them.
     /// - `OutOfMemory` (0): an allocation fails.
     #[tactic(auto, using(crate::proofs::lemmas::Validity::valid_joined, crate::proofs::Parts::names_shown))]
     pub fn disjoint_merge(&self, alloc: Global, other: &Self) -> VortexResult<Self>
@@ -352,11 +362,12 @@ impl StructFields {
         Ok(joined.into_struct(alloc)?)
     }
 
-    /// Returns the fields except the one at this position.
+    /// Returns all fields except the one at this position.
     ///
     /// # Errors
     ///
-    /// - `IndexOutOfBounds` (17): the position is at or past the end; with the position and the number of fields.
+    /// - `IndexOutOfBounds` (17): the position isn't below the number of fields. The error contains the position and
+    ///   the number of fields.
     /// - `OutOfMemory` (0): an allocation fails.
     #[tactic(auto, using(crate::proofs::PutTogether::all_but, crate::proofs::Parts::names_shown))]
     pub fn without_field(&self, alloc: Global, index: usize) -> VortexResult<Self>
@@ -379,8 +390,8 @@ impl StructFields {
         Ok(left.into_struct(alloc)?)
     }
 
-    /// Returns the text of the fields over several lines, one field a line, indented by two spaces more than the
-    /// braces around it.
+    /// Returns the fields as text over several lines, one line for each field, indented by two spaces more than the
+    /// braces around them. Structs inside lists and inside structs are written in the same way.
     ///
     /// # Errors
     ///
@@ -420,11 +431,14 @@ impl StructFields {
         Ok(())
     }
 
-    /// Returns equal fields, which share these. Doesn't allocate.
+    /// Returns fields equal to these, which share the names and the types with them.
+    ///
+    /// It raises a reference count and doesn't allocate, so `_alloc` isn't used. The signature takes it so that it
+    /// needn't change if a copy comes to allocate.
     ///
     /// # Errors
     ///
-    /// - `OutOfMemory` (0): the reference count is exhausted.
+    /// - `OutOfMemory` (0): the reference count is at its maximum, so no further copy can be counted.
     pub fn try_clone(&self, _alloc: Global) -> VortexResult<Self>
         ensures { Makes result (λ s. struct_pairs s ≡ struct_pairs self.now) }
     {
@@ -473,7 +487,7 @@ impl Hash for StructFields {
     }
 }
 
-/// Writes the fields in braces, each a name, `=` and a type.
+/// Writes the fields in braces, each as its name, `=` and its type, for example `{a=i32?, b=utf8}`.
 impl fmt::Display for StructFields {
     ghost use Rattle.dtype_types.specs.texts.TextOf.{struct_text};
 

@@ -24,8 +24,11 @@ use std::rc::Rc;
 // A tag is one byte.
 const MAX_VARIANTS: usize = 256;
 
-/// The variants of a union in order, each a name, a type and a tag. A stored value names its variant by the tag.
-/// Tags needn't be 0, 1, 2 and so on, so that a schema can drop a variant while the others keep their tags.
+/// The variants of a union, in order, each with a name, a type and a tag from 0 to 255. A stored value names its
+/// variant by the tag.
+///
+/// For example, `union(int@5=i32, string@9=utf8)` has two variants, with the tags 5 and 9. The tags needn't be 0, 1, 2
+/// and so on, so a schema can drop a variant while the others keep their tags.
 #[derive(Debug, Drop)]
 #[cycle(dtype)]
 pub struct UnionVariants {
@@ -89,7 +92,7 @@ impl UnionVariants {
     ghost use Rattle.dtype_types.specs.tree.TreeOf.{tree, variants_of, variant_list, union_dtypes, union_triples, shown, union_tree};
     ghost use Rattle.dtype_types.specs.tree.Valid.{Valid};
 
-    /// Returns the union of these names, types and tags.
+    /// Returns the union of these names, types and tags, in order.
     ///
     /// # Errors
     ///
@@ -97,11 +100,11 @@ impl UnionVariants {
     ///
     /// - `UnionTypesLength` (10): there are more or fewer types than names.
     /// - `UnionTagsLength` (11): there are more or fewer tags than names.
-    /// - `UnionEmpty` (12): there are none.
-    /// - `UnionTagsRepeat` (13): a tag is there twice.
-    /// - `UnionNamesRepeat` (15): a name is there twice.
+    /// - `UnionEmpty` (12): there are no names.
+    /// - `UnionTagsRepeat` (13): a tag occurs twice.
+    /// - `UnionNamesRepeat` (15): a name occurs twice.
     ///
-    /// And once the lengths are right:
+    /// If there are as many types and as many tags as names, also:
     ///
     /// - `OutOfMemory` (0): an allocation fails.
     pub fn try_new(
@@ -124,7 +127,7 @@ impl UnionVariants {
         Ok(UnionVariants { shared })
     }
 
-    /// Returns the union of these names and types, with the tags 0, 1, 2 and so on.
+    /// Returns the union of these names and types, in order, with the tags 0, 1, 2 and so on.
     ///
     /// # Errors
     ///
@@ -132,10 +135,10 @@ impl UnionVariants {
     ///
     /// - `UnionTooMany` (14): there are more than 256 names.
     /// - `UnionTypesLength` (10): there are more or fewer types than names.
-    /// - `UnionEmpty` (12): there are none.
-    /// - `UnionNamesRepeat` (15): a name is there twice.
+    /// - `UnionEmpty` (12): there are no names.
+    /// - `UnionNamesRepeat` (15): a name occurs twice.
     ///
-    /// And where there are at most 256 names:
+    /// If there are at most 256 names, also:
     ///
     /// - `OutOfMemory` (0): an allocation fails.
     pub fn new(alloc: Global, names: FieldNames, dtypes: Vec<DType>) -> VortexResult<Self>
@@ -171,7 +174,7 @@ impl UnionVariants {
         self.shared.dtypes()
     }
 
-    /// Returns an iterator over the variants in order: the name, the tag and the type of each.
+    /// Returns an iterator over the variants, in order, which returns the name, the tag and the type of each.
     #[tactic(auto, using(crate::proofs::Sides::three_sides, crate::proofs::Sides::triples, crate::proofs::Parts::variants))]
     pub fn triples(&self) -> VariantIter<'_>
         ensures lent { result ≡ union_triples self.now }
@@ -191,14 +194,14 @@ impl UnionVariants {
         self.shared.len()
     }
 
-    /// Returns whether there are no variants. `try_new` and `new` make no such union.
+    /// Returns whether there are no variants. This is false for every union that `try_new` or `new` returns.
     pub fn is_empty(&self) -> bool
         ensures { IsTrue result ↔ (variant_list self.now ≡ []) }
     {
         self.len() == 0
     }
 
-    /// Returns the tags, in order of the variants.
+    /// Returns the tags, in the order of the variants.
     #[tactic(auto, using(crate::proofs::Sides::triples, crate::proofs::Parts::variants))]
     pub fn type_ids(&self) -> &[u8]
         ensures { result.now ≡ variant_tags (variant_list self.now) }
@@ -206,14 +209,15 @@ impl UnionVariants {
         self.shared.tags()
     }
 
-    /// Returns the position of the variant of the name, or `None` where no variant has it.
+    /// Returns the position of the variant with this name, or `None` if no variant has it. It compares one name after
+    /// another.
     pub fn find(&self, name: &str) -> Option<usize>
         ensures { result ≡ first_place (variant_names (variant_list self.now)) name.now }
     {
         self.names().find(name)
     }
 
-    /// Returns the type of the variant of the name, or `None` where no variant has it.
+    /// Returns the type of the variant with this name, or `None` if no variant has it.
     #[tactic(auto, using(crate::proofs::lemmas::Lookups::lookups))]
     pub fn variant(&self, name: &str) -> Option<&DType>
         ensures { shown tree result ≡ variant_named (variant_list self.now) name.now }
@@ -221,7 +225,7 @@ impl UnionVariants {
         self.variant_by_index(self.find(name)?)
     }
 
-    /// Returns the type of the variant at this position, or `None` at or past the end.
+    /// Returns the type of the variant at this position, or `None` if the position isn't below the number of variants.
     #[tactic(auto, using(crate::proofs::Parts::get_tree, crate::proofs::Parts::variant_types_shown))]
     pub fn variant_by_index(&self, index: usize) -> Option<&DType>
         ensures { shown tree result ≡ slice_get (variant_types (variant_list self.now)) index }
@@ -238,7 +242,8 @@ impl UnionVariants {
         DTypeIter::new(self.dtypes())
     }
 
-    /// Returns the position of the variant with this tag, or `None` where no variant has it.
+    /// Returns the position of the variant with this tag, or `None` if no variant has it. In
+    /// `union(int@5=i32, string@9=utf8)` the tag 9 is at position 1.
     #[tactic(auto, using(crate::proofs::lemmas::Tags::tag_is_at))]
     pub fn tag_to_child_index(&self, tag: u8) -> Option<usize>
         ensures first { result ≡ position (λ t. t == tag) (variant_tags (variant_list self.now)) }
@@ -254,7 +259,8 @@ impl UnionVariants {
         self.type_ids().iter().position(|t| *t == tag)
     }
 
-    /// Returns the tag of the variant at this position. The condition is that the position is below `len`.
+    /// Returns the tag of the variant at this position. The caller must prove that the position is below the number of
+    /// variants.
     pub fn child_index_to_tag(&self, index: usize) -> u8
         requires { index < length (variant_tags (variant_list self.now)) }
         ensures at { slice_get (variant_tags (variant_list self.now)) index ≡ Some result }
@@ -294,7 +300,8 @@ impl UnionVariants {
         Ok(UnionVariants { shared })
     }
 
-    /// Returns whether the variants are equal when every nullability in them is ignored. Names and tags count.
+    /// Returns whether the variants are equal if every nullability in their types, at any depth, is ignored. Names,
+    /// tags and the order count.
     #[tactic(auto, using(crate::proofs::KindLaws::erased_tests))]
     pub fn eq_ignore_nullability(&self, other: &UnionVariants) -> bool
         ensures { IsTrue result
@@ -316,11 +323,14 @@ impl UnionVariants {
         }
     }
 
-    /// Returns equal variants, which share these. Doesn't allocate.
+    /// Returns variants equal to these, which share the names, the types and the tags with them.
+    ///
+    /// It raises a reference count and doesn't allocate, so `_alloc` isn't used. The signature takes it so that it
+    /// needn't change if a copy comes to allocate.
     ///
     /// # Errors
     ///
-    /// - `OutOfMemory` (0): the reference count is exhausted.
+    /// - `OutOfMemory` (0): the reference count is at its maximum, so no further copy can be counted.
     pub fn try_clone(&self, _alloc: Global) -> VortexResult<Self>
         ensures { Makes result (λ u. union_triples u ≡ union_triples self.now) }
     {
@@ -328,7 +338,7 @@ impl UnionVariants {
         Ok(UnionVariants { shared })
     }
 
-    /// Returns whether the tags are 0, 1, 2 and so on.
+    /// Returns whether the tags are 0, 1, 2 and so on, in order.
     pub fn is_consecutive(&self) -> bool
         ensures { IsTrue result ↔ AreConsecutive (variant_tags (variant_list self.now)) }
     {
@@ -379,8 +389,8 @@ impl Hash for UnionVariants {
     }
 }
 
-/// Writes the variants, each a name, `=` and a type, with `@` and the tag after the name where the tags aren't 0, 1, 2
-/// and so on.
+/// Writes the variants, each as its name, `=` and its type, for example `int=i32, string=utf8`. If the tags aren't 0,
+/// 1, 2 and so on, each name is followed by `@` and its tag, for example `int@5=i32, string@9=utf8`.
 impl fmt::Display for UnionVariants {
     ghost use Rattle.dtype_types.specs.texts.TextOf.{union_text};
 

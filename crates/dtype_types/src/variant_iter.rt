@@ -13,8 +13,8 @@ use std::iter::FusedIterator;
 use std::marker::Model;
 use std::slice;
 
-/// An iterator over the variants of a union, in order: the name, the tag and the type of each. In contracts it is the
-/// list of the variants that are left.
+/// An iterator over the variants of a union, in order. It returns the name, the tag and the type of each. In contracts
+/// it is the list of the variants that are left.
 #[derive(Debug, Drop)]
 pub struct VariantIter<'a> {
     names: slice::Iter<'a, FieldName>,

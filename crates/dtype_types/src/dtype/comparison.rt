@@ -11,16 +11,18 @@ use crate::dtype::equality::{NullabilityRule, equal_under};
 
 #[tactic(auto, using(crate::specs::equality::EqualityLaws::sub_Decides))]
 impl DType {
-    /// Returns whether the types are equal except for nullabilities, and the other is nullable wherever this one is, at
-    /// every depth. Then each value of this type is a value of the other. Doesn't allocate.
+    /// Returns whether this type is a subset of the other: the two are equal except for nullabilities, and the other is
+    /// nullable wherever this one is, at every depth. For example, `{a=i32, b=utf8}` is a subset of `{a=i32?, b=utf8}`.
+    /// Each value of a subset is a value of the other type. Doesn't allocate.
     pub fn eq_with_nullability_subset(&self, other: &DType) -> bool
         ensures { IsTrue result ↔ Sub (tree self.now) (tree other.now) }
     {
         equal_under(self, other, NullabilityRule::Within)
     }
 
-    /// Returns whether the types are equal except for nullabilities, and this one is nullable wherever the other is, at
-    /// every depth: the subset comparison with the two exchanged. Doesn't allocate.
+    /// Returns whether the other type is a subset of this one: the two are equal except for nullabilities, and this one
+    /// is nullable wherever the other is, at every depth. It is `eq_with_nullability_subset` with the two types
+    /// exchanged. Doesn't allocate.
     pub fn eq_with_nullability_superset(&self, other: &DType) -> bool
         ensures { IsTrue result ↔ Sub (tree other.now) (tree self.now) }
     {

@@ -17,7 +17,7 @@ use dtype_base::{FieldName, Nullability, VortexResult};
 use std::alloc::Global;
 
 impl DType {
-    /// Returns the type of lists of this element type.
+    /// Returns the type of lists of any length whose elements are of this type.
     ///
     /// # Errors
     ///
@@ -44,11 +44,12 @@ impl DType {
         Ok(DType::FixedSizeList(Box::new(alloc, element)?, size, n))
     }
 
-    /// Returns the type of maps of this key and value. Whether the keys are sorted is kept and not checked.
+    /// Returns the type of maps with this key type and this value type. `keys_sorted` is stored in the type and isn't
+    /// checked against anything.
     ///
     /// # Errors
     ///
-    /// - `MapKeyNullable` (9): the key's type is nullable.
+    /// - `MapKeyNullable` (9): the key type is nullable.
     /// - `OutOfMemory` (0): an allocation fails.
     pub fn map(
         alloc: Global,
@@ -68,7 +69,8 @@ impl DType {
         Ok(DType::Map(map, n))
     }
 
-    /// Returns the struct type of the fields that an iterator gives, in order.
+    /// Returns the struct type of the fields that an iterator yields, in order. The caller must prove that the iterator
+    /// ends.
     ///
     /// # Errors
     ///

@@ -15,11 +15,11 @@ use crate::DType;
 use dtype_base::{DecimalDType, Nullability, PType, VortexError, VortexResult};
 
 impl DType {
-    /// The type of a byte: the non-nullable `U8`.
+    /// The type of a byte: the non-nullable `u8`.
     pub const BYTES: DType = DType::Primitive(PType::U8, Nullability::NonNullable);
 }
 
-/// Returns the non-nullable type of this `PType`.
+/// Returns the non-nullable type of this primitive type.
 impl From<PType> for DType {
     ghost from_gives = { λ ptype d. (tree d ≡ primitive ptype NonNullable) × Valid (tree d) };
 
@@ -28,7 +28,7 @@ impl From<PType> for DType {
     }
 }
 
-/// Returns the name of a `Primitive`.
+/// Returns the primitive type of a `Primitive`.
 ///
 /// # Errors
 ///

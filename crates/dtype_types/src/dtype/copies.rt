@@ -13,11 +13,12 @@ use dtype_base::VortexResult;
 use std::alloc::Global;
 
 impl DType {
-    /// Returns a type equal to this one. It shares what structs, unions and maps in it hold (reference counted).
+    /// Returns a type equal to this one. The fields of a struct, the variants of a union and the parts of a map aren't
+    /// copied: the two types share them, and a reference count is raised.
     ///
     /// # Errors
     ///
-    /// - `OutOfMemory` (0): an allocation fails.
+    /// - `OutOfMemory` (0): an allocation fails, or a reference count is at its maximum.
     #[cycle(copy)]
     pub fn try_clone(&self, alloc: Global) -> VortexResult<DType>
         ensures { Makes result (λ d. tree d ≡ tree self.now) }

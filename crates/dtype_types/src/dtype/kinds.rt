@@ -13,8 +13,8 @@ ghost use Rattle.dtype_types.specs.tree.TreeOf.{tree, children, variant_list, ma
 use crate::{DType, ExtDTypeRef, MapDType, StructFields, UnionVariants};
 use dtype_base::{DecimalDType, PType};
 
-/// The kinds of a type, one for each variant of `DType`. `as_struct_fields` and other calls that want one kind name it in
-/// their conditions.
+/// The kind of a type: one variant for each variant of `DType`, without what it contains. The contracts of calls that
+/// accept only one kind, such as `as_struct_fields`, name it.
 #[derive(Clone, Copy, Debug, PartialEq, Eq)]
 pub enum Kind {
     Null,
@@ -42,7 +42,7 @@ impl Kind {
 }
 
 impl DType {
-    /// Returns the outermost variant.
+    /// Returns the kind of the type, for example `Kind::List` for `list(u8)?`.
     pub fn kind(&self) -> Kind
         ensures { result ≡ kind (tree self.now) }
     {
@@ -63,120 +63,120 @@ impl DType {
         }
     }
 
-    /// Returns whether this is `Bool`.
+    /// Returns whether the type is a `Bool`.
     pub fn is_boolean(&self) -> bool
         ensures { IsTrue result ↔ (kind (tree self.now) ≡ Kind.Bool) }
     {
         self.kind() == Kind::Bool
     }
 
-    /// Returns whether this is `Primitive`.
+    /// Returns whether the type is a `Primitive`.
     pub fn is_primitive(&self) -> bool
         ensures { IsTrue result ↔ (kind (tree self.now) ≡ Kind.Primitive) }
     {
         self.kind() == Kind::Primitive
     }
 
-    /// Returns whether this is `Decimal`.
+    /// Returns whether the type is a `Decimal`.
     pub fn is_decimal(&self) -> bool
         ensures { IsTrue result ↔ (kind (tree self.now) ≡ Kind.Decimal) }
     {
         self.kind() == Kind::Decimal
     }
 
-    /// Returns whether this is `Utf8`.
+    /// Returns whether the type is a `Utf8`.
     pub fn is_utf8(&self) -> bool
         ensures { IsTrue result ↔ (kind (tree self.now) ≡ Kind.Utf8) }
     {
         self.kind() == Kind::Utf8
     }
 
-    /// Returns whether this is `Binary`.
+    /// Returns whether the type is a `Binary`.
     pub fn is_binary(&self) -> bool
         ensures { IsTrue result ↔ (kind (tree self.now) ≡ Kind.Binary) }
     {
         self.kind() == Kind::Binary
     }
 
-    /// Returns whether this is `List`.
+    /// Returns whether the type is a `List`. A `FixedSizeList` isn't one.
     pub fn is_list(&self) -> bool
         ensures { IsTrue result ↔ (kind (tree self.now) ≡ Kind.List) }
     {
         self.kind() == Kind::List
     }
 
-    /// Returns whether this is `FixedSizeList`.
+    /// Returns whether the type is a `FixedSizeList`.
     pub fn is_fixed_size_list(&self) -> bool
         ensures { IsTrue result ↔ (kind (tree self.now) ≡ Kind.FixedSizeList) }
     {
         self.kind() == Kind::FixedSizeList
     }
 
-    /// Returns whether this is `Map`.
+    /// Returns whether the type is a `Map`.
     pub fn is_map(&self) -> bool
         ensures { IsTrue result ↔ (kind (tree self.now) ≡ Kind.Map) }
     {
         self.kind() == Kind::Map
     }
 
-    /// Returns whether this is `Struct`.
+    /// Returns whether the type is a `Struct`.
     pub fn is_struct(&self) -> bool
         ensures { IsTrue result ↔ (kind (tree self.now) ≡ Kind.Struct) }
     {
         self.kind() == Kind::Struct
     }
 
-    /// Returns whether this is `Union`.
+    /// Returns whether the type is a `Union`.
     pub fn is_union(&self) -> bool
         ensures { IsTrue result ↔ (kind (tree self.now) ≡ Kind.Union) }
     {
         self.kind() == Kind::Union
     }
 
-    /// Returns whether this is `Variant`.
+    /// Returns whether the type is a `Variant`.
     pub fn is_variant(&self) -> bool
         ensures { IsTrue result ↔ (kind (tree self.now) ≡ Kind.Variant) }
     {
         self.kind() == Kind::Variant
     }
 
-    /// Returns whether this is `Extension`, whatever its storage.
+    /// Returns whether the type is an `Extension`, whatever its storage type.
     pub fn is_extension(&self) -> bool
         ensures { IsTrue result ↔ (kind (tree self.now) ≡ Kind.Extension) }
     {
         self.kind() == Kind::Extension
     }
 
-    /// Returns whether this is a `Primitive` of an unsigned integer `PType`.
+    /// Returns whether the type is a `Primitive` of an unsigned integer type.
     pub fn is_unsigned_int(&self) -> bool
         ensures { IsTrue result ↔ IsSomeAnd (primitive_name (tree self.now)) IsUnsigned }
     {
         self.ptype().is_some_and(|ptype| ptype.is_unsigned_int())
     }
 
-    /// Returns whether this is a `Primitive` whose name is a signed integer's.
+    /// Returns whether the type is a `Primitive` of a signed integer type.
     pub fn is_signed_int(&self) -> bool
         ensures { IsTrue result ↔ IsSomeAnd (primitive_name (tree self.now)) IsSigned }
     {
         self.ptype().is_some_and(|ptype| ptype.is_signed_int())
     }
 
-    /// Returns whether this is a `Primitive` whose name is an integer's.
+    /// Returns whether the type is a `Primitive` of an integer type, signed or unsigned.
     pub fn is_int(&self) -> bool
         ensures { IsTrue result ↔ IsSomeAnd (primitive_name (tree self.now)) IsInteger }
     {
         self.ptype().is_some_and(|ptype| ptype.is_int())
     }
 
-    /// Returns whether this is a `Primitive` whose name is a floating-point number's.
+    /// Returns whether the type is a `Primitive` of a floating-point type.
     pub fn is_float(&self) -> bool
         ensures { IsTrue result ↔ IsSomeAnd (primitive_name (tree self.now)) IsFloat }
     {
         self.ptype().is_some_and(|ptype| ptype.is_float())
     }
 
-    /// Returns whether this is `List`, `FixedSizeList`, `Map`, `Struct`, `Union`, `Variant`, or an extension over
-    /// one of these.
+    /// Returns whether the type is a `List`, a `FixedSizeList`, a `Map`, a `Struct`, a `Union` or a `Variant`, or an
+    /// extension whose storage type is one of these.
     #[cycle(nested)]
     pub fn is_nested(&self) -> bool
         ensures { result ≡ is_nested (tree self.now) }
@@ -208,7 +208,7 @@ impl DType {
         }
     }
 
-    /// Returns the name of this primitive type. The condition is that it is a `Primitive`.
+    /// Returns the primitive type of a `Primitive`. The caller must prove that the type is a `Primitive`.
     pub fn as_ptype(&self) -> PType
         requires { kind (tree self.now) ≡ Kind.Primitive }
         ensures { primitive_name (tree self.now) ≡ Some result }
@@ -219,7 +219,7 @@ impl DType {
         }
     }
 
-    /// Returns the precision and scale of a `Decimal`, else `None`.
+    /// Returns the precision and scale of a `Decimal`, or `None` if the type is of another kind.
     pub fn as_decimal_opt(&self) -> Option<&DecimalDType>
         ensures { option_copied result ≡ decimal_of (tree self.now) }
     {
@@ -229,7 +229,7 @@ impl DType {
         }
     }
 
-    /// Returns the element of a `List`, else `None`.
+    /// Returns the element type of a `List`, or `None` if the type is of another kind.
     pub fn as_list_element_opt(&self) -> Option<&DType>
         ensures { shown tree result ≡ list_element (tree self.now) }
     {
@@ -239,7 +239,7 @@ impl DType {
         }
     }
 
-    /// Returns the element of a `FixedSizeList`, else `None`.
+    /// Returns the element type of a `FixedSizeList`, or `None` if the type is of another kind.
     pub fn as_fixed_size_list_element_opt(&self) -> Option<&DType>
         ensures { shown tree result ≡ fixed_size_list_element (tree self.now) }
     {
@@ -249,7 +249,7 @@ impl DType {
         }
     }
 
-    /// Returns the element of a `List` or of a `FixedSizeList`, else `None`.
+    /// Returns the element type of a `List` or of a `FixedSizeList`, or `None` if the type is of another kind.
     pub fn as_any_size_list_element_opt(&self) -> Option<&DType>
         ensures { shown tree result ≡ any_size_list_element (tree self.now) }
     {
@@ -259,7 +259,8 @@ impl DType {
         }
     }
 
-    /// Returns what a `Map` holds, else `None`.
+    /// Returns the key type, the value type and the flag of a `Map` as a `MapDType`, or `None` if the type is of
+    /// another kind.
     pub fn as_map_opt(&self) -> Option<&MapDType>
         ensures { shown map_shown result ≡ map_parts (tree self.now) }
     {
@@ -269,7 +270,7 @@ impl DType {
         }
     }
 
-    /// Returns the fields of a `Struct`, else `None`.
+    /// Returns the fields of a `Struct`, or `None` if the type is of another kind.
     #[tactic(auto, using(crate::proofs::KindLaws::kind_laws))]
     pub fn as_struct_fields_opt(&self) -> Option<&StructFields>
         ensures { shown children result ≡ struct_fields (tree self.now) }
@@ -280,7 +281,7 @@ impl DType {
         }
     }
 
-    /// Returns the variants of a `Union`, else `None`.
+    /// Returns the variants of a `Union`, or `None` if the type is of another kind.
     #[tactic(auto, using(crate::proofs::KindLaws::kind_laws))]
     pub fn as_union_variants_opt(&self) -> Option<&UnionVariants>
         ensures { shown variant_list result ≡ union_variants (tree self.now) }
@@ -291,7 +292,8 @@ impl DType {
         }
     }
 
-    /// Returns the extension of an `Extension`, else `None`.
+    /// Returns the id, the metadata and the storage type of an `Extension` as an `ExtDTypeRef`, or `None` if the type
+    /// is of another kind.
     pub fn as_extension_opt(&self) -> Option<&ExtDTypeRef>
         ensures { shown (λ e. (extension_id e, extension_metadata e, storage_tree e)) result
             ≡ extension_parts (tree self.now) }
@@ -302,7 +304,7 @@ impl DType {
         }
     }
 
-    /// Consumes the type and returns the precision and scale of a `Decimal`, else `None`.
+    /// Consumes the type and returns the precision and scale of a `Decimal`, or `None` if it is of another kind.
     pub fn into_decimal_opt(self) -> Option<DecimalDType>
         ensures { result ≡ decimal_of (tree self) }
     {
@@ -312,7 +314,7 @@ impl DType {
         }
     }
 
-    /// Consumes the type and returns the element of a `List`, else `None`.
+    /// Consumes the type and returns the element type of a `List`, or `None` if it is of another kind.
     pub fn into_list_element_opt(self) -> Option<Box<DType>>
         ensures { option_map (λ b. tree b.value) result ≡ list_element (tree self) }
     {
@@ -322,7 +324,7 @@ impl DType {
         }
     }
 
-    /// Consumes the type and returns the element of a `FixedSizeList`, else `None`.
+    /// Consumes the type and returns the element type of a `FixedSizeList`, or `None` if it is of another kind.
     pub fn into_fixed_size_list_element_opt(self) -> Option<Box<DType>>
         ensures { option_map (λ b. tree b.value) result ≡ fixed_size_list_element (tree self) }
     {
@@ -332,7 +334,8 @@ impl DType {
         }
     }
 
-    /// Consumes the type and returns the element of a `List` or of a `FixedSizeList`, else `None`.
+    /// Consumes the type and returns the element type of a `List` or of a `FixedSizeList`, or `None` if it is of
+    /// another kind.
     pub fn into_any_size_list_element_opt(self) -> Option<Box<DType>>
         ensures { option_map (λ b. tree b.value) result ≡ any_size_list_element (tree self) }
     {
@@ -342,7 +345,8 @@ impl DType {
         }
     }
 
-    /// Consumes the type and returns what a `Map` holds, else `None`.
+    /// Consumes the type and returns the key type, the value type and the flag of a `Map` as a `MapDType`, or `None` if
+    /// it is of another kind.
     pub fn into_map_opt(self) -> Option<MapDType>
         ensures { option_map map_shown result ≡ map_parts (tree self) }
     {
@@ -352,7 +356,7 @@ impl DType {
         }
     }
 
-    /// Consumes the type and returns the fields of a `Struct`, else `None`.
+    /// Consumes the type and returns the fields of a `Struct`, or `None` if it is of another kind.
     #[tactic(auto, using(crate::proofs::KindLaws::struct_fields_some))]
     pub fn into_struct_fields_opt(self) -> Option<StructFields>
         ensures { option_map children result ≡ struct_fields (tree self) }
@@ -363,7 +367,7 @@ impl DType {
         }
     }
 
-    /// Consumes the type and returns the variants of a `Union`, else `None`.
+    /// Consumes the type and returns the variants of a `Union`, or `None` if it is of another kind.
     #[tactic(auto, using(crate::proofs::KindLaws::union_variants_some))]
     pub fn into_union_variants_opt(self) -> Option<UnionVariants>
         ensures { option_map variant_list result ≡ union_variants (tree self) }
@@ -374,7 +378,7 @@ impl DType {
         }
     }
 
-    /// Returns the fields of this struct type. The condition is that it is a `Struct`.
+    /// Returns the fields of a struct type. The caller must prove that the type is a `Struct`.
     #[tactic(auto, using(crate::proofs::KindLaws::kind_laws))]
     pub fn as_struct_fields(&self) -> &StructFields
         requires { kind (tree self.now) ≡ Kind.Struct }
@@ -386,7 +390,7 @@ impl DType {
         }
     }
 
-    /// Consumes this struct type and returns its fields. The condition is that it is a `Struct`.
+    /// Consumes a struct type and returns its fields. The caller must prove that the type is a `Struct`.
     #[tactic(auto, using(crate::proofs::KindLaws::struct_fields_some))]
     pub fn into_struct_fields(self) -> StructFields
         requires { kind (tree self) ≡ Kind.Struct }
@@ -398,7 +402,8 @@ impl DType {
         }
     }
 
-    /// Returns the extension of this type. The condition is that it is an `Extension`.
+    /// Returns the id, the metadata and the storage type of an extension type. The caller must prove that the type is
+    /// an `Extension`.
     pub fn as_extension(&self) -> &ExtDTypeRef
         requires { kind (tree self.now) ≡ Kind.Extension }
         ensures { tree self.now ≡ extension_tree result.now }

@@ -54,12 +54,15 @@ impl MergeRule {
     }
 }
 
-/// The least type that takes the values of both: nullable wherever one of the two is, at every depth, also in a map's
-/// value and in an extension's storage. `None` where the types differ in more than nullability.
+/// Returns the least type of which both types are subsets: it is nullable wherever one of the two is, at every depth,
+/// also in the value type of a map and in the storage type of an extension. Returns `None` if the types differ in more
+/// than nullability.
 ///
-/// Of `{a=i32, b=list(utf8?)}` and `{a=i32?, b=list(utf8)}` it is `{a=i32?, b=list(utf8?)}`. Where one of the two takes
-/// the values of the other already, it is a copy of that one, which shares its fields: so a reader of many files with
-/// one schema doesn't build it again.
+/// For example, merging `{a=i32, b=list(utf8?)}` and `{a=i32?, b=list(utf8)}` returns `{a=i32?, b=list(utf8?)}`.
+/// Merging `i32` and `null` returns `None`, because a column of nulls is of another type.
+///
+/// If one of the two is a subset of the other, then the other is returned as a copy that shares its fields. So a reader
+/// of many files with one schema doesn't build the schema again.
 ///
 /// # Errors
 ///
@@ -76,11 +79,13 @@ pub fn merge_nullability(alloc: Global, a: &DType, b: &DType) -> VortexResult<Op
     Ok(bound_of(alloc, a, b, MergeRule::Either)?)
 }
 
-/// The greatest type whose values are values of both: nullable only where both are, at every depth, also in a map's
-/// value and in an extension's storage. `None` where the types differ in more than nullability.
+/// Returns the greatest type that is a subset of both types: it is nullable only where both are, at every depth, also
+/// in the value type of a map and in the storage type of an extension. Returns `None` if the types differ in more than
+/// nullability.
 ///
-/// Of `{a=i32, b=list(utf8?)}` and `{a=i32?, b=list(utf8)}` it is `{a=i32, b=list(utf8)}`. Where the values of one of
-/// the two are values of the other already, it is a copy of that one, which shares its fields.
+/// For example, intersecting `{a=i32, b=list(utf8?)}` and `{a=i32?, b=list(utf8)}` returns `{a=i32, b=list(utf8)}`.
+///
+/// If one of the two is a subset of the other, then it is returned as a copy that shares its fields.
 ///
 /// # Errors
 ///

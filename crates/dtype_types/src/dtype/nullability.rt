@@ -17,7 +17,8 @@ use dtype_base::{Nullability, VortexResult};
 use std::alloc::Global;
 
 impl DType {
-    /// Returns the outer nullability: nullable for `Null`, the storage's for an extension, else the stored one.
+    /// Returns the outer nullability of the type. `Null` is nullable, and an extension has the outer nullability of its
+    /// storage type. For example, `list(i32?)` is non-nullable, whatever its elements are.
     #[cycle(nullability)]
     pub fn nullability(&self) -> Nullability
         ensures { result ≡ nullability (tree self.now) }
@@ -39,15 +40,15 @@ impl DType {
         }
     }
 
-    /// Returns whether values may be null.
+    /// Returns whether a value of the type may be null: whether the outer nullability is `Nullable`.
     pub fn is_nullable(&self) -> bool
         ensures { IsTrue result ↔ IsNullable (tree self.now) }
     {
         self.nullability().is_nullable()
     }
 
-    /// Returns whether the type can be made non-nullable: false for `Null` and for an extension whose storage can't
-    /// be, else true.
+    /// Returns whether the type can be made non-nullable. `Null` can't be, and an extension can't be if its storage
+    /// type can't be. Every other type can.
     #[cycle(can_be_nonnullable)]
     pub fn can_be_nonnullable(&self) -> bool
         ensures { IsTrue result ↔ CanBeNonNullable (tree self.now) }
@@ -69,7 +70,8 @@ impl DType {
         }
     }
 
-    /// Returns the type made non-nullable. The condition is that it can be (`can_be_nonnullable`).
+    /// Returns the type with its outer nullability set to `NonNullable`. The caller must prove that the type can be
+    /// made non-nullable, which `can_be_nonnullable` tests.
     ///
     /// # Errors
     ///
@@ -81,7 +83,7 @@ impl DType {
         self.with_nullability(alloc, Nullability::NonNullable)
     }
 
-    /// Returns the type made nullable: its values are those of this type, and null.
+    /// Returns the type with its outer nullability set to `Nullable`. Its values are those of this type, and null.
     ///
     /// # Errors
     ///
@@ -94,8 +96,9 @@ impl DType {
         self.with_nullability(alloc, Nullability::Nullable)
     }
 
-    /// Returns the type with another outer nullability; for an extension it is that of its storage. `Null` stays `Null`.
-    /// The condition is that the type can be non-nullable where `n` is `NonNullable` (`can_be_nonnullable`).
+    /// Returns the type with its outer nullability set to `n`. For an extension that of its storage type is set, and
+    /// `Null` stays `Null`. If `n` is `NonNullable`, the caller must prove that the type can be made non-nullable,
+    /// which `can_be_nonnullable` tests.
     ///
     /// # Errors
     ///
@@ -126,7 +129,8 @@ impl DType {
         }
     }
 
-    /// Returns the type with the outer nullability `nullability() | n`: nullable where it was nullable or `n` is.
+    /// Returns the type with the outer nullability `self.nullability() | n`: nullable if the type is nullable or `n` is
+    /// `Nullable`.
     ///
     /// # Errors
     ///

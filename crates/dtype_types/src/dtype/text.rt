@@ -7,7 +7,8 @@ ghost use Rattle.std.specs.Prelude.{Some};
 use crate::DType;
 use std::fmt;
 
-/// Writes the type's kind, what it holds in brackets or braces, and `?` where it is nullable.
+/// Writes the type as text, for example `list(decimal(10,2)?)` or `{id=u64, tags=list(utf8)?}`: the kind, then its
+/// parts in parentheses, brackets or braces, then `?` if it is nullable.
 #[tactic(auto, using(crate::proofs::Texts::type_texts, std::proofs::lemmas::Grind::common_steps))]
 impl fmt::Display for DType {
     ghost use Rattle.dtype_types.specs.texts.Text.{text};

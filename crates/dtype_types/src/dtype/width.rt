@@ -87,14 +87,22 @@ impl DType {
         }
     }
 
-    /// Returns the number of bytes that each value takes, or `None` where a part is of variable width, also under a list
-    /// of size 0. It is 0 for `Null`, 1 for `Bool`, the byte width of a number, that of a decimal's smallest storage type,
-    /// the size times the element's for `FixedSizeList`, the sum of the fields' for `Struct`, and the storage's for an
-    /// extension.
+    /// Returns the number of bytes that each value takes, or `None` if not all values take the same number. They do for
+    /// these types:
+    /// - `Null` takes 0 bytes and `Bool` takes 1 byte.
+    /// - A `Primitive` takes the width of its primitive type.
+    /// - A `Decimal` takes the width of the smallest storage type for its precision.
+    /// - A `FixedSizeList` takes its size times the width of its element.
+    /// - A `Struct` takes the sum of the widths of its fields.
+    /// - An extension takes the width of its storage type.
+    ///
+    /// If the type of an element, of a field or of a storage is of variable width, then so is the whole, even if it is
+    /// the element of a list of size 0.
     ///
     /// # Errors
     ///
-    /// - `WidthOverflow` (19): no part is of variable width, and a part is wider than a `usize` can hold.
+    /// - `WidthOverflow` (19): no part of the type is of variable width, and the width of some part is above
+    ///   `usize::MAX`.
     pub fn element_size(&self) -> VortexResult<Option<usize>>
         ensures ok { MatchResult result
             (λ size. IsSome size ↔ Fixed (tree self.now)) (λ e. e ≡ WidthOverflow) }

@@ -1,7 +1,8 @@
 // SPDX-License-Identifier: Apache-2.0
 // SPDX-FileCopyrightText: Copyright the Vortex contributors
 
-//! What the derived `==` of messages says. Each function's contract is the law, and its body is empty.
+//! The laws of `==` on messages, which is derived: when two messages are equal. Each function's contract is the law,
+//! and its body is empty.
 #![tactic(auto, using(crate::proofs::lemmas::Equality::equality))]
 
 ghost use Rattle.std.specs.Prelude.{◌≡◌};
@@ -14,15 +15,19 @@ use crate::pb::{
     List, Map, Null, PType, Primitive, Struct, Union, Utf8, Variant,
 };
 
-/// Two type messages are equal exactly where their trees are; so are two kinds.
+/// For all messages `a` and `b` of types, `a == b` is true exactly if their trees are the same, and so for all kinds
+/// `a` and `b`. For example, the messages of `list(i32)` and `list(i32?)` aren't equal. A message's tree is what
+/// contracts cite, so with this law a caller can conclude from a test by `==` that two messages are read as the same
+/// type.
 pub fn equal_where_trees_are()
     ensures types { (a b : DType) → Decides (⟦<DType as PartialEq>⟧.eq a b) (message a ≡ message b) }
     ensures kinds { (a b : DtypeType)
         → Decides (⟦<DtypeType as PartialEq>⟧.eq a b) (kind_message a ≡ kind_message b) }
 {}
 
-/// Two messages of one kind that have children are equal exactly where all their fields are, with the children's trees
-/// in place of the children.
+/// For all messages `a` and `b` of one of the kinds that have children, `a == b` is true exactly if all their fields
+/// are equal, where children are compared by their trees. For example, two list messages are equal exactly if their
+/// element types and their flags `nullable` are.
 pub fn equal_where_contents_are()
     ensures lists { (a b : List)
         → Decides (⟦<List as PartialEq>⟧.eq a b) (list_content a ≡ list_content b) }
@@ -38,7 +43,9 @@ pub fn equal_where_contents_are()
         → Decides (⟦<Extension as PartialEq>⟧.eq a b) (extension_content a ≡ extension_content b) }
 {}
 
-/// Two messages of one kind that have no children are equal exactly where they are the same value.
+/// For all messages `a` and `b` of one of the kinds that have no children, and for all numbers of primitive types,
+/// `a == b` is true exactly if `a` and `b` are the same value. For example, two decimal messages are equal exactly if
+/// their precisions, their scales and their flags `nullable` are.
 pub fn equal_where_fields_are()
     ensures nulls { (a b : Null) → Decides (⟦<Null as PartialEq>⟧.eq a b) (a ≡ b) }
     ensures bools { (a b : Bool) → Decides (⟦<Bool as PartialEq>⟧.eq a b) (a ≡ b) }
@@ -53,7 +60,8 @@ pub fn equal_where_fields_are()
     ensures numbers { (a b : PType) → Decides (⟦<PType as PartialEq>⟧.eq a b) (a ≡ b) }
 {}
 
-/// Two messages of paths are equal exactly where they hold the same names, and so are two parts and two names.
+/// For all messages `a` and `b` of paths, `a == b` is true exactly if they contain the same names in the same order.
+/// The same is so of two parts and of two names. For example, the messages of the paths `a.b` and `b.a` aren't equal.
 pub fn paths_equal_where_names_are()
     ensures paths { (a b : FieldPath)
         → Decides (⟦<FieldPath as PartialEq>⟧.eq a b) (part_names a ≡ part_names b) }

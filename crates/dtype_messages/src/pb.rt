@@ -1,8 +1,9 @@
 // SPDX-License-Identifier: Apache-2.0
 // SPDX-FileCopyrightText: Copyright the Vortex contributors
 
-//! The messages, with the fields of the protobuf definition. `DTypeProto` and `FieldPathProto` of `vortex_dtype` read
-//! and write them, and say what a valid message is.
+//! The messages, with the fields of Vortex's protobuf definition. They may contain anything that protobuf allows:
+//! `DTypeProto` and `FieldPathProto` of `vortex_dtype` read them, return an error for those that don't describe a type
+//! or a path, and write them.
 //
 // A contract sees the message of a type as its tree (`message` of `specs/MessageOf`), the other structs as their
 // fields, with a tree for each child, and a path as the names that its parts hold.
@@ -17,15 +18,15 @@ use dtype_base::VortexResult;
 use std::alloc::Global;
 use std::string::String;
 
-/// The message of a type. Two are equal where all fields are, at every depth.
+/// The message of a type. Two messages are equal if all their fields are, at every depth.
 #[derive(Debug, PartialEq, Eq, Drop)]
 #[cycle(message)]
 pub struct DType {
-    /// The kind. Reading a message without one returns `TypeMissing` (24).
+    /// The kind. Reading a message without a kind returns `TypeMissing` (24).
     pub dtype_type: Option<DtypeType>,
 }
 
-/// The thirteen kinds of a type, each with the struct of its name.
+/// The thirteen kinds of a type, each with the struct that contains its fields.
 #[derive(Debug, PartialEq, Eq, Drop)]
 #[cycle(message)]
 pub enum DtypeType {
@@ -57,48 +58,50 @@ pub enum DtypeType {
     Extension(Box<Extension>),
 }
 
-/// The null type.
+/// The null type. It has no fields.
 #[derive(Debug, PartialEq, Eq, Drop)]
 pub struct Null {}
 
 /// Booleans.
 #[derive(Debug, PartialEq, Eq, Drop)]
 pub struct Bool {
-    /// Whether values may be null.
+    /// Whether a value may be null.
     pub nullable: bool,
 }
 
-/// Integers or floats of a primitive type.
+/// Integers or floating-point numbers of a primitive type.
 #[derive(Debug, PartialEq, Eq, Drop)]
 pub struct Primitive {
-    /// A `PType`'s number, 0 to 10. Reading any other number returns `PrimitiveNumber` (25).
+    /// The number of a primitive type, from 0 to 10. Reading any other number returns `PrimitiveNumber` (25).
     pub ptype: i32,
-    /// Whether values may be null.
+    /// Whether a value may be null.
     pub nullable: bool,
 }
 
 /// Decimals of a precision and a scale.
 #[derive(Debug, PartialEq, Eq, Drop)]
 pub struct Decimal {
-    /// The number of digits. Reading accepts 1 to 76.
+    /// The greatest number of decimal digits of a value. Reading a precision that isn't from 1 to 76 returns an error:
+    /// `PrecisionZero` (1), `PrecisionTooLarge` (2), or above 255 `PrecisionRange` (26).
     pub precision: u32,
-    /// The number of digits after the decimal point. Reading accepts -128 to the precision.
+    /// The number of digits after the decimal point. Reading a scale that isn't from -128 to the precision returns an
+    /// error: `ScaleAbovePrecision` (4), above 76 `ScaleTooLarge` (3), or outside -128 to 127 `ScaleRange` (27).
     pub scale: i32,
-    /// Whether values may be null.
+    /// Whether a value may be null.
     pub nullable: bool,
 }
 
 /// UTF-8 strings.
 #[derive(Debug, PartialEq, Eq, Drop)]
 pub struct Utf8 {
-    /// Whether values may be null.
+    /// Whether a value may be null.
     pub nullable: bool,
 }
 
 /// Byte strings.
 #[derive(Debug, PartialEq, Eq, Drop)]
 pub struct Binary {
-    /// Whether values may be null.
+    /// Whether a value may be null.
     pub nullable: bool,
 }
 
@@ -108,7 +111,7 @@ pub struct Binary {
 pub struct List {
     /// The element type. Reading a list without one returns `ListElementMissing` (28).
     pub element_type: Option<Box<DType>>,
-    /// Whether values may be null.
+    /// Whether a value may be null.
     pub nullable: bool,
 }
 
@@ -120,90 +123,93 @@ pub struct FixedSizeList {
     pub element_type: Option<Box<DType>>,
     /// The number of elements of each list.
     pub size: u32,
-    /// Whether values may be null.
+    /// Whether a value may be null.
     pub nullable: bool,
 }
 
-/// Maps: lists of keys, each with a value.
+/// Maps: lists of entries, each a key and a value.
 #[derive(Debug, PartialEq, Eq, Drop)]
 #[cycle(message)]
 pub struct Map {
-    /// The key type. Reading a map without one returns `MapKeyMissing` (30), and with a nullable one
+    /// The key type. Reading a map without a key type returns `MapKeyMissing` (30), and with a nullable one
     /// `MapKeyNullable` (9).
     pub key_type: Option<Box<DType>>,
-    /// The value type. Reading a map without one returns `MapValueMissing` (31).
+    /// The value type. Reading a map without a value type returns `MapValueMissing` (31).
     pub value_type: Option<Box<DType>>,
-    /// Whether the keys are declared to be sorted. Nothing checks it.
+    /// Whether the keys are declared to be sorted. Nothing checks that they are.
     pub keys_sorted: bool,
-    /// Whether values may be null.
+    /// Whether a value may be null.
     pub nullable: bool,
 }
 
-/// A struct: the names of its fields, and their types at the same positions.
+/// Structs: the names of the fields, and at the same positions their types.
 #[derive(Debug, PartialEq, Eq, Drop)]
 #[cycle(message)]
 pub struct Struct {
-    /// The fields' names, in order.
+    /// The names of the fields, in order.
     pub names: Vec<String>,
-    /// The fields' types, in order. Reading more or fewer than names returns `StructLengths` (32).
+    /// The types of the fields, in order. Reading a message with more or fewer types than names returns `StructLengths`
+    /// (32).
     pub dtypes: Vec<DType>,
-    /// Whether values may be null.
+    /// Whether a value may be null.
     pub nullable: bool,
 }
 
-/// A union: the names of its variants, and their types and tags at the same positions.
+/// Unions: the names of the variants, and at the same positions their types and their tags.
 #[derive(Debug, PartialEq, Eq, Drop)]
 #[cycle(message)]
 pub struct Union {
-    /// The variants' names, in order. Reading a union without any returns `UnionEmpty` (12), and one with a name that is
-    /// there twice `UnionNamesRepeat` (15).
+    /// The names of the variants, in order. Reading a union without names returns `UnionEmpty` (12), and one in which a
+    /// name occurs twice returns `UnionNamesRepeat` (15).
     pub names: Vec<String>,
-    /// The variants' types, in order. Reading more or fewer than names returns `UnionTypesLength` (10).
+    /// The types of the variants, in order. Reading a message with more or fewer types than names returns
+    /// `UnionTypesLength` (10).
     pub dtypes: Vec<DType>,
-    /// The variants' tags, in order. Reading a tag that isn't from 0 to 255 returns `TypeIdRange` (33), more or fewer
-    /// tags than names `UnionTagsLength` (11), and a tag that is there twice `UnionTagsRepeat` (13).
+    /// The tags of the variants, in order. Reading a tag that isn't from 0 to 255 returns `TypeIdRange` (33), more or
+    /// fewer tags than names returns `UnionTagsLength` (11), and a tag that occurs twice returns `UnionTagsRepeat`
+    /// (13).
     pub type_ids: Vec<i32>,
-    /// Whether values may be null.
+    /// Whether a value may be null.
     pub nullable: bool,
 }
 
 /// Values that carry their own types.
 #[derive(Debug, PartialEq, Eq, Drop)]
 pub struct Variant {
-    /// Whether values may be null.
+    /// Whether a value may be null.
     pub nullable: bool,
 }
 
-/// An extension type.
+/// Extension types: an id and metadata over a storage type.
 #[derive(Debug, PartialEq, Eq, Drop)]
 #[cycle(message)]
 pub struct Extension {
-    /// The id, by which a session finds the plugin of the extension type.
+    /// The id. A session finds the plugin of the extension type by it.
     pub id: String,
-    /// The storage type. Reading an extension without one returns `StorageMissing` (34).
+    /// The storage type. Reading an extension without a storage type returns `StorageMissing` (34).
     pub storage_dtype: Option<Box<DType>>,
-    /// The metadata. Reading takes missing metadata as empty.
+    /// The metadata. A message without metadata is read as one with empty metadata.
     pub metadata: Option<Vec<u8>>,
 }
 
 /// The message of a field path: its parts, outermost first.
 #[derive(Debug, PartialEq, Eq, Drop)]
 pub struct FieldPath {
-    /// The parts, outermost first. None is the root.
+    /// The parts, outermost first. An empty list stands for the root.
     pub path: Vec<Field>,
 }
 
-/// One step of a path message: always a name, since messages have no element step.
+/// One part of a path message. It is always a name, because messages have no step into the element of a list.
 #[derive(Debug, PartialEq, Eq, Drop)]
 pub struct Field {
-    /// The kind. Reading a part without one returns `PathPartMissing` (36).
+    /// The kind. Reading a part without a kind returns `PathPartMissing` (36).
     pub field_type: Option<FieldType>,
 }
 
-/// What a step of a path message is.
+/// The kind of a part of a path message.
 #[derive(Debug, PartialEq, Eq, Drop)]
 pub enum FieldType {
-    /// The field of this name.
+    /// A step to the field with this name.
     Name(String),
 }
 
@@ -226,16 +232,16 @@ pub enum PType {
     I32,
     /// 7: signed 64-bit integers.
     I64,
-    /// 8: 16-bit floats.
+    /// 8: 16-bit floating-point numbers.
     F16,
-    /// 9: 32-bit floats.
+    /// 9: 32-bit floating-point numbers.
     F32,
-    /// 10: 64-bit floats.
+    /// 10: 64-bit floating-point numbers.
     F64,
 }
 
 impl PType {
-    /// Returns the primitive type of this number, or `None` where it is not 0 to 10.
+    /// Returns the primitive type with this number, or `None` if the number isn't from 0 to 10.
     pub fn from_number(number: i32) -> Option<PType>
         ensures { option_map plain result ≡ ptype_at number }
     {
@@ -274,11 +280,8 @@ impl PType {
         }
     }
 
-    /// Returns an equal copy.
-    ///
-    /// # Errors
-    ///
-    /// None: it holds nothing on the heap.
+    /// Returns an equal copy, and never an error. It doesn't allocate, so `_alloc` isn't used: the signature takes it
+    /// so that messages of all kinds are copied by calls with the same parameters.
     pub fn try_clone(&self, _alloc: Global) -> VortexResult<PType>
         ensures { result ≡ Ok self.now }
     {
@@ -327,11 +330,8 @@ impl From<dtype_base::PType> for PType {
 }
 
 impl Null {
-    /// Returns an equal copy.
-    ///
-    /// # Errors
-    ///
-    /// None: it holds nothing on the heap.
+    /// Returns an equal copy, and never an error. It doesn't allocate, so `_alloc` isn't used: the signature takes it
+    /// so that messages of all kinds are copied by calls with the same parameters.
     pub fn try_clone(&self, _alloc: Global) -> VortexResult<Null>
         ensures { result ≡ Ok self.now }
     {
@@ -340,11 +340,8 @@ impl Null {
 }
 
 impl Bool {
-    /// Returns an equal copy.
-    ///
-    /// # Errors
-    ///
-    /// None: it holds nothing on the heap.
+    /// Returns an equal copy, and never an error. It doesn't allocate, so `_alloc` isn't used: the signature takes it
+    /// so that messages of all kinds are copied by calls with the same parameters.
     pub fn try_clone(&self, _alloc: Global) -> VortexResult<Bool>
         ensures { result ≡ Ok self.now }
     {
@@ -355,11 +352,8 @@ impl Bool {
 }
 
 impl Primitive {
-    /// Returns an equal copy.
-    ///
-    /// # Errors
-    ///
-    /// None: it holds nothing on the heap.
+    /// Returns an equal copy, and never an error. It doesn't allocate, so `_alloc` isn't used: the signature takes it
+    /// so that messages of all kinds are copied by calls with the same parameters.
     pub fn try_clone(&self, _alloc: Global) -> VortexResult<Primitive>
         ensures { result ≡ Ok self.now }
     {
@@ -371,11 +365,8 @@ impl Primitive {
 }
 
 impl Decimal {
-    /// Returns an equal copy.
-    ///
-    /// # Errors
-    ///
-    /// None: it holds nothing on the heap.
+    /// Returns an equal copy, and never an error. It doesn't allocate, so `_alloc` isn't used: the signature takes it
+    /// so that messages of all kinds are copied by calls with the same parameters.
     pub fn try_clone(&self, _alloc: Global) -> VortexResult<Decimal>
         ensures { result ≡ Ok self.now }
     {
@@ -388,11 +379,8 @@ impl Decimal {
 }
 
 impl Utf8 {
-    /// Returns an equal copy.
-    ///
-    /// # Errors
-    ///
-    /// None: it holds nothing on the heap.
+    /// Returns an equal copy, and never an error. It doesn't allocate, so `_alloc` isn't used: the signature takes it
+    /// so that messages of all kinds are copied by calls with the same parameters.
     pub fn try_clone(&self, _alloc: Global) -> VortexResult<Utf8>
         ensures { result ≡ Ok self.now }
     {
@@ -403,11 +391,8 @@ impl Utf8 {
 }
 
 impl Binary {
-    /// Returns an equal copy.
-    ///
-    /// # Errors
-    ///
-    /// None: it holds nothing on the heap.
+    /// Returns an equal copy, and never an error. It doesn't allocate, so `_alloc` isn't used: the signature takes it
+    /// so that messages of all kinds are copied by calls with the same parameters.
     pub fn try_clone(&self, _alloc: Global) -> VortexResult<Binary>
         ensures { result ≡ Ok self.now }
     {
@@ -418,11 +403,8 @@ impl Binary {
 }
 
 impl Variant {
-    /// Returns an equal copy.
-    ///
-    /// # Errors
-    ///
-    /// None: it holds nothing on the heap.
+    /// Returns an equal copy, and never an error. It doesn't allocate, so `_alloc` isn't used: the signature takes it
+    /// so that messages of all kinds are copied by calls with the same parameters.
     pub fn try_clone(&self, _alloc: Global) -> VortexResult<Variant>
         ensures { result ≡ Ok self.now }
     {

@@ -8,9 +8,9 @@ ghost use Rattle.dtype_base.specs.Primitives.{ptype_row, IsUnsigned};
 use crate::NativePType;
 use num_traits::PrimInt;
 
-/// A native integer type.
+/// A native integer type: one of `u8` to `u64` and `i8` to `i64`.
 pub trait IntegerPType: NativePType + PrimInt {
-    /// Returns the greatest value of the type.
+    /// Returns the greatest value of the type as a `u64`, for example 255 for `u8` and 127 for `i8`.
     final fn max_value_as_u64() -> u64
         ensures value { result ≡ (ptype_row Self.PTYPE).greatest }
         ensures greatest { pos result ≡ Self.high }
@@ -22,19 +22,19 @@ pub trait IntegerPType: NativePType + PrimInt {
     ghost greatest_law: { Self.high ≡ pos (ptype_row Self.PTYPE).greatest };
 }
 
-/// A native unsigned integer type.
+/// A native unsigned integer type: one of `u8` to `u64`.
 pub trait UnsignedPType: IntegerPType {
     ghost unsigned_law: { IsUnsigned Self.PTYPE };
 }
 
-/// A native integer type for the offsets of a list that is being built: `u32`, `i32`, `u64` or `i64`.
+/// A native integer type for the offsets of a list while it is built: `u32`, `i32`, `u64` or `i64`.
 pub trait OffsetBuilderPType: IntegerPType {
     ghost wide_law: { 4 ≤ (ptype_row Self.PTYPE).bytes };
 }
 
-/// A native type whose bits are stored in the unsigned type of the same width.
+/// A native type with the unsigned type of the same width in which its bits can be stored.
 pub trait PhysicalPType: NativePType {
-    /// The unsigned type of the same width.
+    /// The unsigned type of the same width, for example `u32` for `i32`.
     type Physical: UnsignedPType;
 
     ghost physical_law: { Self.Physical.PTYPE ≡ (ptype_row Self.PTYPE).unsigned };

@@ -1,17 +1,21 @@
 // SPDX-License-Identifier: Apache-2.0
 // SPDX-FileCopyrightText: Copyright the Vortex contributors
 
-//! The native Rust types behind primitive types and decimals: their bytes, their order, their bounds and their logical
-//! types.
+//! The native Rust types behind primitive types and decimals: how their values are written as bytes, how they are
+//! ordered, which bounds they have, and which logical types they stand for.
 //!
-//! Of each native integer it is proved that its primitive type, its width and its range are those of the table of
-//! primitive types, that its bytes are little-endian and are read back, and that it is compared as a whole number; of
-//! each native decimal, that its bounds are those of its digits; and that a `match_each_..` function calls the
-//! visitor's method for the primitive type that it is given.
+//! For each native integer type it is proved that its primitive type, its width and its range are those of the table of
+//! primitive types, that its values are written as little-endian bytes and read back from them, and that they are
+//! compared as whole numbers. For each native decimal type it is proved that its bounds are the greatest and the least
+//! number of so many digits. For each `match_each_..` function it is proved that it calls the visitor's method for the
+//! primitive type that it is given.
 //!
-//! Begin with `NativePType`, `ToBytes` and `PTypeVisitor`, then `NativeDecimalType` and `PrecisionScale`, and
-//! `NativeDType`. The definitions are in `specs/`: `LittleEndian`, `Offsets`, `Digits`, `NativeTypes`;
-//! `NumberLaws` has the proofs of the traits' laws that the impls cite.
+//! Begin with `NativePType`, `ToBytes` and `PTypeVisitor`. Then read `NativeDecimalType`, `PrecisionScale` and
+//! `NativeDType`.
+//!
+//! The definitions are in `specs/`: `LittleEndian` (bytes), `Offsets` (the narrowest type for an offset), `Digits`
+//! (numbers of so many digits) and `NativeTypes` (the type for which a native type stands). `NumberLaws` contains the
+//! proofs of the traits' laws that the impls cite.
 #![tactic(auto)]
 
 mod integer_ptype;

@@ -12,28 +12,29 @@ ghost use Rattle.dtype_native.specs.NumberLaws.{digits_fit};
 use dtype_base::DecimalType;
 use num_traits::{PrimInt, Signed, cast};
 
-/// A native integer type that stores the values of decimals: the unscaled integers.
+/// A native integer type that stores decimal values as integers, without the decimal point: `i8`, `i16`, `i32`, `i64`
+/// or `i128`.
 pub trait NativeDecimalType: PrimInt + Signed {
-    /// The decimal storage type of this native type.
+    /// The storage type for which this native type stands, for example `DecimalType::I32` for `i32`.
     const DECIMAL_TYPE: DecimalType;
 
     ghost DECIMAL_TYPE: { DecimalType };
 
-    /// The number of decimal digits that always fit.
+    /// The greatest number of decimal digits of which every number fits the type, for example 9 for `i32`.
     const MAX_PRECISION: u8;
 
     ghost MAX_PRECISION: { ℕ };
 
-    /// The greatest scale, equal to `MAX_PRECISION`.
+    /// The greatest scale, which is equal to `MAX_PRECISION`.
     const MAX_SCALE: i8;
 
     ghost MAX_SCALE: { ℤ };
 
-    /// The name of the type, which is the text of `DECIMAL_TYPE`.
+    /// The text of the storage type, for example `i32`.
     const NAME: &'static str;
 
-    /// Returns the greatest number of that many decimal digits, `10^precision - 1`; 0 for no digits. The condition is that
-    /// `precision` is at most `MAX_PRECISION`.
+    /// Returns the greatest number of that many decimal digits, which is `10^precision - 1`. For example, it is 999 for
+    /// a precision of 3, and 0 for a precision of 0. The caller must prove that `precision` is at most `MAX_PRECISION`.
     #[tactic(auto, using(crate::proofs::Powers::power_below, crate::proofs::Powers::below_power))]
     final fn max_by_precision(precision: u8) -> Self
         requires { precision ≤ MAX_PRECISION }
@@ -42,8 +43,9 @@ pub trait NativeDecimalType: PrimInt + Signed {
         one_below(power_of_ten::<Self>(u32::from(precision)))
     }
 
-    /// Returns the least number of that many decimal digits, `-(10^precision - 1)`; 0 for no digits. The condition is that
-    /// `precision` is at most `MAX_PRECISION`.
+    /// Returns the least number of that many decimal digits, which is `-(10^precision - 1)`. For example, it is -999
+    /// for a precision of 3, and 0 for a precision of 0. The caller must prove that `precision` is at most
+    /// `MAX_PRECISION`.
     #[tactic(auto, using(crate::proofs::Powers::above_opposite))]
     final fn min_by_precision(precision: u8) -> Self
         requires { precision ≤ MAX_PRECISION }

@@ -15,12 +15,12 @@ use dtype_base::{Nullability, VortexResult};
 use dtype_types::DType;
 use std::alloc::Global;
 
-/// A native type whose values are those of one logical type.
+/// A native type that stands for one logical type. For example, `Vec<Option<i32>>` stands for `list(i32?)`.
 pub trait NativeDType {
     // The tree of the logical type.
     ghost native_tree: { Tree };
 
-    /// Returns the logical type. It is non-nullable, except for an `Option`.
+    /// Returns the logical type. It is nullable exactly if the native type is an `Option`.
     ///
     /// # Errors
     ///
@@ -132,7 +132,7 @@ impl NativeDType for &[u8] {
     }
 }
 
-/// An `Option` is the type of `T` made nullable.
+/// An `Option<T>` stands for the type of `T`, made nullable.
 impl<T: NativeDType> NativeDType for Option<T> {
     ghost native_tree = { nullable_form T.native_tree };
 
@@ -142,7 +142,7 @@ impl<T: NativeDType> NativeDType for Option<T> {
     }
 }
 
-/// A `Vec` is a non-nullable list of `T`.
+/// A `Vec<T>` stands for a non-nullable list of the type of `T`.
 impl<T: NativeDType> NativeDType for Vec<T> {
     ghost native_tree = { list T.native_tree NonNullable };
 

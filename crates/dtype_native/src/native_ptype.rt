@@ -17,28 +17,29 @@ use num_traits::{Num, NumCast};
 use std::cmp::Ordering;
 use std::fmt::Display;
 
-/// The native type of a primitive type. Here these are the eight integer types; floats have no native type.
+/// The native type of a primitive type. There are eight: the integer types `u8` to `u64` and `i8` to `i64`. The
+/// floating-point types have no native type here.
 pub trait NativePType: Copy + Default + Display + Ord + Num + NumCast + ToBytes + TryFromBytes {
-    /// The primitive type.
+    /// The primitive type for which the native type stands.
     const PTYPE: PType;
 
     ghost PTYPE: { PType };
 
-    /// Returns false: an integer is always a number.
+    /// Returns `false`, because every integer is a number.
     final fn is_nan(self) -> bool
         ensures { IsFalse result }
     {
         false
     }
 
-    /// Returns false: an integer is never infinite.
+    /// Returns `false`, because no integer is infinite.
     final fn is_infinite(self) -> bool
         ensures { IsFalse result }
     {
         false
     }
 
-    /// Returns how the two numbers compare.
+    /// Returns how the two numbers compare: `Less`, `Equal` or `Greater`.
     final fn total_compare(self, other: Self) -> Ordering
         ensures { result ≡ int_cmp (Self.value self) (Self.value other) }
     {

@@ -12,8 +12,8 @@ use std::cmp::Ordering;
 use std::fmt;
 use std::marker::{Model, PhantomData};
 
-/// A decimal type whose values fit the native type `D`: its precision is from 1 to `D::MAX_PRECISION`, and its scale from
-/// -128 to the precision.
+/// A decimal type whose values fit the native type `D`. Its precision is from 1 to `D::MAX_PRECISION`, and its scale is
+/// from -128 to the precision. For example, `PrecisionScale<i32>` has precisions from 1 to 9.
 #[derive_where(Clone, Copy, Debug, PartialEq, Eq, Hash)]
 pub struct PrecisionScale<D: NativeDecimalType> {
     precision: u8,
@@ -32,7 +32,7 @@ impl<D: NativeDecimalType> Model for PrecisionScale<D> {
 }
 
 impl<D: NativeDecimalType> PrecisionScale<D> {
-    /// Returns the decimal type of this precision and scale. Negative scales are accepted.
+    /// Returns the decimal type of this precision and scale. Every negative scale, down to -128, is accepted.
     ///
     /// # Errors
     ///
@@ -52,7 +52,7 @@ impl<D: NativeDecimalType> PrecisionScale<D> {
         Ok(Self::new_unchecked(precision, scale))
     }
 
-    /// Returns the decimal type of this precision and scale. The condition is that `try_new` accepts them.
+    /// Returns the decimal type of this precision and scale. The caller must prove that `try_new` accepts them.
     pub fn new(precision: u8, scale: i8) -> Self
         requires { IsDecimalWithin D.MAX_PRECISION precision scale }
         ensures { result ≡ record { precision = precision; scale = scale } }
@@ -60,7 +60,8 @@ impl<D: NativeDecimalType> PrecisionScale<D> {
         Self::new_unchecked(precision, scale)
     }
 
-    /// The same as `new`, under the same condition, which the checker proves at each call.
+    /// Returns the decimal type of this precision and scale. It is the same as `new`: its caller too must prove that
+    /// `try_new` accepts them.
     pub fn new_unchecked(precision: u8, scale: i8) -> Self
         requires { IsDecimalWithin D.MAX_PRECISION precision scale }
         ensures { result ≡ record { precision = precision; scale = scale } }
@@ -72,7 +73,7 @@ impl<D: NativeDecimalType> PrecisionScale<D> {
         }
     }
 
-    /// Returns the number of decimal digits, from 1 to `D::MAX_PRECISION`.
+    /// Returns the greatest number of decimal digits of a value, from 1 to `D::MAX_PRECISION`.
     pub fn precision(&self) -> u8
         ensures value { result ≡ self.now.precision }
         ensures within { IsDecimalWithin D.MAX_PRECISION self.now.precision self.now.scale }
@@ -80,8 +81,8 @@ impl<D: NativeDecimalType> PrecisionScale<D> {
         self.precision
     }
 
-    /// Returns the number of digits after the decimal point, at most the precision. Negative where the values are multiples
-    /// of a power of ten.
+    /// Returns the number of digits after the decimal point, from -128 to the precision. If it is negative, values are
+    /// multiples of a power of ten.
     pub fn scale(&self) -> i8
         ensures value { result ≡ self.now.scale }
         ensures within { IsDecimalWithin D.MAX_PRECISION self.now.precision self.now.scale }
@@ -89,7 +90,8 @@ impl<D: NativeDecimalType> PrecisionScale<D> {
         self.scale
     }
 
-    /// Returns whether the value has at most as many digits as the precision.
+    /// Returns whether the value has at most as many decimal digits as the precision, of either sign. For example, with
+    /// a precision of 3 it is true of -999 and false of 1000.
     pub fn is_valid(&self, value: D) -> bool
         ensures { IsTrue result ↔ HasDigits self.now.precision (D.value value) }
     {
@@ -127,7 +129,7 @@ impl<D: NativeDecimalType> From<PrecisionScale<D>> for DecimalDType {
     }
 }
 
-/// The same decimal type, with its values in `D`.
+/// Returns the same precision and scale as a decimal type over `D`.
 ///
 /// # Errors
 ///

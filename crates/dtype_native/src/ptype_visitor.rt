@@ -9,8 +9,10 @@ ghost use Rattle.dtype_native.specs.Offsets.{AnswersLeast};
 
 use dtype_base::PType;
 
-/// What to do for each primitive type: a method for each native integer type, and one for all floats, which is passed
-/// the type. It takes the place of the Rust's `match_each_..` macros, whose body is generic over the native type.
+/// What to do for each primitive type: one method for each native integer type, and one method for the three
+/// floating-point types, which is passed the type. A caller implements the trait and passes the visitor to a
+/// `match_each_..` function. It takes the place of the Rust library's `match_each_..` macros, whose body is generic
+/// over the native type.
 pub trait PTypeVisitor: Sized {
     /// What each method returns.
     type Answer;
@@ -19,44 +21,45 @@ pub trait PTypeVisitor: Sized {
     // what they return.
     ghost answers: { Self → PType → Self.Answer → Type 0 } = { λ _ _ _. ⊤ };
 
-    /// The answer for `u8`.
+    /// Returns the visitor's answer for `u8`.
     fn visit_u8(self) -> Self::Answer
         ensures { answers self U8 result };
 
-    /// The answer for `u16`.
+    /// Returns the visitor's answer for `u16`.
     fn visit_u16(self) -> Self::Answer
         ensures { answers self U16 result };
 
-    /// The answer for `u32`.
+    /// Returns the visitor's answer for `u32`.
     fn visit_u32(self) -> Self::Answer
         ensures { answers self U32 result };
 
-    /// The answer for `u64`.
+    /// Returns the visitor's answer for `u64`.
     fn visit_u64(self) -> Self::Answer
         ensures { answers self U64 result };
 
-    /// The answer for `i8`.
+    /// Returns the visitor's answer for `i8`.
     fn visit_i8(self) -> Self::Answer
         ensures { answers self I8 result };
 
-    /// The answer for `i16`.
+    /// Returns the visitor's answer for `i16`.
     fn visit_i16(self) -> Self::Answer
         ensures { answers self I16 result };
 
-    /// The answer for `i32`.
+    /// Returns the visitor's answer for `i32`.
     fn visit_i32(self) -> Self::Answer
         ensures { answers self I32 result };
 
-    /// The answer for `i64`.
+    /// Returns the visitor's answer for `i64`.
     fn visit_i64(self) -> Self::Answer
         ensures { answers self I64 result };
 
-    /// Is called with `F16`, `F32` or `F64`. The contract says nothing of other types.
+    /// Returns the visitor's answer for `F16`, `F32` or `F64`. If `ptype` is another type, the contract says nothing of
+    /// the result.
     fn visit_float(self, ptype: PType) -> Self::Answer
         ensures { IsFloat ptype → answers self ptype result };
 }
 
-/// Returns what the visitor answers for this primitive type.
+/// Calls the visitor's method for this primitive type and returns its answer.
 pub fn match_each_native_ptype<V: PTypeVisitor>(ptype: PType, visitor: V) -> V::Answer
     ensures { V.answers visitor ptype result }
 {
@@ -71,7 +74,8 @@ pub fn match_each_native_ptype<V: PTypeVisitor>(ptype: PType, visitor: V) -> V::
     }
 }
 
-/// Returns what the visitor answers for this integer type. The condition is that it is one.
+/// Calls the visitor's method for this integer type and returns its answer. The caller must prove that `ptype` is an
+/// integer type.
 pub fn match_each_integer_ptype<V: PTypeVisitor>(ptype: PType, visitor: V) -> V::Answer
     requires { IsInteger ptype }
     ensures { V.answers visitor ptype result }
@@ -83,7 +87,8 @@ pub fn match_each_integer_ptype<V: PTypeVisitor>(ptype: PType, visitor: V) -> V:
     }
 }
 
-/// Returns what the visitor answers for this unsigned integer type. The condition is that it is one.
+/// Calls the visitor's method for this unsigned integer type and returns its answer. The caller must prove that `ptype`
+/// is an unsigned integer type.
 pub fn match_each_unsigned_integer_ptype<V: PTypeVisitor>(ptype: PType, visitor: V) -> V::Answer
     requires { IsUnsigned ptype }
     ensures { V.answers visitor ptype result }
@@ -97,7 +102,8 @@ pub fn match_each_unsigned_integer_ptype<V: PTypeVisitor>(ptype: PType, visitor:
     }
 }
 
-/// Returns what the visitor answers for this signed integer type. The condition is that it is one.
+/// Calls the visitor's method for this signed integer type and returns its answer. The caller must prove that `ptype`
+/// is a signed integer type.
 pub fn match_each_signed_integer_ptype<V: PTypeVisitor>(ptype: PType, visitor: V) -> V::Answer
     requires { IsSigned ptype }
     ensures { V.answers visitor ptype result }
@@ -111,7 +117,8 @@ pub fn match_each_signed_integer_ptype<V: PTypeVisitor>(ptype: PType, visitor: V
     }
 }
 
-/// Returns what the visitor answers for this float type. The condition is that it is one.
+/// Calls the visitor's `visit_float` with this floating-point type and returns its answer. The caller must prove that
+/// `ptype` is a floating-point type.
 pub fn match_each_float_ptype<V: PTypeVisitor>(ptype: PType, visitor: V) -> V::Answer
     requires { IsFloat ptype }
     ensures { V.answers visitor ptype result }
@@ -119,8 +126,8 @@ pub fn match_each_float_ptype<V: PTypeVisitor>(ptype: PType, visitor: V) -> V::A
     visitor.visit_float(ptype)
 }
 
-/// Returns what the visitor answers for this primitive type. The condition is that it isn't `F16`, the one type without
-/// SIMD lanes.
+/// Calls the visitor's method for this primitive type and returns its answer. The caller must prove that `ptype` isn't
+/// `F16`, the only primitive type without SIMD lanes.
 pub fn match_each_native_simd_ptype<V: PTypeVisitor>(ptype: PType, visitor: V) -> V::Answer
     requires { ptype ≢ F16 }
     ensures { V.answers visitor ptype result }
@@ -128,7 +135,8 @@ pub fn match_each_native_simd_ptype<V: PTypeVisitor>(ptype: PType, visitor: V) -
     match_each_native_ptype(ptype, visitor)
 }
 
-/// Returns what the visitor answers for the narrowest of `u8`, `u16`, `u32` and `u64` that holds the offset `n`.
+/// Calls the visitor's method for the narrowest of `u8`, `u16`, `u32` and `u64` that the offset `n` fits, and returns
+/// its answer. For example, it calls `visit_u16` for 256.
 pub fn match_smallest_offset_type<V: PTypeVisitor>(n: usize, visitor: V) -> V::Answer
     ensures { AnswersLeast (V.answers visitor) (U8 ∷ U16 ∷ U32 ∷ U64 ∷ []) n result }
 {
@@ -143,8 +151,8 @@ pub fn match_smallest_offset_type<V: PTypeVisitor>(n: usize, visitor: V) -> V::A
     }
 }
 
-/// Returns what the visitor answers for the narrower of `u32` and `u64` that holds the offset `n`. List offsets are
-/// stored in one of these two.
+/// Calls the visitor's method for the narrower of `u32` and `u64` that the offset `n` fits, and returns its answer. The
+/// offsets of a list are stored in one of these two types.
 pub fn match_smallest_list_offset_type<V: PTypeVisitor>(n: usize, visitor: V) -> V::Answer
     ensures { AnswersLeast (V.answers visitor) (U32 ∷ U64 ∷ []) n result }
 {

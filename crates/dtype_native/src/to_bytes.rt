@@ -10,9 +10,9 @@ ghost use Rattle.dtype_native.specs.NumberLaws.{injective, signed_injective};
 
 use num_traits::Number;
 
-/// A number that is written as a fixed number of bytes, little-endian.
+/// A number that is written as a fixed number of bytes, the least significant byte first.
 pub trait ToBytes: Number {
-    /// An array of the type's width in bytes.
+    /// An array of as many bytes as the type is wide.
     type Bytes: Copy;
 
     // The width in bytes.
@@ -21,7 +21,8 @@ pub trait ToBytes: Number {
     // The items of an array, in order.
     ghost bytes_in: { Self.Bytes → List ℕ };
 
-    /// Returns the number's bytes, little-endian and in two's complement.
+    /// Returns the bytes of the number, the least significant first. A negative number is written in two's complement:
+    /// -2 as an `i16` is the bytes 254, 255.
     fn to_le_bytes(&self) -> Self::Bytes
         ensures written { bytes_in result ≡ little_endian byte_width (Self.value self.now) }
         ensures count { length (bytes_in result) ≡ byte_width }

@@ -10,13 +10,13 @@ ghost use Rattle.dtype_native.specs.LittleEndian.{ReadsBytes};
 use crate::ToBytes;
 use dtype_base::{VortexError, VortexResult};
 
-/// A number that is read from its bytes, little-endian.
+/// A number that is read from its bytes, the least significant byte first.
 pub trait TryFromBytes: ToBytes {
-    /// Returns the number with these bytes, little-endian and in two's complement.
+    /// Returns the number with these bytes, the least significant first. Negative numbers are in two's complement.
     ///
     /// # Errors
     ///
-    /// - `BytesLength` (8): the number of bytes isn't the type's width.
+    /// - `BytesLength` (8): there are more or fewer bytes than the type is wide.
     fn try_from_le_bytes(bytes: &[u8]) -> VortexResult<Self>
         ensures { ReadsBytes Self.byte_width Self.value Self.fits bytes.now result };
 }

@@ -13,8 +13,9 @@ use crate::child_iter::ChildIter;
 use crate::trie::Trie;
 use dtype_base::FieldName;
 
-/// An iterator over the names by which paths of a set go on from a cursor, each with the cursor after it, in no promised
-/// order. In contracts it is the list of the names that are left, each with what is asked for after it.
+/// An iterator over the names with which paths of a set continue after a cursor. It returns each name once, with the
+/// cursor after that name, in no particular order. In contracts it is the list of the names that are left, each with
+/// the paths that the cursor after it contains.
 #[derive(Drop)]
 pub struct CursorNames<'a> {
     trie: &'a Trie,

@@ -15,10 +15,11 @@ ghost use Rattle.dtype_paths.specs.declared.field.Field.TheVariants.{ElementType
 use crate::trie::Trie;
 use crate::{CursorNames, Field};
 
-/// A place in a set of paths that its reader steps into: what the set asks for after some steps.
+/// A place in a set of paths: it stands for what the paths of the set are after some steps. A reader that descends into
+/// a type steps a cursor along, and so never looks at paths that lead elsewhere.
 ///
-/// Of the set `a.b`, `a.c.d`, `x` a cursor after the step `a` asks for `b` and `c.d`. It borrows the set and is copied
-/// freely; none of its calls allocates.
+/// For example, in the set of `a.b`, `a.c.d` and `x` the cursor after the step `a` contains the paths `b` and `c.d`. A
+/// cursor borrows the set and is `Copy`. No call of a cursor allocates.
 #[derive(Clone, Copy)]
 pub struct FieldPathCursor<'a> {
     trie: &'a Trie,
@@ -49,7 +50,8 @@ impl<'a> FieldPathCursor<'a> {
         }
     }
 
-    /// Returns whether a path of the set ends here: then everything below is wanted.
+    /// Returns whether a path of the set ends at this cursor. That path is in the set, so everything below it is
+    /// wanted.
     #[tactic(auto, unfolding(crate::specs::Cursors::asks))]
     pub fn is_end(&self) -> bool
         ensures { result ≡ asks self.now [] }
@@ -57,7 +59,7 @@ impl<'a> FieldPathCursor<'a> {
         self.trie.is_terminal(self.node_index)
     }
 
-    /// Returns whether the set asks for nothing here. Of a set that isn't empty no cursor is.
+    /// Returns whether the cursor contains no path. This is true only of the cursor at the root of an empty set.
     #[tactic(auto, unfolding(crate::specs::Cursors::asks))]
     pub fn is_empty(&self) -> bool
         ensures nothing { IsTrue result ↔ (asks self.now ≡ no_path) }
@@ -67,7 +69,8 @@ impl<'a> FieldPathCursor<'a> {
         self.trie.is_empty_at(self.node_index)
     }
 
-    /// Returns the cursor after one more step, or `None` exactly where no path of the set goes on with it.
+    /// Returns the cursor after one more step, or `None` if no path of the cursor begins with that step. For example,
+    /// for a cursor that contains `b` and `c.d` the step `c` returns a cursor that contains `d`.
     pub fn step(&self, step: &Field) -> Option<Self>
         ensures paths { asks_if result ≡ after_step step.now (asks self.now) }
         ensures none { (result ≡ None) ↔ (after_step step.now (asks self.now) ≡ no_path) }
@@ -82,7 +85,8 @@ impl<'a> FieldPathCursor<'a> {
         })
     }
 
-    /// Returns the cursor after a step into the element, or `None` exactly where no path of the set goes on with it.
+    /// Returns the cursor after a step to the element of a list, or `None` if no path of the cursor begins with that
+    /// step.
     pub fn element(&self) -> Option<Self>
         ensures paths { asks_if result ≡ after_step ElementType (asks self.now) }
         ensures none { (result ≡ None) ↔ (after_step ElementType (asks self.now) ≡ no_path) }
@@ -93,8 +97,8 @@ impl<'a> FieldPathCursor<'a> {
         self.step(&Field::ElementType)
     }
 
-    /// Returns an iterator over the names by which paths of the set go on from here, each once, with the cursor after it, in
-    /// no promised order. A `usize` counts them.
+    /// Returns an iterator over the names with which paths of the cursor begin: each name once, with the cursor after
+    /// it, in no particular order. There are as many as `name_count` returns.
     #[tactic(auto, unfolding(crate::specs::Cursors::asks))]
     pub fn names(&self) -> CursorNames<'a>
         ensures names { AreNames (asks self.now) (names_left result) }
@@ -108,7 +112,8 @@ impl<'a> FieldPathCursor<'a> {
         CursorNames::new(self.trie, self.node_index)
     }
 
-    /// Returns the number of names by which paths of the set go on from here. It is known without a look at them.
+    /// Returns the number of different names with which paths of the cursor begin. The number is stored, so the call
+    /// doesn't visit the names.
     #[tactic(auto, unfolding(crate::specs::Cursors::asks))]
     pub fn name_count(&self) -> usize
         ensures { (ns : List (List ℕ × PathPredicate)) × AreNames (asks self.now) ns × (length ns ≡ result) }

@@ -31,7 +31,8 @@ use std::{fmt, vec};
 
 /// A set of paths, stored as a trie.
 ///
-/// After `a.b`, `x`, `a` and `a.c` are inserted it has four members. The fewest that cover them are `a` and `x`.
+/// For example, after `a.b`, `x`, `a` and `a.c` are inserted the set has four paths. The set covers every path of which
+/// one of the four is a prefix, and the fewest paths that cover the same are `a` and `x`.
 #[derive(Drop)]
 pub struct FieldPathSet {
     alloc: Global,
@@ -51,7 +52,7 @@ impl Model for FieldPathSet {
 }
 
 impl FieldPathSet {
-    /// Returns the empty set. Doesn't allocate.
+    /// Returns the empty set. It keeps the allocator for later calls, and doesn't allocate.
     #[tactic(auto, using(crate::proofs::lemmas::SetCovers::covers_none))]
     pub fn new(alloc: Global) -> Self
         ensures empty { result ≡ set.empty }
@@ -63,7 +64,7 @@ impl FieldPathSet {
         }
     }
 
-    /// Makes the set of the paths that an iterator yields.
+    /// Returns the set of the paths that an iterator yields. The caller must prove that the iterator ends.
     ///
     /// # Errors
     ///
@@ -93,8 +94,7 @@ impl FieldPathSet {
         self.trie.contains(path.parts())
     }
 
-    /// Returns a cursor at the root, which asks for the paths of the set. Its reader steps into it while it descends into
-    /// a type, and so never looks at a path that leads elsewhere. Doesn't allocate.
+    /// Returns a cursor at the root of the set. It contains the paths of the set. Doesn't allocate.
     pub fn cursor(&self) -> FieldPathCursor<'_>
         ensures paths { asks result ≡ set.contains self.now }
         ensures each { (q : List Field) → asks result q ≡ set.contains self.now q }
@@ -102,7 +102,7 @@ impl FieldPathSet {
         FieldPathCursor::at_root(&self.trie)
     }
 
-    /// Inserts the path, if it isn't in the set yet. After an error the set is unchanged and the path is dropped.
+    /// Inserts the path if it isn't in the set yet. If there is an error, the set is unchanged and the path is dropped.
     ///
     /// # Errors
     ///
@@ -117,8 +117,8 @@ impl FieldPathSet {
         Ok(self.trie.insert(self.alloc, path)?)
     }
 
-    /// Inserts the paths that an iterator yields, in their order. After an error the set also has the paths that were
-    /// yielded before one of them, the one that couldn't be inserted, and no other.
+    /// Inserts the paths that an iterator yields, in order. The caller must prove that the iterator ends. If there is
+    /// an error, then the set also has those of the paths that were yielded before some one of them, and no others.
     ///
     /// # Errors
     ///
@@ -142,7 +142,7 @@ impl FieldPathSet {
         Ok(())
     }
 
-    /// Returns an iterator over references to the paths of the set, each once, in no promised order.
+    /// Returns an iterator over references to the paths of the set, each once, in no particular order.
     ///
     /// # Errors
     ///
@@ -156,10 +156,13 @@ impl FieldPathSet {
         Ok(found.into_iter())
     }
 
-    /// Returns references to the paths of the set that don't exist in this type (`FieldPath::exists_in`), each once, in no
-    /// promised order: what a binder names in its error, and nothing where the type has all that the set asks for. A path that
-    /// is there is walked to its end, any other to the first step that leads nowhere, so the time grows with the steps of the
-    /// set.
+    /// Returns references to the paths of the set that don't exist in `dtype` (`FieldPath::exists_in`), each once, in
+    /// no particular order. For example, for the set of `a` and `b.c` and the type `{a=i32, b=utf8}` it returns `b.c`.
+    /// A program that checks a query against a schema can name these paths in its error. It returns an empty list
+    /// exactly if every path of the set exists in the type.
+    ///
+    /// A path that exists is followed to its end, and any other path up to the first step that leads nowhere. So the
+    /// time grows with the number of steps of all paths.
     ///
     /// # Errors
     ///
@@ -177,8 +180,9 @@ impl FieldPathSet {
         Ok(paths)
     }
 
-    /// Returns the least paths of the set, those of which no other of its paths is a prefix, each once and in no promised
-    /// order: the fewest paths that cover what the set covers. After an error the set is dropped.
+    /// Consumes the set and returns its least paths: those of which no other path of the set is a prefix. It returns
+    /// each once, in no particular order. They are the fewest paths that cover what the set covers. For example, the
+    /// least paths of the set of `a.b`, `x`, `a` and `a.c` are `a` and `x`. If there is an error, the set is dropped.
     ///
     /// # Errors
     ///
@@ -196,9 +200,10 @@ impl FieldPathSet {
         Ok(paths)
     }
 
-    /// Returns what `into_iter` returns, and the number of nodes that were visited: the root, and one for each other
-    /// prefix of a returned path, however many paths these cover. No set has more nodes than a `u64` counts. After
-    /// an error the set is dropped.
+    /// Consumes the set and returns what `into_iter` returns, and the number of nodes of the trie that were visited.
+    /// These are the root and one node for each other prefix of a returned path, no matter how many paths of the set
+    /// lie below the returned paths. For example, for the set of `a.b`, `x`, `a` and `a.c` the number is 3: the root,
+    /// `a` and `x`. If there is an error, the set is dropped.
     ///
     /// # Errors
     ///
@@ -218,7 +223,7 @@ impl FieldPathSet {
         Ok((found.into_iter(), visits))
     }
 
-    /// Returns a set of the same paths.
+    /// Returns a set of the same paths. It allocates from the allocator of this set.
     ///
     /// # Errors
     ///
@@ -233,7 +238,7 @@ impl FieldPathSet {
     }
 }
 
-/// Writes the name of the type, and none of its paths.
+/// Writes the name of the type, without its paths.
 impl fmt::Debug for FieldPathSet {
     fn fmt<W: fmt::Write>(&self, f: &mut fmt::Formatter<W>) -> fmt::Result {
         f.write_str("FieldPathSet { .. }")

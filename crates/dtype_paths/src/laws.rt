@@ -24,29 +24,44 @@ ghost use Rattle.dtype_paths.specs.declared.field.Field.{Field};
 use crate::FieldPath;
 use std::hash::Hash;
 
-/// The type at one path followed by another is the type at the second path in the type at the first.
+/// For all types `t` and `u` and all paths `p` and `q`, the type at `p` followed by `q` in `t` is `u` exactly if there
+/// is a type at `p` in `t` and the type at `q` in that one is `u`. For example, in `{a=list({b=u32})}` the type at
+/// `a.[].b` is the type at `b` in the type at `a.[]`. So a path can be resolved in two parts.
 #[tactic(auto, using(crate::proofs::lemmas::Stepping::at_joined))]
 pub fn along_joined()
     ensures { (t u : Tree) (p q : List Field) → At t (p ++ q) u ↔ ((x : Tree) × At t p x × At x q u) }
 {}
 
-/// Every prefix of a path that exists in a type exists in it.
+/// For each type `t` and all paths `p` and `q`, if `p` is a prefix of `q` and `q` exists in `t`, then `p` exists in
+/// `t`. For example, if `a.[].b` exists in a type, then so does `a.[]`.
 #[tactic(auto, using(crate::proofs::lemmas::Stepping::beginning_exists_in))]
 pub fn beginnings_exist()
     ensures { (t : Tree) (p q : List Field) → Beginning p q → ExistsIn t q → ExistsIn t p }
 {}
 
-/// The type that a path leads to in a valid type is valid, so what `resolve` gives is.
+/// For all types `t` and `u` and each path `p`, if `t` is valid and the type at `p` in `t` is `u`, then `u` is valid.
+/// So what `resolve` returns for a valid type is valid.
 #[tactic(auto, using(crate::proofs::lemmas::Stepping::valid_along))]
 pub fn a_path_leads_to_a_valid_type()
     ensures { (t u : Tree) (p : List Field) → Valid t → At t p u → Valid u }
 {}
 
-/// Resolution is exact for values. `along` computes the type `At` a path. Where the path steps through no fixed-size
-/// list of size 0, a value is of that type exactly where it lies along the path in some value of the whole, such as
-/// the one made around it. What is made around a value of that type is always a value of the whole, and what lies along
-/// the path is always of that type; through a size 0 a value of the type may lie in no value of the whole. Where there
-/// is no type at a path, and no prefix of it leads to an extension, nothing lies along it in any value.
+/// Seven statements about the type at a path and the values along the path. In all of them `t` is a type, `p` is a
+/// path, and `u` is the type at `p` in `t`. A value lies along `p` in a value of `t` if the steps of `p`, taken in that
+/// value, lead to it. For example, 7 lies along `a.[]` in `{a=[5, 7]}`.
+///
+/// - `given`: `along t p` is `Some u` exactly if `u` is the type at `p` in `t`.
+/// - `exact`: if `t` is valid and the path steps through no fixed-size list of size 0, then a value is a value of `u`
+///   exactly if it lies along `p` in some value of `t`.
+/// - `made`: if `t` is valid, then for each value `v` of `u` the value `around t p v` is a value of `t`.
+/// - `around`: if the path steps through no fixed-size list of size 0, then `v` lies along `p` in `around t p v`.
+/// - `inside`: each value that lies along `p` in some value of `t` is a value of `u`.
+/// - `size_zero`: the premise of `exact` about size 0 is needed: there is a valid `t`, a path and a value of `u` that
+///   lies along the path in no value of `t`.
+/// - `nothing`: if there is no type at `p` in `t`, and no prefix of `p` leads to an extension, then nothing lies along
+///   `p` in any value of `t`.
+///
+/// With this law a reader that resolves a column knows that it reads values of exactly the resolved type.
 #[tactic(auto, using(crate::proofs::Exact::exact, crate::proofs::Exact::around_of, crate::proofs::Exact::found_around, crate::proofs::Exact::found_in_of))]
 pub fn resolution_is_exact_for_values()
     ensures given { (t u : Tree) (p : List Field) → (along t p ≡ Some u) ↔ At t p u }
@@ -63,9 +78,9 @@ pub fn resolution_is_exact_for_values()
         → (v : Value) → ¬ (FoundIn t p v) }
 {}
 
-/// Where the path steps through no fixed-size list of size 0 and no prefix of it leads to an extension, the path
-/// exists exactly where some value has something along it. Where a type is at the path, some value has something along
-/// it.
+/// For each valid type `t` and each path `p` that steps through no fixed-size list of size 0: if there is a type at `p`
+/// in `t`, then something lies along `p` in some value of `t`. If, besides, no prefix of `p` leads to an extension,
+/// then the reverse is so too: `p` exists in `t` exactly if something lies along it in some value of `t`.
 #[tactic(auto, using(crate::proofs::Exact::exists_where_found, crate::proofs::Exact::some_found))]
 pub fn a_type_is_given_exactly_where_something_is_found()
     ensures exists { (t : Tree) (p : List Field) → Valid t → CrossesNoSizeZero t p → CrossesNoExtension t p
@@ -74,24 +89,28 @@ pub fn a_type_is_given_exactly_where_something_is_found()
         → ((v : Value) × FoundIn t p v) }
 {}
 
-/// Two paths overlap exactly where some path extends both.
+/// For all paths `p` and `q`, `p` and `q` overlap (one is a prefix of the other) exactly if there is a path of which
+/// both are prefixes. For example, `a` and `a.b` overlap and are both prefixes of `a.b`; `a.b` and `a.c` don't overlap.
 pub fn paths_overlap_where_some_path_extends_both()
     ensures { (p q : List Field) → Overlaps p q ↔ ((r : List Field) × Beginning p r × Beginning q r) }
 {}
 
-/// Two paths overlap in either order.
+/// For all paths `p` and `q`, if `p` overlaps `q` then `q` overlaps `p`.
 #[tactic(auto, using(crate::proofs::OverlapLaws::overlaps_symmetric))]
 pub fn overlap_is_symmetric()
     ensures { (p q : List Field) → Overlaps p q → Overlaps q p }
 {}
 
-/// Of two paths that both overlap a third, one needn't overlap the other.
+/// There are paths `p`, `q` and `r` such that `p` overlaps `q` and `q` overlaps `r`, and `p` doesn't overlap `r`. For
+/// example, `a` overlaps the root, the root overlaps `b`, and `a` doesn't overlap `b`. So overlapping paths can't be
+/// sorted into groups.
 #[tactic(auto, using(crate::proofs::OverlapLaws::overlap_not_transitive))]
 pub fn overlap_is_not_transitive()
     ensures { (p q r : List Field) × Overlaps p q × Overlaps q r × (Overlaps p r → ⊥) }
 {}
 
-/// Equal fields write the same into every hasher, and so do equal paths.
+/// For all steps and all paths, if two are equal by `==` then they write the same to every hasher. So paths can be the
+/// keys of a hash map.
 #[tactic(auto, using(crate::proofs::MaskLaws::paths_write_alike))]
 pub fn equality_agrees_with_hash()
     ensures fields { (f g : Field) → IsTrue (⟦<crate::Field as PartialEq>⟧.eq f g)
@@ -100,8 +119,9 @@ pub fn equality_agrees_with_hash()
         → ⟦<FieldPath as Hash>⟧.hash_input p ≡ ⟦<FieldPath as Hash>⟧.hash_input q }
 {}
 
-/// A set covers a path exactly where a member is a prefix of it; its least members are those of which no other member is
-/// a prefix.
+/// For each set `s`, `s` covers a path `q` exactly if some path of `s` is a prefix of `q`. A path is one of the least
+/// paths of `s` exactly if it is in `s` and no other path of `s` is a prefix of it. For example, the set of `a` and
+/// `a.b` covers `a.c`, and its only least path is `a`.
 #[tactic(auto, using(crate::proofs::lemmas::SetCovers::covers_word, crate::proofs::lemmas::SetCovers::least_word))]
 pub fn what_covers_and_least_say()
     ensures covers { (s : PathSet) (q : List Field) → IsTrue (covers s q)
@@ -110,21 +130,22 @@ pub fn what_covers_and_least_say()
         ↔ (IsTrue (set.contains s p) × ((q : List Field) → IsTrue (set.contains s q) → Beginning q p → q ≡ p)) }
 {}
 
-/// The paths of a set that are missing in a type are those of its members at which there is no type.
+/// For each set `s` and each type `t`, a path is in `unresolved s t` exactly if it is in `s` and doesn't exist in `t`.
 #[tactic(auto, using(crate::proofs::lemmas::Unresolved::unresolved_word))]
 pub fn what_unresolved_says()
     ensures { (s : PathSet) (t : Tree) (p : List Field) → IsTrue (set.contains (unresolved s t) p)
         ↔ (IsTrue (set.contains s p) × ¬ (ExistsIn t p)) }
 {}
 
-/// Two sets have the same least paths exactly where they cover the same.
+/// For all sets `s` and `t`, `s` and `t` have the same least paths exactly if they cover the same paths. For example,
+/// the set of `a` and `a.b` and the set of `a` cover the same. So two queries can be compared by their least paths.
 #[tactic(auto, using(crate::proofs::lemmas::SetCovers::least_tells_coverage, crate::proofs::lemmas::SetCovers::least_same))]
 pub fn least_paths_tell_the_coverage()
     ensures { (s t : PathSet) → (least s ≡ least t) ↔ SameCoverage s t }
 {}
 
-/// The least paths of a set cover what it covers, are their own least paths, and are members of each set that
-/// covers the same.
+/// For each set `s`, its least paths cover what `s` covers, the least paths of these are these themselves, and each of
+/// them is in every set that covers the same as `s`. So no set with fewer paths covers the same.
 #[tactic(auto, using(crate::proofs::lemmas::SetCovers::covers_least, crate::proofs::lemmas::SetCovers::least_least, crate::proofs::lemmas::SetCovers::least_in))]
 pub fn a_cover_is_its_own_cover()
     ensures coverage { (s : PathSet) → SameCoverage (least s) s }
@@ -133,7 +154,9 @@ pub fn a_cover_is_its_own_cover()
         → IsTrue (set.contains t p) }
 {}
 
-/// Exactly one of the least paths is a prefix of a covered path.
+/// For each set `s` and each path `q` that `s` covers, exactly one of the least paths of `s` is a prefix of `q`. For
+/// example, if the least paths are `a` and `x`, then only `a` is a prefix of `a.b.c`. So a reader that opens the least
+/// paths reads nothing twice.
 #[tactic(auto, using(crate::proofs::lemmas::SetCovers::least_begins))]
 pub fn a_cover_has_one_beginning_of_each_covered_path()
     ensures some { (s : PathSet) (q : List Field) → IsTrue (covers s q)
@@ -142,22 +165,27 @@ pub fn a_cover_has_one_beginning_of_each_covered_path()
         → IsTrue (set.contains (least s) r) → Beginning p q → Beginning r q → p ≡ r }
 {}
 
-/// The paths of a slice cover a path exactly where it starts with one of them, which `any` over the slice finds.
+/// For a slice of paths and a path, the set of the slice's paths covers the path exactly if the path starts with one of
+/// them. A caller that tests this with `any` over a slice needs this law to conclude that the path is covered.
 #[tactic(auto, using(crate::proofs::lemmas::SetCovers::covers_any))]
 pub fn a_path_is_covered_where_it_starts_with_one(paths: &[FieldPath], path: &FieldPath)
     ensures { IsTrue (covers (set_of paths.now) path.now)
         ↔ Any (λ p. IsTrue (starts_with ⟦<crate::Field as PartialEq>⟧.eq path.now p)) paths.now }
 {}
 
-/// The paths of a list are the members of its set.
+/// For each list of paths, a path is in the list exactly if it is in the set of the list's paths. A caller needs this
+/// law to go from the list that `into_iter` yields to the set.
 #[tactic(auto, using(crate::proofs::lemmas::SetMembers::listed))]
 pub fn a_list_has_the_members_of_its_set()
     ensures { (ps : List (List Field)) (s : PathSet) (q : List Field) → set_of ps ≡ s
         → (Contains ps q ↔ IsTrue (set.contains s q)) }
 {}
 
-/// What is asked for after some steps are the suffixes of the paths that begin with these steps. So a path is in a set
-/// exactly where the set asks for the root after its steps, and it is covered exactly where the set does so on the way.
+/// A set is stepped into one step at a time. First, for each predicate `w` of paths and all paths `p` and `q`, `q`
+/// satisfies what is left of `w` after the steps of `p` exactly if `p` followed by `q` satisfies `w`. For example,
+/// after the step `a` the set of `a.b` and `x` contains `b`. Second, for each set `s` and path `q`, `s` covers `q`
+/// exactly if some prefix of `q`, perhaps `q` itself, is in `s`. So a reader that steps a cursor along a path knows by
+/// `is_end` whether the path is covered.
 #[tactic(auto, using(crate::proofs::lemmas::PathsBelow::asked_after, crate::proofs::lemmas::PathsBelow::covered_on_the_way))]
 pub fn a_set_is_stepped_into()
     ensures after { (w : PathPredicate) (p q : List Field) → after_steps p w q ≡ w (p ++ q) }

@@ -21,38 +21,48 @@ ghost use Rattle.dtype_projection.specs.IsPart.{IsLeastPart, IsPart};
 ghost use Rattle.dtype_projection.specs.Projected.{projected};
 ghost use Rattle.dtype_projection.specs.Restricted.{restricted};
 
-/// The projection is a type exactly where one of the paths exists in the original type.
+/// For each type `t` and each predicate `w` of paths, `projected t w` is a type exactly if some path that satisfies `w`
+/// exists in `t`. For example, `{a=i32, b=utf8}` has no projection to the path `c`, and has one to the paths `a` and
+/// `c`.
 #[tactic(auto, using(crate::proofs::lemmas::Projections::kept_exactly))]
 pub fn a_type_is_kept_exactly_where_a_path_exists()
     ensures { (t : Tree) (w : PathPredicate) → IsSome (projected t w)
         ↔ ((p : List Field) × IsTrue (w p) × ExistsIn t p) }
 {}
 
-/// Each of the paths, and each path below one of them, resolves in the projection as in the original type: to the same
-/// type, or to none.
+/// Let `u` be the projection of `t` to the paths that satisfy `w`. Then each of these paths, and each path of which one
+/// of them is a prefix, resolves in `u` to what it resolves to in `t`: to the same type, or to none. For example, in
+/// the projection of `{a={b=i32}, c=utf8}` to `a` the path `a.b` leads to `i32`, as before. So a query that is bound to
+/// the original type can be run on the projection.
 pub fn wanted_paths_resolve_as_before()
     ensures { (t u : Tree) (w : PathPredicate) (p q : List Field) → projected t w ≡ Some u → IsTrue (w p)
         → Beginning p q → along u q ≡ along t q }
 {}
 
-/// A path exists in the projection exactly where it exists in the original type and overlaps one of the paths that exist
-/// there: it leads to one of them, or lies below one.
+/// Let `u` be the projection of `t` to the paths that satisfy `w`. Then a path `q` exists in `u` exactly if it exists
+/// in `t` and overlaps a path that satisfies `w` and exists in `t`: `q` is a prefix of such a path, or such a path is a
+/// prefix of `q`. For example, in the projection of `{a={b=i32, d=u8}, c=utf8}` to `a.b` there are the paths `a` and
+/// `a.b`, and neither `a.d` nor `c`.
 pub fn nothing_else_is_kept()
     ensures { (t u : Tree) (w : PathPredicate) (q : List Field) → projected t w ≡ Some u
         → (ExistsIn u q ↔ (ExistsIn t q × ((p : List Field) × IsTrue (w p) × ExistsIn t p × Overlaps p q))) }
 {}
 
-/// What a projection is, in other words than its definition: the least part of the type that has each of the paths as the
-/// type has it. A part leaves out fields of structs, at any depth, and changes nothing else. Where one of the paths
-/// exists, no other type is least, so the projection is this one.
+/// A projection is the least part of a type that has certain paths. A part of `t` is `t` without some fields of
+/// structs, at any depth; nothing else is changed. First, if `u` is the projection of `t` to the paths that satisfy
+/// `w`, then `u` is a part of `t` in which each of these paths leads to what it leads to in `t`, and `u` is a part of
+/// every other such part. Second, if one of the paths exists in `t`, then `u` is the only type of which the first
+/// statement is so. For example, the projection of `{a=i32, b=utf8, c=u8}` to `a` is `{a=i32}`, a part of
+/// `{a=i32, b=utf8}`. This law specifies projections without the recursion by which `projected` is defined.
 pub fn projections_are_least_parts()
     ensures least { (t u : Tree) (w : PathPredicate) → projected t w ≡ Some u → IsLeastPart t w u }
     ensures alone { (t u : Tree) (w : PathPredicate) (p : List Field) → IsTrue (w p) → ExistsIn t p
         → IsLeastPart t w u → projected t w ≡ Some u }
 {}
 
-/// A path that exists in a part of a type leads there to a part of what it leads to in the type. Two types that are parts
-/// of each other are equal, and each type is its own part.
+/// Three statements about the parts of a type. First, if `u` is a part of `t` and the path `q` leads to `y` in `u`,
+/// then `q` leads in `t` to a type of which `y` is a part. Second, two types that are parts of each other are equal.
+/// Third, each type is a part of itself.
 #[tactic(auto, using(crate::proofs::lemmas::Parts::path_of_part, crate::proofs::lemmas::Parts::parts_equal, crate::proofs::lemmas::Parts::part_itself))]
 pub fn paths_lead_to_parts()
     ensures along { (t u y : Tree) (q : List Field) → IsPart t u → At u q y
@@ -61,14 +71,16 @@ pub fn paths_lead_to_parts()
     ensures itself { (t : Tree) → IsPart t t }
 {}
 
-/// The projection has the nullability of the original type.
+/// The projection of a type has the same outer nullability as the type. For example, the projection of
+/// `{a=i32, b=utf8}?` to `a` is `{a=i32}?`.
 #[tactic(auto, using(crate::proofs::lemmas::Parts::kept_nullability))]
 pub fn projections_keep_the_nullability()
     ensures { (t u : Tree) (w : PathPredicate) → projected t w ≡ Some u → nullability u ≡ nullability t }
 {}
 
-/// The projection depends only on which existing paths of the type are covered. So a set and its least cover have the
-/// same projection, which is what the least cover of a query's paths is for.
+/// If two sets `r` and `s` cover the same of the paths that exist in `t`, then the projections of `t` to `r` and to `s`
+/// are the same. So the least paths of a set have the same projection as the set. For example, the sets of `a` and of
+/// `a` and `a.b` have the same projection.
 #[tactic(auto, using(crate::proofs::lemmas::Parts::same_for_same_coverage, crate::proofs::lemmas::Parts::same_for_least))]
 pub fn projection_depends_on_coverage_alone()
     ensures exists { (t : Tree) (r s : PathSet)
@@ -78,9 +90,10 @@ pub fn projection_depends_on_coverage_alone()
         → projected t (set.contains (least s)) ≡ projected t (set.contains s) }
 {}
 
-/// Projecting in two steps is projecting once: where the first set covers each existing path of the second, the second
-/// set has the same projection of the first projection as of the original type. So projecting twice to one set changes
-/// nothing.
+/// Projecting twice is the same as projecting once. Let `u` be the projection of `t` to the set `s`. First, if `s`
+/// covers each path of `r` that exists in `t`, then the projection of `u` to `r` is the projection of `t` to `r`.
+/// Second, the projection of `u` to `s` is `u`. For example, a schema that was projected to all columns of a query can
+/// be projected again to the columns of one of its filters.
 #[tactic(auto, using(crate::proofs::lemmas::Parts::projection_of_projection, crate::proofs::lemmas::Parts::projected_once))]
 pub fn projections_compose()
     ensures covered { (t u : Tree) (s r : PathSet) → projected t (set.contains s) ≡ Some u
@@ -90,25 +103,34 @@ pub fn projections_compose()
         → projected u (set.contains s) ≡ Some u }
 {}
 
-/// Where no path ends at the type itself, which would keep it whole, what a projection has after a step is what the type has
-/// there, projected to what is asked for after the step. So a reader that steps into a type and into a set together
-/// (`FieldPathSet::cursor`) opens what the projection keeps.
+/// Let `u` be the projection of `t` to the paths that satisfy `w`, and suppose the root doesn't satisfy `w` (if it did,
+/// `t` would be kept whole). Then what a step leads to in `u` is what it leads to in `t`, projected to the paths that
+/// are left of `w` after that step. For example, the type at `a` in the projection to `a.b` is the projection to `b` of
+/// the type at `a`. So a reader that steps into a type and into a set together (`FieldPathSet::cursor`) opens exactly
+/// what the projection keeps.
 #[tactic(auto, using(crate::proofs::lemmas::Projections::step_kept))]
 pub fn a_projection_is_stepped_into()
     ensures { (t u : Tree) (w : PathPredicate) (f : Field) → w [] ≡ false → projected t w ≡ Some u
         → step u f ≡ option_and_then (λ x. projected x (after_step f w)) (step t f) }
 {}
 
-/// The projection of a valid type is valid.
+/// If a type is valid, then its projection is valid.
 #[tactic(auto, using(crate::proofs::lemmas::Projections::valid_kept))]
 pub fn projections_are_valid()
     ensures { (t u : Tree) (w : PathPredicate) → projected t w ≡ Some u → Valid t → Valid u }
 {}
 
-/// The values of the projection are the values of the type, restricted to the paths: each restricted value is one, and of
-/// a valid type each is a restricted value. Below each of the paths that exists in the type the same is found in a value
-/// and in what it is restricted to. `beyond` is an example of where the premise is needed: a path that leads through
-/// an extension exists in no type, while a value has the storage's form, so what is found there may be dropped.
+/// Four statements about the values of a projection. Let `u` be the projection of `t` to the paths that satisfy `w`,
+/// and let `restricted t w v` be the value `v` of `t` without the fields that the projection leaves out. For example,
+/// the value `{a=1, b="x"}` of `{a=i32, b=utf8}`, restricted to `a`, is `{a=1}`.
+///
+/// - `of`: for each value `v` of `t`, `restricted t w v` is a value of `u`.
+/// - `onto`: if `t` is valid, then each value of `u` is `restricted t w v` for some value `v` of `t`.
+/// - `found`: if the path `p` satisfies `w` and exists in `t`, then the same lies along `p`, and along each path that
+///   begins with `p`, in `v` and in `restricted t w v`.
+/// - `beyond`: the premise of `found` that `p` exists in `t` is needed. A path through an extension exists in no type,
+///   but the values of an extension are those of its storage type, so something may lie along such a path in a value of
+///   `t` and be left out of the restricted value.
 #[tactic(auto, using(crate::proofs::lemmas::Restrictions::of_restricted, crate::proofs::lemmas::Restrictions::onto, crate::proofs::lemmas::Restrictions::lost_through_extensions))]
 pub fn values_are_restricted()
     ensures of { (t u : Tree) (w : PathPredicate) (v : Value) → projected t w ≡ Some u → Of v t → Of (restricted t w v) u }

@@ -1,17 +1,21 @@
 // SPDX-License-Identifier: Apache-2.0
 // SPDX-FileCopyrightText: Copyright the Vortex contributors
 
-//! The type that a reader opens: the part of a type that a set of paths needs (projection pushdown, nested column
-//! pruning).
+//! The projection of a type to a set of paths: the part of the type that a reader of these paths has to open. Query
+//! engines call this projection pushdown or nested column pruning.
 //!
-//! `project_paths` promises that something is kept exactly where one of the paths exists in the type, that every path that
-//! the set covers resolves in the projection as it did in the type, that nothing else is kept, and that the projection
-//! depends only on what the paths cover, so that the least cover of a set is enough. It is the least part of the type that
-//! has the paths. A projection of a valid type is valid, and its values are those of the type, restricted to the paths.
+//! What is proved of `project_paths`:
+//! - It returns a type exactly if one of the paths exists in the original type.
+//! - Every path that the set covers resolves in the projection as it does in the original type.
+//! - Nothing else is kept: the projection is the least part of the type that has the paths.
+//! - The projection depends only on which paths the set covers, so the least paths of the set are enough.
+//! - The projection of a valid type is valid, and its values are the values of the original type, restricted to the
+//!   paths.
 //!
-//! The definitions are in `specs/`: `Projected` (the projection of a type), `IsPart` (the same by what it is least of) and
-//! `Restricted` (the same of a value); `private` is for the private contracts alone. `proofs/lemmas` has the lemmas that
-//! callers may cite, also on paths in merged types (`Above`), and `laws` states the theorems about the definitions.
+//! The definitions are in `specs/`: `Projected` (the projection of a type, by recursion on it), `IsPart` (the least
+//! part that has the paths, without that recursion) and `Restricted` (a value, restricted to paths). `specs/private` is
+//! for private contracts only. `proofs/lemmas` contains the lemmas that callers may cite, also about paths in merged
+//! types (`Above`). `laws` states the theorems about the definitions.
 #![tactic(auto)]
 
 mod entered;

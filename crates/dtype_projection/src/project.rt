@@ -29,23 +29,26 @@ use dtype_paths::{FieldPathCursor, FieldPathSet};
 use dtype_types::{DType, StructFields};
 use std::alloc::Global;
 
-/// Returns the type of what these paths cover: a struct keeps the first field of each name that a path steps into, in the order
-/// of its fields, and the type at the end of a path is kept whole. Lists and fixed-size lists keep their size and nullability
-/// around what is kept of their element. A struct of whose fields nothing is kept isn't kept either. `None` where no path
-/// exists in the type.
+/// Returns the projection of `dtype` to the paths of `wanted`: the type without what no path leads to. Returns `None`
+/// if no path of the set exists in `dtype`.
 ///
-/// Of `{a=list({b=u32, c=utf8})?, d=i8}` the paths `a.[].b` and `x` keep `{a=list({b=u32})?}`.
+/// For example, the projection of `{a=list({b=u32, c=utf8})?, d=i8}` to `a.[].b` and `x` is `{a=list({b=u32})?}`.
 ///
-/// The Rust original has no such call. A path steps as in `FieldPath::resolve`: by a name to the first field of that name,
-/// by the element into a list or a fixed-size list, and into nothing else, so a path through a map, a union or an extension
-/// exists in no type.
+/// The rules are:
+/// - The type at the end of a path is kept whole.
+/// - A struct keeps the fields into which paths step, in the order of the struct. A path steps into the first field
+///   with its name. A struct that would keep no field isn't kept.
+/// - A list or a fixed-size list keeps its size and its nullability around what is kept of its element.
+/// - No path steps into anything else, so a map, a union or an extension is kept whole or not at all.
 ///
-/// The set is stepped into alongside the type (`FieldPathSet::cursor`), so the time grows with the steps of the set that
-/// lead into the type and with what is kept. At each struct the fewer are looked up, once each: the names by which paths go
-/// on, however many paths take them, or the fields of the struct. So ten paths cost about as much in ten thousand columns as
-/// in a hundred, and ten columns in a set of ten thousand paths. Then the fields that paths step into are sorted by their
-/// positions, each that is kept is copied, and their names are indexed. A struct of which all is kept isn't built again: it
-/// is shared.
+/// The Rust library has no such call.
+///
+/// The set is stepped into along with the type (`FieldPathSet::cursor`), so the time grows with the number of steps of
+/// the set that lead into the type and with what is kept. At each struct either the names that paths continue with or
+/// the fields of the struct are looked up, whichever are fewer. So ten paths take about as long in ten thousand columns
+/// as in a hundred, and ten columns take about as long with ten thousand paths as with a hundred. Then the fields that
+/// are kept are sorted by their positions and copied, and their names are indexed. A struct of which everything is kept
+/// is shared and not built again.
 ///
 /// # Errors
 ///

@@ -18,7 +18,8 @@ use dtype_types::{DType, ExtDTypeRef, ExtId};
 use std::alloc::Global;
 use std::fmt;
 
-/// A typed extension: a vtable, the decoded metadata, and the storage type, which the metadata fits.
+/// A typed extension: a vtable, the decoded metadata, and a storage type that the metadata fits. For example, for a
+/// vtable of dates the metadata may be a unit of time, and the storage type `i32`.
 #[derive(Drop)]
 pub struct ExtDType<V: ExtVTable> {
     vtable: V,
@@ -27,13 +28,14 @@ pub struct ExtDType<V: ExtVTable> {
 }
 
 impl<V: ExtVTable + Default> ExtDType<V> {
-    /// Returns the extension of the default vtable with this metadata, over this storage.
+    /// Returns the extension of the default vtable with this metadata over this storage type. If the storage type isn't
+    /// valid, a vtable promises nothing about which metadata it accepts.
     ///
     /// # Errors
     ///
-    /// Over a valid storage; over another a vtable promises nothing:
+    /// If the storage type is valid:
     ///
-    /// - `MetadataRefused` (22): exactly where the metadata doesn't fit the storage.
+    /// - `MetadataRefused` (22): exactly if the metadata doesn't fit the storage type.
     /// - `OutOfMemory` (0): an allocation fails.
     pub fn try_new(alloc: Global, metadata: V::Metadata, storage: DType) -> VortexResult<Self>
         ensures vtable { IfOk result (λ x. V.is_default (vtable_of x)) }
@@ -50,13 +52,14 @@ impl<V: ExtVTable + Default> ExtDType<V> {
 }
 
 impl<V: ExtVTable> ExtDType<V> {
-    /// Returns the extension of this vtable with this metadata, over this storage.
+    /// Returns the extension of this vtable with this metadata over this storage type. If the storage type isn't valid,
+    /// the vtable promises nothing about which metadata it accepts.
     ///
     /// # Errors
     ///
-    /// Over a valid storage; over another a vtable promises nothing:
+    /// If the storage type is valid:
     ///
-    /// - `MetadataRefused` (22): exactly where the metadata doesn't fit the storage.
+    /// - `MetadataRefused` (22): exactly if the metadata doesn't fit the storage type.
     /// - `OutOfMemory` (0): an allocation fails.
     pub fn try_with_vtable(
         alloc: Global,
@@ -108,11 +111,11 @@ impl<V: ExtVTable> ExtDType<V> {
         &self.storage
     }
 
-    /// Returns the metadata as bytes.
+    /// Returns the metadata as bytes, as the vtable writes it.
     ///
     /// # Errors
     ///
-    /// - `MetadataRefused` (22): exactly where the vtable can't write the metadata.
+    /// - `MetadataRefused` (22): exactly if the vtable can't write the metadata.
     /// - `OutOfMemory` (0): an allocation fails.
     pub fn serialize_metadata(&self, alloc: Global) -> VortexResult<Vec<u8>>
         ensures { MatchResult result
@@ -123,12 +126,13 @@ impl<V: ExtVTable> ExtDType<V> {
         self.vtable.serialize_metadata(alloc, &self.metadata)
     }
 
-    /// Returns the erased extension with the outer nullability of the storage set; the id and the written metadata are
-    /// those of this one. The caller shows that the storage can be non-nullable where that is asked: null can't.
+    /// Returns the erased extension with the outer nullability of the storage type set to `n`. Its id and its written
+    /// metadata are those of this extension. If `n` is `NonNullable`, the caller must prove that the storage type can
+    /// be made non-nullable: `Null` can't be.
     ///
     /// # Errors
     ///
-    /// - `MetadataRefused` (22): exactly where the vtable can't write the metadata.
+    /// - `MetadataRefused` (22): exactly if the vtable can't write the metadata.
     /// - `OutOfMemory` (0): an allocation fails.
     #[tactic(auto, using(dtype_types::proofs::lemmas::Validity::validity))]
     pub fn with_nullability(&self, alloc: Global, n: Nullability) -> VortexResult<ExtDTypeRef>
@@ -148,11 +152,11 @@ impl<V: ExtVTable> ExtDType<V> {
         ExtDTypeRef::from_parts(alloc, id, bytes, storage)
     }
 
-    /// Returns the erased extension: the id, the written metadata and the storage.
+    /// Consumes the extension and returns it erased: its id, its written metadata and its storage type.
     ///
     /// # Errors
     ///
-    /// - `MetadataRefused` (22): exactly where the vtable can't write the metadata.
+    /// - `MetadataRefused` (22): exactly if the vtable can't write the metadata.
     /// - `OutOfMemory` (0): an allocation fails.
     pub fn erased(self, alloc: Global) -> VortexResult<ExtDTypeRef>
         ensures made { IfOk result (λ e. extension_tree e
@@ -173,15 +177,17 @@ impl<V: ExtVTable> ExtDType<V> {
         ExtDTypeRef::from_parts(alloc, id, bytes, storage)
     }
 
-    /// Returns the typed extension of an erased one: the metadata is read from the bytes, and the storage stays.
+    /// Returns the typed extension of an erased one. The vtable reads the metadata from the bytes, and the storage type
+    /// stays the same.
     ///
     /// # Errors
     ///
-    /// The erased extension is handed back unchanged, with the error:
+    /// With each error the erased extension is returned unchanged:
     ///
-    /// - `ExtensionIdDiffers` (23): exactly where the ids differ, over any storage.
-    /// - `MetadataRefused` (22): over a valid storage exactly where the vtable can't read the bytes, or what is read
-    ///   doesn't fit the storage.
+    /// - `ExtensionIdDiffers` (23): exactly if the id of the erased extension isn't that of the vtable, whatever the
+    ///   storage type is.
+    /// - `MetadataRefused` (22): if the storage type is valid, exactly if the vtable can't read the bytes or the
+    ///   metadata that it reads doesn't fit the storage type.
     /// - `OutOfMemory` (0): an allocation fails.
     pub fn try_downcast(
         alloc: Global,
@@ -257,7 +263,7 @@ impl<V: ExtVTable> ExtDType<V> {
     }
 }
 
-/// Prints the vtable, the metadata and the storage.
+/// Prints the vtable, the metadata and the storage type.
 impl<V: ExtVTable + fmt::Debug> fmt::Debug for ExtDType<V>
 where
     V::Metadata: fmt::Debug,

@@ -6,12 +6,12 @@ use dtype_base::VortexResult;
 use dtype_types::DType;
 use std::alloc::Global;
 
-/// The operations of one extension type: its id, how its metadata is read and written, and which storage types it
-/// accepts.
+/// The operations of one extension type: its id, how its metadata is read from bytes and written as bytes, and which
+/// storage types it accepts.
 ///
-/// Each implementation proves two laws (`Typed` of `specs/Typed`). Written metadata is read back as the same metadata,
-/// and what is written of metadata that was read from bytes is bytes. Whether metadata fits a storage doesn't depend on
-/// the outer nullability of the storage.
+/// Each implementation proves the laws of `Typed` (`specs/Typed`). Metadata that is written is read back as the same
+/// metadata, and metadata that was read from bytes is written as bytes. Whether metadata fits a storage type doesn't
+/// depend on the outer nullability of the storage type.
 pub trait ExtVTable: Drop {
     ghost use Rattle.std.specs.Prelude.{◌≡◌, ◌⊎◌, ℕ, List, Option, Some, None, Bool, true, false, IfErr, OnOk, MatchResult};
     ghost use Rattle.dtype_base.specs.declared.vortex_error.VortexError.TheVariants.{OutOfMemory, MetadataRefused};
@@ -20,7 +20,7 @@ pub trait ExtVTable: Drop {
     ghost use Rattle.dtype_types.specs.tree.Valid.{Valid};
     ghost use Rattle.vortex_dtype.specs.Typed.{Typed};
 
-    /// The metadata of an extension, decoded.
+    /// The decoded metadata of an extension, for example a unit of time.
     type Metadata: Drop;
 
     // the text of the id
@@ -48,7 +48,7 @@ pub trait ExtVTable: Drop {
     ///
     /// # Errors
     ///
-    /// - `MetadataRefused` (22): exactly where the metadata can't be written.
+    /// - `MetadataRefused` (22): exactly if the metadata can't be written.
     /// - `OutOfMemory` (0): an allocation fails.
     fn serialize_metadata(&self, alloc: Global, metadata: &Self::Metadata) -> VortexResult<Vec<u8>>
         ensures { MatchResult result
@@ -56,24 +56,24 @@ pub trait ExtVTable: Drop {
             (λ e. (e ≡ OutOfMemory) ⊎ ((e ≡ MetadataRefused)
             × (writes self.now (meant metadata.now) ≡ None))) };
 
-    /// Reads metadata from bytes.
+    /// Returns the metadata that is read from these bytes.
     ///
     /// # Errors
     ///
-    /// - `MetadataRefused` (22): exactly where the bytes aren't metadata of this type.
+    /// - `MetadataRefused` (22): exactly if the bytes aren't metadata of this extension type.
     /// - `OutOfMemory` (0): an allocation fails.
     fn deserialize_metadata(&self, alloc: Global, bytes: &[u8]) -> VortexResult<Self::Metadata>
         ensures { MatchResult result
             (λ m. reads self.now bytes.now ≡ Some (meant m))
             (λ e. (e ≡ OutOfMemory) ⊎ ((e ≡ MetadataRefused) × (reads self.now bytes.now ≡ None))) };
 
-    /// Checks that the metadata fits the storage.
+    /// Returns `Ok` if the metadata fits the storage type.
     ///
     /// # Errors
     ///
-    /// Over a valid storage:
+    /// If the storage type is valid:
     ///
-    /// - `MetadataRefused` (22): exactly where the metadata doesn't fit.
+    /// - `MetadataRefused` (22): exactly if the metadata doesn't fit the storage type.
     /// - `OutOfMemory` (0): an allocation fails.
     fn validate_dtype(
         &self,

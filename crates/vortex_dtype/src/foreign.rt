@@ -15,12 +15,12 @@ use std::alloc::Global;
 use std::fmt;
 use std::marker::Model;
 
-/// The metadata of an extension of an unknown type: its bytes.
+/// The metadata of an extension whose type isn't known: its bytes.
 #[derive(Debug, Drop, PartialEq, Eq, Hash)]
 pub struct ForeignExtMetadata(pub Vec<u8>);
 
 impl ForeignExtMetadata {
-    /// Copies the metadata.
+    /// Returns a copy of the metadata.
     ///
     /// # Errors
     ///
@@ -32,7 +32,7 @@ impl ForeignExtMetadata {
     }
 }
 
-/// Prints the number of bytes and `B`, as `3B`.
+/// Prints the number of bytes followed by `B`, for example `3B`.
 impl fmt::Display for ForeignExtMetadata {
     ghost use Rattle.dtype_types.specs.texts.Text.{metadata_text};
 
@@ -44,13 +44,14 @@ impl fmt::Display for ForeignExtMetadata {
     }
 }
 
-/// The vtable of an unknown extension type: it reads and writes any bytes unchanged, over any storage.
+/// The vtable of an extension type that isn't known. It reads and writes any bytes unchanged, and accepts every storage
+/// type.
 #[derive(Debug, Drop, PartialEq, Eq, Hash)]
 pub struct ForeignExtDType {
     id: ExtId,
 }
 
-/// Contracts see the vtable as its id, a text.
+/// In contracts the vtable is the text of its id.
 impl Model for ForeignExtDType {
     ghost use Rattle.std.specs.Prelude.{ℕ, List};
 
@@ -62,14 +63,14 @@ impl Model for ForeignExtDType {
 }
 
 impl ForeignExtDType {
-    /// Creates the vtable of this id. Doesn't allocate.
+    /// Returns the vtable with this id. Doesn't allocate.
     pub fn new(id: ExtId) -> Self
         ensures { result ≡ id }
     {
         ForeignExtDType { id }
     }
 
-    /// Returns the extension of this id, metadata and storage.
+    /// Returns the erased extension with this id, this metadata and this storage type.
     ///
     /// # Errors
     ///
@@ -86,11 +87,11 @@ impl ForeignExtDType {
         ExtDTypeRef::from_parts(alloc, id, metadata, storage)
     }
 
-    /// Returns an equal vtable, which shares the text of the id.
+    /// Returns a vtable equal to this one, which shares the text of the id with it.
     ///
     /// # Errors
     ///
-    /// - `OutOfMemory` (0): the reference count of the text is exhausted.
+    /// - `OutOfMemory` (0): the reference count of the text is at its maximum, so no further copy can be counted.
     pub fn try_clone(&self, alloc: Global) -> VortexResult<Self>
         ensures { Makes result (λ v. v ≡ self.now) }
     {

@@ -2,7 +2,7 @@
 // SPDX-FileCopyrightText: Copyright the Vortex contributors
 
 //! Laws of sessions, of reading and of writing: theorems about the definitions. Each function's contract is the law,
-//! and its body is empty. `types`, `paths` and the others are the laws of the crates below.
+//! and its body is empty. The modules `types`, `paths` and so on contain the laws of the libraries below.
 ghost use Rattle.std.specs.Prelude.{◌≡◌, ◌≢◌, ◌↔◌, ◌++◌, ◌∷◌, ℕ, List, Some, None, Ok, Err, true};
 ghost use Rattle.std.specs.Bool.{Decides};
 ghost use Rattle.std.specs.List.{list_any};
@@ -32,7 +32,9 @@ pub use dtype_projection::laws as projections;
 pub use dtype_types::{laws as types, nullability_laws as merging};
 use std::hash::Hash;
 
-/// Registering gives one id the plugin's meaning, and changes neither other ids nor what happens to unknown ones.
+/// Let `r` say what a plugin does with metadata. After it is registered under `id` in a session `s`, `r` is registered
+/// under `id`, every other id has the plugin that it had in `s`, and whether unknown ids are kept is unchanged. For
+/// example, registering a plugin of `x.tag` doesn't change how metadata of `x.text` is read.
 #[tactic(auto, using(crate::proofs::lemmas::Sessions::sessions, crate::proofs::lemmas::Sessions::session_laws))]
 pub fn register_changes_one_id()
     ensures registered { (s : Meaning) (id : List ℕ) (r : Rewrites) → (register_in id r s).registered id ≡ Some r }
@@ -41,41 +43,49 @@ pub fn register_changes_one_id()
     ensures unknown { (s : Meaning) (id : List ℕ) (r : Rewrites) → (register_in id r s).unknown ≡ s.unknown }
 {}
 
-/// What `allow_unknown` changes of any session: unknown ids are kept, and every id means what it meant.
+/// After `allow_unknown` in any session `s`, unknown ids are kept, and every id has the plugin that it had in `s`.
 #[tactic(auto, using(crate::proofs::lemmas::Sessions::sessions, crate::proofs::lemmas::Sessions::session_laws))]
 pub fn allow_unknown_changes_the_flag()
     ensures unknown { (s : Meaning) → (allow_unknown_in s).unknown ≡ true }
     ensures registered { (s : Meaning) (id : List ℕ) → (allow_unknown_in s).registered id ≡ s.registered id }
 {}
 
-/// After any calls the plugin that was registered last under an id is the one that counts.
+/// For each list of calls on a new session: if a plugin was registered under `id`, and no later call registered another
+/// under it, then that plugin is the one registered under `id`. For example, if two plugins of `x.tag` are registered
+/// one after the other, the second is used. So the order in which libraries register their plugins decides.
 #[tactic(auto, using(crate::proofs::lemmas::Sessions::sessions, crate::proofs::lemmas::Sessions::session_laws))]
 pub fn last_registered_counts()
     ensures { (before rest : List Call) (id : List ℕ) (r : Rewrites) → LeavesAlone id rest
         → (after (before ++ register id r ∷ rest) empty_meaning).registered id ≡ Some r }
 {}
 
-/// After calls none of which registers an id, no plugin is registered under it.
+/// For each list of calls on a new session, if none of them registers a plugin under `id`, then no plugin is registered
+/// under `id`.
 #[tactic(auto, using(crate::proofs::lemmas::Sessions::sessions, crate::proofs::lemmas::Sessions::session_laws))]
 pub fn none_registered_counts()
     ensures { (calls : List Call) (id : List ℕ) → LeavesAlone id calls
         → (after calls empty_meaning).registered id ≡ None }
 {}
 
-/// After any calls unknown ids are kept exactly where one of them was `allow_unknown`.
+/// For each list of calls on a new session, the session keeps unknown ids exactly if one of the calls is
+/// `allow_unknown`. For example, registering a plugin afterwards doesn't change that they are kept.
 #[tactic(auto, using(crate::proofs::lemmas::Sessions::sessions, crate::proofs::lemmas::Sessions::session_laws))]
 pub fn unknown_once_allowed()
     ensures { (calls : List Call) → (after calls empty_meaning).unknown ≡ list_any is_allow calls }
 {}
 
-/// What a session keeps of metadata are bytes, which it keeps unchanged when it reads them again.
+/// For each session whose plugins are lawful and each id, if the session keeps the bytes `c` of the metadata `b` over a
+/// valid storage type, then `c` is bytes, and of the metadata `c` the session keeps `c`. For example, if a plugin
+/// changes `AB` to `ab`, it leaves `ab` unchanged. So metadata doesn't change again each time that a type is written
+/// and read.
 pub fn kept_again()
     ensures { (s : Meaning) → LawfulSession s → (id b c : List ℕ) (t : Tree) → Bytes b → Valid t
         → keeps s id b t ≡ Some c → Bytes c × (keeps s id c t ≡ Some c) }
 {}
 
-/// Metadata of foreign extensions is equal exactly where its bytes are, and foreign vtables are where their ids are. To
-/// a hasher metadata is its bytes, and a vtable is its id.
+/// Metadata of foreign extensions is equal by `==` exactly if its bytes are the same, and it writes to a hasher what
+/// its bytes write. Foreign vtables are equal exactly if their ids are the same, and they write to a hasher what their
+/// ids write.
 pub fn foreign_extensions_are_compared_by_their_parts()
     ensures metadata { (a b : ForeignExtMetadata)
         → Decides (⟦<crate::ForeignExtMetadata as PartialEq>⟧.eq a b) (a.0.items ≡ b.0.items) }
@@ -87,15 +97,18 @@ pub fn foreign_extensions_are_compared_by_their_parts()
         ≡ ⟦<dtype_types::ExtId as Hash>⟧.hash_input id }
 {}
 
-/// Setting the outer nullability of a valid type doesn't change whether a session admits it.
+/// For each session whose plugins are lawful, each valid type `t` and each `u` that is `t` with another outer
+/// nullability, the session admits `t` (keeps the metadata of each extension in it unchanged) exactly if it admits `u`.
+/// For example, it admits `x.tag[2B](utf8)` exactly if it admits `x.tag[2B](utf8?)`.
 #[tactic(auto, using(crate::proofs::lemmas::Sessions::sessions, crate::proofs::lemmas::Sessions::session_laws))]
 pub fn admits_set_null()
     ensures { (s : Meaning) → LawfulSession s → (t u : Tree) (n : Nullability)
         → Valid t → SetNull t n u → Admits s t ↔ Admits s u }
 {}
 
-/// Reading in order agrees with the relations. It gives a type exactly where the message reads as that type. Where it
-/// gives an error, that fault is in the message, which reads as no type.
+/// The function `read`, which reads the parts of a message in order, agrees with the relations `Reads` and `Fault`. For
+/// each session, each message and each type `t`, `read` returns `Ok t` exactly if the message reads as `t`. If `read`
+/// returns an error, then the message has that fault, and it reads as no type.
 #[tactic(auto, using(crate::proofs::lemmas::Reading::reading))]
 pub fn read_is_what_reads()
     ensures given { (s : Meaning) (m : Message) (t : Tree) → (read s m ≡ Ok t) ↔ Reads s m t }
@@ -103,10 +116,22 @@ pub fn read_is_what_reads()
         → read s m ≡ Err e → Fault s m e × ReadsAsNothing s m }
 {}
 
-/// Reading and writing are exact, under every session. A message reads as at most one type, and as none where it has a
-/// fault. The message written of the type that a message reads as is its normal form. Where the plugins are lawful that
-/// type is valid and admitted: the message is accepted. Accepted messages give equal types exactly where their normal
-/// forms are equal, and a normal form is its own normal form. An admitted type is read back from what is written of it.
+/// Seven statements about reading and writing messages, for every session. A message reads as a type if `Reads` relates
+/// the two. The normal form of a message has, for each extension, the metadata that the session keeps in place of the
+/// metadata that the message contains.
+///
+/// - `one_type`: a message reads as at most one type.
+/// - `no_fault`: a message that reads as a type has no fault.
+/// - `accepted`: if the plugins are lawful, a message that reads as a type is accepted: the type is valid, and the
+///   session admits it.
+/// - `normal`: if a message reads as `t`, then its normal form is the message that is written of `t`.
+/// - `same`: two accepted messages read as the same type exactly if they have the same normal form.
+/// - `twice`: the normal form of an accepted message is its own normal form.
+/// - `read_back`: the message that is written of a valid type that the session admits is accepted and reads as that
+///   type.
+///
+/// For example, a message of the extension `x.tag` with the metadata `AB` and one with `ab` are different messages. If
+/// the plugin keeps `ab` of both, they have the same normal form and read as the same type.
 #[tactic(auto, using(crate::proofs::lemmas::Reading::reading))]
 pub fn messages_are_exact()
     ensures one_type { (s : Meaning) (m : Message) (t u : Tree)

@@ -1,19 +1,28 @@
 // SPDX-License-Identifier: Apache-2.0
 // SPDX-FileCopyrightText: Copyright the Vortex contributors
 
-//! The logical types of Vortex: all of the crates below re-exported, and on top of them typed extensions, plugins,
-//! sessions, and messages read and written.
+//! The logical types of Vortex. This library re-exports all libraries below it, and adds typed extensions, plugins,
+//! sessions, and the conversion of types to and from protobuf messages.
 //!
-//! Contracts promise that a typed extension is its metadata and its storage as its vtable means them, that a session
-//! answers by its plugins alone, with the last one registered under an id, and that messages are read and written under
-//! a session as the relations and the function of `specs/` say.
+//! It is proved that a typed extension consists of the metadata and the storage type with which it was made, that a
+//! session uses the plugin that was registered last under an id, and that types are read from messages and written as
+//! messages exactly as the relations and functions of `specs/` specify.
 //!
-//! Begin with `ExtVTable` and `ExtDType` (a typed extension), `ExtDTypePlugin` and `PluginOf`, and `DTypeSession`; then
-//! `pb` and `DTypeProto`. The definitions are in `specs/`: `Typed` (what a vtable means), `Meaning` (what a plugin and
-//! a session mean: `keeps`, `Admits`), `Errors` (which errors they return), `Calls`, and for messages `Reads` (the
-//! type that a message reads as, and its faults), `ReadInOrder` (which fault is first) and `Written`, over the trees of
-//! `dtype_messages`. `laws` states theorems about these definitions; `proofs/rulesets` has the
-//! lemmas that callers' proofs name, by topic.
+//! Begin with `ExtVTable` and `ExtDType` (a typed extension), `ExtDTypePlugin` and `PluginOf`, and `DTypeSession`. Then
+//! read `pb` and `DTypeProto`.
+//!
+//! The definitions are in `specs/`:
+//! - `Typed`: what a vtable does.
+//! - `Meaning`: what a plugin and a session do with metadata (`keeps`), and which types a session keeps unchanged
+//!   (`Admits`).
+//! - `Errors`: which errors they return.
+//! - `Calls`: a session after a list of calls.
+//! - `Reads`: the type that a message describes, and the faults of a message.
+//! - `ReadInOrder`: which of several faults is returned.
+//! - `Written`: the message of a type.
+//!
+//! The definitions about messages are over the trees of `dtype_messages`. `laws` states theorems about these
+//! definitions. `proofs/rulesets` contains the lemmas that the proofs of callers name, by topic.
 #![tactic(auto)]
 
 mod ext_dtype;
@@ -53,7 +62,8 @@ pub use plugin::{ExtDTypePlugin, PluginOf};
 pub use proto::{DTypeProto, FieldPathProto};
 pub use session::DTypeSession;
 
-/// Builds the path of these names, outermost first, as a `VortexResult`: `field_path!(alloc, "a", "b")`.
+/// Returns the path of these names, from the outermost to the innermost, as a `VortexResult`. For example,
+/// `field_path!(alloc, "a", "b")` returns the path `a.b`.
 ///
 /// # Errors
 ///

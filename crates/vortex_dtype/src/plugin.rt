@@ -16,9 +16,10 @@ use std::marker::Model;
 
 /// What a session knows of an extension type: its id, and how its metadata is read and written back.
 ///
-/// Contracts speak of a plugin's `rewrites`: for metadata and a storage, the bytes that the plugin writes back, if it
-/// accepts them. Each implementation proves two laws of it (`Lawful` of `specs/Meaning`): what is written back is bytes
-/// and is written back unchanged when read again, and the outer nullability of the storage makes no difference.
+/// In contracts a plugin is its `rewrites`: a function that takes metadata and a storage type, and returns the metadata
+/// that the plugin writes back, if it accepts them. Each implementation proves two laws of it (`Lawful` of
+/// `specs/Meaning`). First, what is written back is bytes, and these are written back unchanged if they are read again.
+/// Second, the outer nullability of the storage type makes no difference.
 pub trait ExtDTypePlugin: Drop {
     ghost use Rattle.std.specs.Prelude.{◌≡◌, ◌⊎◌, ℕ, List, Some, None, IfOk, IfErr};
     ghost use Rattle.dtype_base.specs.declared.vortex_error.VortexError.TheVariants.{OutOfMemory, MetadataRefused};
@@ -36,13 +37,14 @@ pub trait ExtDTypePlugin: Drop {
     fn id(&self) -> &str
         ensures { result.now ≡ id_text self.now };
 
-    /// Reads an extension's metadata over a storage, and returns it as the plugin writes it.
+    /// Reads the metadata of an extension over a storage type, and returns it as the plugin writes it. For example, a
+    /// plugin whose metadata isn't case sensitive may return `ab` for `AB`.
     ///
     /// # Errors
     ///
-    /// Over a valid storage:
+    /// If the storage type is valid:
     ///
-    /// - `MetadataRefused` (22): exactly where the plugin doesn't accept the metadata over this storage.
+    /// - `MetadataRefused` (22): exactly if the plugin doesn't accept the metadata over this storage type.
     /// - `OutOfMemory` (0): an allocation fails.
     fn deserialize(&self, alloc: Global, metadata: &[u8], storage: &DType) -> VortexResult<Vec<u8>>
         ensures kept { Valid (tree storage.now)
@@ -54,13 +56,14 @@ pub trait ExtDTypePlugin: Drop {
     ghost lawful: { (p : Self) → Lawful (rewrites p) };
 }
 
-/// The plugin of a vtable: it reads the metadata, validates it over the storage, and writes it.
+/// The plugin of a vtable. It reads the metadata by the vtable, checks by the vtable that it fits the storage type, and
+/// writes it by the vtable.
 #[derive(Debug, Drop)]
 pub struct PluginOf<V> {
     vtable: V,
 }
 
-/// Contracts see the plugin as its vtable.
+/// In contracts the plugin is its vtable.
 impl<V> Model for PluginOf<V> {
     ghost Value = { V };
 
@@ -68,7 +71,7 @@ impl<V> Model for PluginOf<V> {
 }
 
 impl<V: ExtVTable> PluginOf<V> {
-    /// Creates the plugin of this vtable. Doesn't allocate.
+    /// Returns the plugin of this vtable. Doesn't allocate.
     pub fn new(vtable: V) -> Self
         ensures { result ≡ vtable }
     {
@@ -76,8 +79,8 @@ impl<V: ExtVTable> PluginOf<V> {
     }
 }
 
-/// `deserialize` reads the metadata by the vtable, validates the storage by it, and writes the metadata back by it. The two
-/// laws of plugins follow from those of vtables.
+/// `deserialize` reads the metadata by the vtable, checks by the vtable that it fits the storage type, and writes it
+/// back by the vtable. The two laws of plugins follow from the laws of vtables.
 impl<V: ExtVTable> ExtDTypePlugin for PluginOf<V> {
     ghost use Rattle.vortex_dtype.specs.Typed.{rewritten};
     ghost use Rattle.vortex_dtype.specs.TypedLaws.{typed_laws};
@@ -127,8 +130,8 @@ pub(crate) fn boxed_deserialize(
     plugin.deserialize(alloc, metadata, storage)
 }
 
-/// Every plugin keeps two laws: metadata that it wrote back it writes back unchanged, and the storage's outer nullability
-/// makes no difference.
+/// Every plugin is lawful: it writes metadata that it wrote back before unchanged, and the outer nullability of the
+/// storage type makes no difference. A caller names this law when a theorem requires lawful plugins.
 pub fn plugin_laws(plugin: &dyn ExtDTypePlugin)
     ensures { Lawful (rewrites plugin.now) }
 {}

@@ -37,12 +37,12 @@ mod kinds;
 mod read;
 mod write;
 
-/// Conversion of types from and to protobuf messages.
+/// Conversion of types to and from protobuf messages.
 ///
-/// `DType::from_proto(alloc, &dtype.to_proto(alloc)?, &session)?` equals `dtype` where `dtype` is valid and the session keeps
-/// each extension's metadata as it is (`Admits` of `specs/Meaning`).
+/// `DType::from_proto(alloc, &dtype.to_proto(alloc)?, &session)?` equals `dtype` if `dtype` is valid and the session
+/// keeps the metadata of each extension in it unchanged (`Admits` of `specs/Meaning`).
 pub trait DTypeProto {
-    /// Returns the type that the message describes, under the session. The impl for `DType` lists the errors.
+    /// Returns the type that the message describes, under the session. The errors are listed at the impl for `DType`.
     fn from_proto(alloc: Global, proto: &pb::DType, session: &DTypeSession) -> VortexResult<Self>
     where
         Self: Sized;
@@ -56,27 +56,28 @@ pub trait DTypeProto {
 }
 
 impl DTypeProto for DType {
-    /// Returns the type that the message describes, under the session, which rewrites the metadata of each extension;
-    /// missing metadata is empty.
+    /// Returns the type that the message describes, under the session. For each extension the type has the metadata
+    /// that the session keeps of the message's metadata. A message without metadata is read as one with empty metadata.
     ///
     /// # Errors
     ///
-    /// The first fault in the message (`read` of `specs/ReadInOrder`), the faults of a child before what its parent
-    /// checks of it:
+    /// The first fault that is found (`read` of `specs/ReadInOrder`). The parts of a message are read in order, each
+    /// with all faults in it, and then what they make is checked. For example, a map with neither a key type nor a
+    /// value type returns `MapKeyMissing`.
     ///
     /// - `TypeMissing` (24): a message has no kind.
-    /// - `PrimitiveNumber` (25): the number of a primitive type isn't 0 to 10.
-    /// - `PrecisionRange` (26), `ScaleRange` (27): a decimal's precision or scale doesn't fit 8 bits; then the errors
-    ///   of `DecimalDType::try_new` (1 to 4).
+    /// - `PrimitiveNumber` (25): the number of a primitive type isn't from 0 to 10.
+    /// - `PrecisionRange` (26), `ScaleRange` (27): the precision of a decimal is above 255, or its scale isn't from
+    ///   -128 to 127; then the errors of `DecimalDType::try_new` (1 to 4).
     /// - `ListElementMissing` (28), `FixedElementMissing` (29): a list has no element type.
-    /// - `MapKeyMissing` (30), then the key's faults, `MapValueMissing` (31), then the value's, then `MapKeyNullable`
-    ///   (9): the key type is nullable.
-    /// - `StructLengths` (32), after the fields' faults: not as many names as types.
-    /// - `TypeIdRange` (33), after the variants' faults: a tag isn't 0 to 255; then the errors of
+    /// - `MapKeyMissing` (30), then the faults of the key type, then `MapValueMissing` (31), then the faults of the
+    ///   value type, then `MapKeyNullable` (9): the key type is nullable.
+    /// - `StructLengths` (32), after the faults of the field types: there are more or fewer names than types.
+    /// - `TypeIdRange` (33), after the faults of the variant types: a tag isn't from 0 to 255; then the errors of
     ///   `UnionVariants::try_new` (10 to 13 and 15).
-    /// - `StorageMissing` (34), then the storage's faults, then `MetadataRefused` (22): the registered plugin doesn't
-    ///   accept the metadata; or `ExtensionUnregistered` (35): no plugin is registered under the id, and the session
-    ///   doesn't keep unknown ids.
+    /// - `StorageMissing` (34), then the faults of the storage type, then `MetadataRefused` (22): the registered plugin
+    ///   doesn't accept the metadata; or `ExtensionUnregistered` (35): no plugin is registered under the id, and the
+    ///   session doesn't keep unknown ids.
     /// - `OutOfMemory` (0): an allocation fails.
     #[tactic(auto, using(crate::proofs::ReadInTurn::gives_reads, crate::proofs::ReadInTurn::gives_in_order, crate::proofs::ReadInTurn::gives_accepts, crate::proofs::ReadInTurn::gives_back))]
     fn from_proto(alloc: Global, proto: &pb::DType, session: &DTypeSession) -> VortexResult<DType>
@@ -101,8 +102,8 @@ impl DTypeProto for DType {
         read(alloc, proto, session)
     }
 
-    /// Returns the message that describes the type, with every child, every flag and the metadata, also where it is
-    /// empty.
+    /// Returns the message that describes the type. It contains every child, every flag, and the metadata of every
+    /// extension, even if the metadata is empty.
     ///
     /// # Errors
     ///
@@ -114,16 +115,16 @@ impl DTypeProto for DType {
     }
 }
 
-/// Conversion of field paths from protobuf messages.
+/// Conversion of field paths from protobuf messages. No call writes a path as a message.
 pub trait FieldPathProto {
-    /// Returns the path that the message describes. The impl for `FieldPath` lists the errors.
+    /// Returns the path that the message describes. The errors are listed at the impl for `FieldPath`.
     fn from_proto(alloc: Global, proto: &pb::FieldPath) -> VortexResult<Self>
     where
         Self: Sized;
 }
 
 impl FieldPathProto for FieldPath {
-    /// Returns the path of the names, in order. A message without parts gives the root.
+    /// Returns the path of the names that the message contains, in order. A message without parts is read as the root.
     ///
     /// # Errors
     ///

@@ -23,15 +23,18 @@ use std::alloc::Global;
 use std::collections::HashMap;
 use std::fmt;
 
-/// The registered plugins by their ids, and whether extensions of unknown ids are kept.
+/// The plugins that are registered under ids, and whether extensions with unknown ids are kept. Types are read from
+/// messages under a session.
 ///
-/// Contracts speak of `meaning rewrites session`: a map from ids to what the plugins do to metadata, and the flag.
-/// The plugin registered last under an id is the one that counts (`laws::last_registered_counts`).
+/// In contracts a session is `meaning rewrites session`: a function from ids to what the registered plugins do with
+/// metadata, and the flag. The plugin that was registered last under an id is the one that is used
+/// (`laws::last_registered_counts`).
 ///
 /// # Examples
 ///
-/// Where the plugin of `x.tag` lowers letters, `deserialize("x.tag", b"AB", ..)` keeps `ab` as the metadata. Under an
-/// id that isn't registered it returns `ExtensionUnregistered` (35), and after `allow_unknown` it keeps `AB`.
+/// If the plugin of `x.tag` changes letters to lower case, then `deserialize("x.tag", b"AB", ..)` returns an extension
+/// with the metadata `ab`. For an id that isn't registered it returns the error `ExtensionUnregistered` (35), and after
+/// `allow_unknown` it returns an extension with the metadata `AB`.
 #[derive(Drop)]
 pub struct DTypeSession {
     alloc: Global,
@@ -40,7 +43,7 @@ pub struct DTypeSession {
 }
 
 impl DTypeSession {
-    /// Creates a session without plugins, which doesn't keep unknown ids. It keeps the allocator for later calls, and
+    /// Returns a session without plugins, which doesn't keep unknown ids. It keeps the allocator for later calls, and
     /// doesn't allocate.
     pub fn new(alloc: Global) -> Self
         ensures { meaning rewrites result ≡ empty_meaning }
@@ -52,11 +55,11 @@ impl DTypeSession {
         }
     }
 
-    /// Registers a plugin under its id, and replaces the one that was registered under it.
+    /// Registers a plugin under its id. If another plugin was registered under the id, this one replaces it.
     ///
     /// # Errors
     ///
-    /// The session is unchanged, and the plugin is dropped:
+    /// If there is an error, the session is unchanged and the plugin is dropped:
     ///
     /// - `OutOfMemory` (0): an allocation fails.
     pub fn register(&mut self, plugin: Box<dyn ExtDTypePlugin>) -> VortexResult<()>
@@ -70,14 +73,14 @@ impl DTypeSession {
         Ok(())
     }
 
-    /// Makes the session keep extensions of unknown ids, with their metadata as it is.
+    /// Makes the session keep extensions with unknown ids from now on, with their metadata unchanged.
     pub fn allow_unknown(&mut self)
         ensures { meaning rewrites self.new ≡ allow_unknown_in (meaning rewrites self.old) }
     {
         self.allow_unknown = true;
     }
 
-    /// Returns whether the session keeps extensions of unknown ids.
+    /// Returns whether the session keeps extensions with unknown ids.
     pub fn allows_unknown(&self) -> bool
         ensures { result ≡ (meaning rewrites self.now).unknown }
     {
@@ -91,17 +94,19 @@ impl DTypeSession {
         self.plugins.contains_key(id)
     }
 
-    /// Returns the extension of this id over this storage, with the metadata that the session keeps of these bytes:
-    /// what the registered plugin writes back, or the bytes themselves where no plugin is registered and unknown ids
-    /// are kept. Metadata that was kept is kept unchanged when it is read again, and the storage's outer nullability makes
-    /// no difference to what is kept.
+    /// Returns the extension with this id and this storage type, with the metadata that the session keeps of these
+    /// bytes. If a plugin is registered under the id, that is what the plugin writes back. If none is registered and
+    /// unknown ids are kept, it is the bytes themselves.
+    ///
+    /// Metadata that the session kept is kept unchanged if it is read again, and the outer nullability of the storage
+    /// type makes no difference to which metadata is kept.
     ///
     /// # Errors
     ///
-    /// Over a valid storage:
+    /// If the storage type is valid:
     ///
-    /// - `MetadataRefused` (22): exactly where the registered plugin doesn't accept the metadata.
-    /// - `ExtensionUnregistered` (35): exactly where no plugin is registered and unknown ids aren't kept.
+    /// - `MetadataRefused` (22): exactly if the registered plugin doesn't accept the metadata over this storage type.
+    /// - `ExtensionUnregistered` (35): exactly if no plugin is registered under the id and unknown ids aren't kept.
     /// - `OutOfMemory` (0): an allocation fails.
     #[tactic(auto, using(crate::proofs::lemmas::Sessions::keeps_outer, crate::proofs::lemmas::Sessions::keeps_again))]
     pub fn deserialize(
@@ -153,7 +158,7 @@ impl DTypeSession {
     }
 }
 
-/// Prints the number of plugins and the flag; plugins themselves can't be printed.
+/// Prints the number of plugins and whether unknown ids are kept. The plugins themselves can't be printed.
 impl fmt::Debug for DTypeSession {
     fn fmt<W: fmt::Write>(&self, f: &mut fmt::Formatter<W>) -> fmt::Result {
         f.debug_struct("DTypeSession")
@@ -163,8 +168,9 @@ impl fmt::Debug for DTypeSession {
     }
 }
 
-/// Every session is lawful. Each of its plugins keeps two laws: metadata that it wrote back it writes back unchanged, and
-/// the storage's outer nullability makes no difference.
+/// In every session all plugins are lawful: each writes metadata that it wrote back before unchanged, and the outer
+/// nullability of the storage type makes no difference. A caller names this law when a theorem requires a lawful
+/// session, for example to write a type and read it back.
 pub fn session_laws(session: &DTypeSession)
     ensures { LawfulSession (meaning rewrites session.now) }
 {}

@@ -26,6 +26,8 @@ use crate::{
 /// For all primitive types `p` and `q`, `cmp` compares `p` and `q` as it compares their numbers. For example, `u8`
 /// (number 0) is less than `i8` (number 4), and `i64` (number 7) is less than `f16` (number 8). With this law a caller
 /// can sort primitive types and know the order that results.
+///
+/// About [`PType`].
 pub fn primitive_names_are_ordered_by_number()
     ensures { (p q : PType) → ⟦<PType as Ord>⟧.cmp p q
         ≡ nat_cmp (ptype_row p).number (ptype_row q).number }
@@ -33,6 +35,8 @@ pub fn primitive_names_are_ordered_by_number()
 
 /// For all storage types `s` and `t`, `cmp` compares `s` and `t` as it compares their numbers, so a narrower storage
 /// type is less than a wider one. For example, `i64` (number 3) is less than `i128` (number 4).
+///
+/// About [`DecimalType`].
 pub fn storage_types_are_ordered_by_number()
     ensures { (s t : DecimalType) → ⟦<DecimalType as Ord>⟧.cmp s t
         ≡ nat_cmp (storage s).number (storage t).number }
@@ -42,6 +46,8 @@ pub fn storage_types_are_ordered_by_number()
 /// nullabilities, two primitive types, two storage types, or two decimals. For example, two decimals are equal exactly
 /// if both their precisions and their scales are. With this law a caller can conclude from a test by `==` that two
 /// values are the same in contracts.
+///
+/// About [`Nullability`], [`PType`], [`DecimalType`] and [`DecimalDType`].
 pub fn equal_where_the_same()
     ensures nullabilities { (a b : Nullability)
         → Decides (⟦<Nullability as PartialEq>⟧.eq a b) (a ≡ b) }
@@ -55,6 +61,8 @@ pub fn equal_where_the_same()
 
 /// For all `a` and `b` of one of these types, if `b` is what `clone` returns for `a`, then `b` is the same value as
 /// `a`. For example, a clone of `decimal(10,2)` is `decimal(10,2)`.
+///
+/// About [`Nullability`], [`PType`], [`DecimalType`] and [`DecimalDType`].
 pub fn clones_are_the_same()
     ensures nullabilities { (a b : Nullability)
         → ⟦<Nullability as Clone>⟧.is_clone a b → b ≡ a }
@@ -69,6 +77,8 @@ pub fn clones_are_the_same()
 /// For all `a` and `b`, two names with the bytes `a` and `b` are equal by `==` exactly if `a` and `b` are the same
 /// bytes, and two lists of names are equal exactly if they contain the same names in the same order. For example,
 /// `["x", "y"]` isn't equal to `["y", "x"]`.
+///
+/// About [`FieldName`] and [`FieldNames`].
 pub fn names_are_equal_where_their_bytes_are()
     ensures names { (a b : List ℕ) → Decides (⟦<FieldName as PartialEq>⟧.eq a b) (a ≡ b) }
     ensures lists { (a b : List (List ℕ)) → Decides (⟦<FieldNames as PartialEq>⟧.eq a b) (a ≡ b) }
@@ -77,6 +87,8 @@ pub fn names_are_equal_where_their_bytes_are()
 /// For all errors `a` and `b`, `a == b` is true exactly if `a` and `b` are the same variant with the same values. The
 /// same is so of two message faults. For example, `FieldNotFound { position: 0 }` isn't equal to
 /// `FieldNotFound { position: 1 }`.
+///
+/// About [`VortexError`] and [`MessageFault`].
 pub fn errors_are_equal_where_the_same()
     ensures kinds { (a b : VortexError) → Decides (⟦<VortexError as PartialEq>⟧.eq a b) (a ≡ b) }
     ensures faults { (a b : MessageFault)
@@ -85,6 +97,8 @@ pub fn errors_are_equal_where_the_same()
 
 /// In contracts a slice of `u8` is a list of numbers below 256. A caller names this law when a definition requires
 /// bytes, for example the metadata of a valid extension type.
+///
+/// About [`FieldName::as_str`].
 pub fn slices_hold_bytes(bytes: &[u8])
     ensures { Bytes bytes.now }
 {
@@ -94,6 +108,8 @@ pub fn slices_hold_bytes(bytes: &[u8])
 /// Both iterators over names yield them in order: `next` returns the first of the names that are left, and `None` once
 /// all have been returned, which is after as many names as `len` announced. For example, an iterator over `["x", "y"]`
 /// returns `x`, then `y`, then `None`. A caller needs this to know which names a `for` loop visits.
+///
+/// About [`FieldNames::iter`] and [`FieldNames::into_iter`].
 pub fn names_are_given_in_order()
     ensures lent { YieldsRefsInOrder ⟦<FieldNamesIter<'static> as Iterator>⟧.next_gives (λ left. left) }
     ensures borrowed_end { (left : List (List ℕ))
@@ -107,6 +123,8 @@ pub fn names_are_given_in_order()
 /// first position of `name` in `names`, and `None` exactly if `name` isn't in `names`. For example, the first position
 /// of `a` in `["b", "a", "a"]` is 1. Every lookup by name returns `first_place`, so this law says what each of them
 /// returns.
+///
+/// About [`FieldNames::find`] and [`IndexedNames::find_counted`].
 pub fn lookups_give_the_first_position()
     ensures position { (names : List (List ℕ)) (name : List ℕ) (i : ℕ)
         → (first_place names name ≡ Some i) ↔ FirstAt names name i }
@@ -115,12 +133,16 @@ pub fn lookups_give_the_first_position()
 {}
 
 /// If `n` is what `Nullability::default` returns, then `n` is `NonNullable`.
+///
+/// About [`Nullability`].
 pub fn default_nullability_is_non_nullable()
     ensures { (n : Nullability) → ⟦<Nullability as Default>⟧.is_default n → n ≡ NonNullable }
 {}
 
 /// The constant `RESERVED_VALIDITY_FIELD_NAME` is the text `$__vortex_validity`. A caller that compares a name with the
 /// constant can so conclude which bytes the name has.
+///
+/// About [`RESERVED_VALIDITY_FIELD_NAME`].
 pub fn reserved_field_name_is_its_text()
     ensures { RESERVED_VALIDITY_FIELD_NAME.now ≡ codes "$__vortex_validity" }
 {}

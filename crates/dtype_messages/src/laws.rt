@@ -19,6 +19,8 @@ use crate::pb::{
 /// `a` and `b`. For example, the messages of `list(i32)` and `list(i32?)` aren't equal. A message's tree is what
 /// contracts cite, so with this law a caller can conclude from a test by `==` that two messages are read as the same
 /// type.
+///
+/// About [`pb::DType`].
 pub fn equal_where_trees_are()
     ensures types { (a b : DType) → Decides (⟦<DType as PartialEq>⟧.eq a b) (message a ≡ message b) }
     ensures kinds { (a b : DtypeType)
@@ -28,6 +30,8 @@ pub fn equal_where_trees_are()
 /// For all messages `a` and `b` of one of the kinds that have children, `a == b` is true exactly if all their fields
 /// are equal, where children are compared by their trees. For example, two list messages are equal exactly if their
 /// element types and their flags `nullable` are.
+///
+/// About [`pb::DtypeType`].
 pub fn equal_where_contents_are()
     ensures lists { (a b : List)
         → Decides (⟦<List as PartialEq>⟧.eq a b) (list_content a ≡ list_content b) }
@@ -46,6 +50,8 @@ pub fn equal_where_contents_are()
 /// For all messages `a` and `b` of one of the kinds that have no children, and for all numbers of primitive types,
 /// `a == b` is true exactly if `a` and `b` are the same value. For example, two decimal messages are equal exactly if
 /// their precisions, their scales and their flags `nullable` are.
+///
+/// About [`pb::Struct`] and [`pb::Union`].
 pub fn equal_where_fields_are()
     ensures nulls { (a b : Null) → Decides (⟦<Null as PartialEq>⟧.eq a b) (a ≡ b) }
     ensures bools { (a b : Bool) → Decides (⟦<Bool as PartialEq>⟧.eq a b) (a ≡ b) }
@@ -62,6 +68,8 @@ pub fn equal_where_fields_are()
 
 /// For all messages `a` and `b` of paths, `a == b` is true exactly if they contain the same names in the same order.
 /// The same is so of two parts and of two names. For example, the messages of the paths `a.b` and `b.a` aren't equal.
+///
+/// About [`pb::FieldPath`].
 pub fn paths_equal_where_names_are()
     ensures paths { (a b : FieldPath)
         → Decides (⟦<FieldPath as PartialEq>⟧.eq a b) (part_names a ≡ part_names b) }

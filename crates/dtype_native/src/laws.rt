@@ -15,6 +15,8 @@ use crate::{NativeDecimalType, PrecisionScale, TryFromBytes};
 
 /// For each native integer type `T` and each number `x` of it, if the little-endian bytes of `x` are read as a `T`,
 /// then the result is `Ok(x)`. For example, 258 as a `u16` is written as the bytes 2, 1, and these are read as 258.
+///
+/// About [`TryFromBytes::try_from_le_bytes`] and [`ToBytes::to_le_bytes`].
 pub fn written_bytes_read_back<T: TryFromBytes>()
     ensures { (x : T) (r : Result T VortexError) → T.fits (T.value x)
         → ReadsBytes T.byte_width T.value T.fits (little_endian T.byte_width (T.value x)) r
@@ -23,18 +25,24 @@ pub fn written_bytes_read_back<T: TryFromBytes>()
 
 /// For each native decimal type `D` and all decimal types `a` and `b` over it, `a == b` is true exactly if their
 /// precisions and their scales are the same.
+///
+/// About [`PrecisionScale`].
 pub fn precision_scales_are_equal_where_they_are<D: NativeDecimalType>()
     ensures { (a b : Decimal) → Decides (⟦<PrecisionScale<D> as PartialEq>⟧.eq a b) (a ≡ b) }
 {}
 
 /// For each native decimal type `D` and all decimal types `a` and `b` over it, if `b` is what `clone` returns for `a`,
 /// then `b` is the same as `a`.
+///
+/// About [`PrecisionScale`].
 pub fn clones_of_precision_scales_are_the_same<D: NativeDecimalType>()
     ensures { (a b : Decimal) → ⟦<PrecisionScale<D> as Clone>⟧.is_clone a b → b ≡ a }
 {}
 
 /// Returns the constants `NAME` of the native decimal types `i8`, `i16`, `i32`, `i64` and `i128`, in this order. Each
 /// is the text of the type's storage type, for example `i128`.
+///
+/// About [`NativeDecimalType`].
 pub fn names_of_native_decimals_are_their_texts() -> (
     &'static str,
     &'static str,

@@ -27,6 +27,8 @@ use std::hash::Hash;
 /// For all types `t` and `u` and all paths `p` and `q`, the type at `p` followed by `q` in `t` is `u` exactly if there
 /// is a type at `p` in `t` and the type at `q` in that one is `u`. For example, in `{a=list({b=u32})}` the type at
 /// `a.[].b` is the type at `b` in the type at `a.[]`. So a path can be resolved in two parts.
+///
+/// About [`FieldPath::resolve`].
 #[tactic(auto, using(crate::proofs::lemmas::Stepping::at_joined))]
 pub fn along_joined()
     ensures { (t u : Tree) (p q : List Field) → At t (p ++ q) u ↔ ((x : Tree) × At t p x × At x q u) }
@@ -34,6 +36,8 @@ pub fn along_joined()
 
 /// For each type `t` and all paths `p` and `q`, if `p` is a prefix of `q` and `q` exists in `t`, then `p` exists in
 /// `t`. For example, if `a.[].b` exists in a type, then so does `a.[]`.
+///
+/// About [`FieldPath::exists_in`].
 #[tactic(auto, using(crate::proofs::lemmas::Stepping::beginning_exists_in))]
 pub fn beginnings_exist()
     ensures { (t : Tree) (p q : List Field) → Beginning p q → ExistsIn t q → ExistsIn t p }
@@ -41,6 +45,8 @@ pub fn beginnings_exist()
 
 /// For all types `t` and `u` and each path `p`, if `t` is valid and the type at `p` in `t` is `u`, then `u` is valid.
 /// So what `resolve` returns for a valid type is valid.
+///
+/// About [`FieldPath::resolve`].
 #[tactic(auto, using(crate::proofs::lemmas::Stepping::valid_along))]
 pub fn a_path_leads_to_a_valid_type()
     ensures { (t u : Tree) (p : List Field) → Valid t → At t p u → Valid u }
@@ -62,6 +68,8 @@ pub fn a_path_leads_to_a_valid_type()
 ///   `p` in any value of `t`.
 ///
 /// With this law a reader that resolves a column knows that it reads values of exactly the resolved type.
+///
+/// About [`FieldPath::resolve`].
 #[tactic(auto, using(crate::proofs::Exact::exact, crate::proofs::Exact::around_of, crate::proofs::Exact::found_around, crate::proofs::Exact::found_in_of))]
 pub fn resolution_is_exact_for_values()
     ensures given { (t u : Tree) (p : List Field) → (along t p ≡ Some u) ↔ At t p u }
@@ -81,6 +89,8 @@ pub fn resolution_is_exact_for_values()
 /// For each valid type `t` and each path `p` that steps through no fixed-size list of size 0: if there is a type at `p`
 /// in `t`, then something lies along `p` in some value of `t`. If, besides, no prefix of `p` leads to an extension,
 /// then the reverse is so too: `p` exists in `t` exactly if something lies along it in some value of `t`.
+///
+/// About [`FieldPath::exists_in`].
 #[tactic(auto, using(crate::proofs::Exact::exists_where_found, crate::proofs::Exact::some_found))]
 pub fn a_type_is_given_exactly_where_something_is_found()
     ensures exists { (t : Tree) (p : List Field) → Valid t → CrossesNoSizeZero t p → CrossesNoExtension t p
@@ -91,11 +101,15 @@ pub fn a_type_is_given_exactly_where_something_is_found()
 
 /// For all paths `p` and `q`, `p` and `q` overlap (one is a prefix of the other) exactly if there is a path of which
 /// both are prefixes. For example, `a` and `a.b` overlap and are both prefixes of `a.b`; `a.b` and `a.c` don't overlap.
+///
+/// About [`FieldPath::overlap`].
 pub fn paths_overlap_where_some_path_extends_both()
     ensures { (p q : List Field) → Overlaps p q ↔ ((r : List Field) × Beginning p r × Beginning q r) }
 {}
 
 /// For all paths `p` and `q`, if `p` overlaps `q` then `q` overlaps `p`.
+///
+/// About [`FieldPath::overlap`].
 #[tactic(auto, using(crate::proofs::OverlapLaws::overlaps_symmetric))]
 pub fn overlap_is_symmetric()
     ensures { (p q : List Field) → Overlaps p q → Overlaps q p }
@@ -104,6 +118,8 @@ pub fn overlap_is_symmetric()
 /// There are paths `p`, `q` and `r` such that `p` overlaps `q` and `q` overlaps `r`, and `p` doesn't overlap `r`. For
 /// example, `a` overlaps the root, the root overlaps `b`, and `a` doesn't overlap `b`. So overlapping paths can't be
 /// sorted into groups.
+///
+/// About [`FieldPath::overlap`].
 #[tactic(auto, using(crate::proofs::OverlapLaws::overlap_not_transitive))]
 pub fn overlap_is_not_transitive()
     ensures { (p q r : List Field) × Overlaps p q × Overlaps q r × (Overlaps p r → ⊥) }
@@ -111,6 +127,8 @@ pub fn overlap_is_not_transitive()
 
 /// For all steps and all paths, if two are equal by `==` then they write the same to every hasher. So paths can be the
 /// keys of a hash map.
+///
+/// About [`Field`] and [`FieldPath`].
 #[tactic(auto, using(crate::proofs::MaskLaws::paths_write_alike))]
 pub fn equality_agrees_with_hash()
     ensures fields { (f g : Field) → IsTrue (⟦<crate::Field as PartialEq>⟧.eq f g)
@@ -122,6 +140,8 @@ pub fn equality_agrees_with_hash()
 /// For each set `s`, `s` covers a path `q` exactly if some path of `s` is a prefix of `q`. A path is one of the least
 /// paths of `s` exactly if it is in `s` and no other path of `s` is a prefix of it. For example, the set of `a` and
 /// `a.b` covers `a.c`, and its only least path is `a`.
+///
+/// About [`FieldPathSet::into_iter`].
 #[tactic(auto, using(crate::proofs::lemmas::SetCovers::covers_word, crate::proofs::lemmas::SetCovers::least_word))]
 pub fn what_covers_and_least_say()
     ensures covers { (s : PathSet) (q : List Field) → IsTrue (covers s q)
@@ -131,6 +151,8 @@ pub fn what_covers_and_least_say()
 {}
 
 /// For each set `s` and each type `t`, a path is in `unresolved s t` exactly if it is in `s` and doesn't exist in `t`.
+///
+/// About [`FieldPathSet::unresolved`].
 #[tactic(auto, using(crate::proofs::lemmas::Unresolved::unresolved_word))]
 pub fn what_unresolved_says()
     ensures { (s : PathSet) (t : Tree) (p : List Field) → IsTrue (set.contains (unresolved s t) p)
@@ -139,6 +161,8 @@ pub fn what_unresolved_says()
 
 /// For all sets `s` and `t`, `s` and `t` have the same least paths exactly if they cover the same paths. For example,
 /// the set of `a` and `a.b` and the set of `a` cover the same. So two queries can be compared by their least paths.
+///
+/// About [`FieldPathSet::into_iter`].
 #[tactic(auto, using(crate::proofs::lemmas::SetCovers::least_tells_coverage, crate::proofs::lemmas::SetCovers::least_same))]
 pub fn least_paths_tell_the_coverage()
     ensures { (s t : PathSet) → (least s ≡ least t) ↔ SameCoverage s t }
@@ -146,6 +170,8 @@ pub fn least_paths_tell_the_coverage()
 
 /// For each set `s`, its least paths cover what `s` covers, the least paths of these are these themselves, and each of
 /// them is in every set that covers the same as `s`. So no set with fewer paths covers the same.
+///
+/// About [`FieldPathSet::into_iter`].
 #[tactic(auto, using(crate::proofs::lemmas::SetCovers::covers_least, crate::proofs::lemmas::SetCovers::least_least, crate::proofs::lemmas::SetCovers::least_in))]
 pub fn a_cover_is_its_own_cover()
     ensures coverage { (s : PathSet) → SameCoverage (least s) s }
@@ -157,6 +183,8 @@ pub fn a_cover_is_its_own_cover()
 /// For each set `s` and each path `q` that `s` covers, exactly one of the least paths of `s` is a prefix of `q`. For
 /// example, if the least paths are `a` and `x`, then only `a` is a prefix of `a.b.c`. So a reader that opens the least
 /// paths reads nothing twice.
+///
+/// About [`FieldPathSet::into_iter`].
 #[tactic(auto, using(crate::proofs::lemmas::SetCovers::least_begins))]
 pub fn a_cover_has_one_beginning_of_each_covered_path()
     ensures some { (s : PathSet) (q : List Field) → IsTrue (covers s q)
@@ -167,6 +195,8 @@ pub fn a_cover_has_one_beginning_of_each_covered_path()
 
 /// For a slice of paths and a path, the set of the slice's paths covers the path exactly if the path starts with one of
 /// them. A caller that tests this with `any` over a slice needs this law to conclude that the path is covered.
+///
+/// About [`FieldPathSet::contains`] and [`FieldPathSet::into_iter`].
 #[tactic(auto, using(crate::proofs::lemmas::SetCovers::covers_any))]
 pub fn a_path_is_covered_where_it_starts_with_one(paths: &[FieldPath], path: &FieldPath)
     ensures { IsTrue (covers (set_of paths.now) path.now)
@@ -175,6 +205,8 @@ pub fn a_path_is_covered_where_it_starts_with_one(paths: &[FieldPath], path: &Fi
 
 /// For each list of paths, a path is in the list exactly if it is in the set of the list's paths. A caller needs this
 /// law to go from the list that `into_iter` yields to the set.
+///
+/// About [`FieldPathSet::iter`].
 #[tactic(auto, using(crate::proofs::lemmas::SetMembers::listed))]
 pub fn a_list_has_the_members_of_its_set()
     ensures { (ps : List (List Field)) (s : PathSet) (q : List Field) → set_of ps ≡ s
@@ -186,6 +218,8 @@ pub fn a_list_has_the_members_of_its_set()
 /// after the step `a` the set of `a.b` and `x` contains `b`. Second, for each set `s` and path `q`, `s` covers `q`
 /// exactly if some prefix of `q`, perhaps `q` itself, is in `s`. So a reader that steps a cursor along a path knows by
 /// `is_end` whether the path is covered.
+///
+/// About [`FieldPathSet::cursor`], [`FieldPathCursor::step`] and [`FieldPathCursor::element`].
 #[tactic(auto, using(crate::proofs::lemmas::PathsBelow::asked_after, crate::proofs::lemmas::PathsBelow::covered_on_the_way))]
 pub fn a_set_is_stepped_into()
     ensures after { (w : PathPredicate) (p q : List Field) → after_steps p w q ≡ w (p ++ q) }

@@ -24,6 +24,8 @@ ghost use Rattle.dtype_projection.specs.Restricted.{restricted};
 /// For each type `t` and each predicate `w` of paths, `projected t w` is a type exactly if some path that satisfies `w`
 /// exists in `t`. For example, `{a=i32, b=utf8}` has no projection to the path `c`, and has one to the paths `a` and
 /// `c`.
+///
+/// About [`project_paths`].
 #[tactic(auto, using(crate::proofs::lemmas::Projections::kept_exactly))]
 pub fn a_type_is_kept_exactly_where_a_path_exists()
     ensures { (t : Tree) (w : PathPredicate) → IsSome (projected t w)
@@ -34,6 +36,8 @@ pub fn a_type_is_kept_exactly_where_a_path_exists()
 /// of them is a prefix, resolves in `u` to what it resolves to in `t`: to the same type, or to none. For example, in
 /// the projection of `{a={b=i32}, c=utf8}` to `a` the path `a.b` leads to `i32`, as before. So a query that is bound to
 /// the original type can be run on the projection.
+///
+/// About [`project_paths`].
 pub fn wanted_paths_resolve_as_before()
     ensures { (t u : Tree) (w : PathPredicate) (p q : List Field) → projected t w ≡ Some u → IsTrue (w p)
         → Beginning p q → along u q ≡ along t q }
@@ -43,6 +47,8 @@ pub fn wanted_paths_resolve_as_before()
 /// in `t` and overlaps a path that satisfies `w` and exists in `t`: `q` is a prefix of such a path, or such a path is a
 /// prefix of `q`. For example, in the projection of `{a={b=i32, d=u8}, c=utf8}` to `a.b` there are the paths `a` and
 /// `a.b`, and neither `a.d` nor `c`.
+///
+/// About [`project_paths`].
 pub fn nothing_else_is_kept()
     ensures { (t u : Tree) (w : PathPredicate) (q : List Field) → projected t w ≡ Some u
         → (ExistsIn u q ↔ (ExistsIn t q × ((p : List Field) × IsTrue (w p) × ExistsIn t p × Overlaps p q))) }
@@ -54,6 +60,8 @@ pub fn nothing_else_is_kept()
 /// every other such part. Second, if one of the paths exists in `t`, then `u` is the only type of which the first
 /// statement is so. For example, the projection of `{a=i32, b=utf8, c=u8}` to `a` is `{a=i32}`, a part of
 /// `{a=i32, b=utf8}`. This law specifies projections without the recursion by which `projected` is defined.
+///
+/// About [`project_paths`].
 pub fn projections_are_least_parts()
     ensures least { (t u : Tree) (w : PathPredicate) → projected t w ≡ Some u → IsLeastPart t w u }
     ensures alone { (t u : Tree) (w : PathPredicate) (p : List Field) → IsTrue (w p) → ExistsIn t p
@@ -63,6 +71,8 @@ pub fn projections_are_least_parts()
 /// Three statements about the parts of a type. First, if `u` is a part of `t` and the path `q` leads to `y` in `u`,
 /// then `q` leads in `t` to a type of which `y` is a part. Second, two types that are parts of each other are equal.
 /// Third, each type is a part of itself.
+///
+/// About [`project_paths`].
 #[tactic(auto, using(crate::proofs::lemmas::Parts::path_of_part, crate::proofs::lemmas::Parts::parts_equal, crate::proofs::lemmas::Parts::part_itself))]
 pub fn paths_lead_to_parts()
     ensures along { (t u y : Tree) (q : List Field) → IsPart t u → At u q y
@@ -73,6 +83,8 @@ pub fn paths_lead_to_parts()
 
 /// The projection of a type has the same outer nullability as the type. For example, the projection of
 /// `{a=i32, b=utf8}?` to `a` is `{a=i32}?`.
+///
+/// About [`project_paths`].
 #[tactic(auto, using(crate::proofs::lemmas::Parts::kept_nullability))]
 pub fn projections_keep_the_nullability()
     ensures { (t u : Tree) (w : PathPredicate) → projected t w ≡ Some u → nullability u ≡ nullability t }
@@ -81,6 +93,8 @@ pub fn projections_keep_the_nullability()
 /// If two sets `r` and `s` cover the same of the paths that exist in `t`, then the projections of `t` to `r` and to `s`
 /// are the same. So the least paths of a set have the same projection as the set. For example, the sets of `a` and of
 /// `a` and `a.b` have the same projection.
+///
+/// About [`project_paths`].
 #[tactic(auto, using(crate::proofs::lemmas::Parts::same_for_same_coverage, crate::proofs::lemmas::Parts::same_for_least))]
 pub fn projection_depends_on_coverage_alone()
     ensures exists { (t : Tree) (r s : PathSet)
@@ -94,6 +108,8 @@ pub fn projection_depends_on_coverage_alone()
 /// covers each path of `r` that exists in `t`, then the projection of `u` to `r` is the projection of `t` to `r`.
 /// Second, the projection of `u` to `s` is `u`. For example, a schema that was projected to all columns of a query can
 /// be projected again to the columns of one of its filters.
+///
+/// About [`project_paths`].
 #[tactic(auto, using(crate::proofs::lemmas::Parts::projection_of_projection, crate::proofs::lemmas::Parts::projected_once))]
 pub fn projections_compose()
     ensures covered { (t u : Tree) (s r : PathSet) → projected t (set.contains s) ≡ Some u
@@ -108,6 +124,8 @@ pub fn projections_compose()
 /// are left of `w` after that step. For example, the type at `a` in the projection to `a.b` is the projection to `b` of
 /// the type at `a`. So a reader that steps into a type and into a set together (`FieldPathSet::cursor`) opens exactly
 /// what the projection keeps.
+///
+/// About [`project_paths`].
 #[tactic(auto, using(crate::proofs::lemmas::Projections::step_kept))]
 pub fn a_projection_is_stepped_into()
     ensures { (t u : Tree) (w : PathPredicate) (f : Field) → w [] ≡ false → projected t w ≡ Some u
@@ -115,6 +133,8 @@ pub fn a_projection_is_stepped_into()
 {}
 
 /// If a type is valid, then its projection is valid.
+///
+/// About [`project_paths`].
 #[tactic(auto, using(crate::proofs::lemmas::Projections::valid_kept))]
 pub fn projections_are_valid()
     ensures { (t u : Tree) (w : PathPredicate) → projected t w ≡ Some u → Valid t → Valid u }
@@ -131,6 +151,8 @@ pub fn projections_are_valid()
 /// - `beyond`: the premise of `found` that `p` exists in `t` is needed. A path through an extension exists in no type,
 ///   but the values of an extension are those of its storage type, so something may lie along such a path in a value of
 ///   `t` and be left out of the restricted value.
+///
+/// About [`project_paths`].
 #[tactic(auto, using(crate::proofs::lemmas::Restrictions::of_restricted, crate::proofs::lemmas::Restrictions::onto, crate::proofs::lemmas::Restrictions::lost_through_extensions))]
 pub fn values_are_restricted()
     ensures of { (t u : Tree) (w : PathPredicate) (v : Value) → projected t w ≡ Some u → Of v t → Of (restricted t w v) u }

@@ -40,18 +40,24 @@ use std::hash::Hash;
 
 /// For all kinds `a` and `b`, `a == b` is true exactly if `a` and `b` are the same kind. With this law a caller can
 /// conclude from `dtype.kind() == Kind::Struct` that `as_struct_fields` may be called.
+///
+/// About [`DType::kind`].
 pub fn kinds_are_equal_where_the_same()
     ensures { (a b : Kind) → Decides (⟦<Kind as PartialEq>⟧.eq a b) (a ≡ b) }
 {}
 
 /// For all ids `a` and `b`, `a == b` is true exactly if their texts have the same bytes. For example, `x.tag` isn't
 /// equal to `X.tag`.
+///
+/// About [`ExtId`].
 pub fn ids_are_equal_where_their_texts_are()
     ensures { (a b : List ℕ) → Decides (⟦<ExtId as PartialEq>⟧.eq a b) (a ≡ b) }
 {}
 
 /// For all types `a` and `b`, if `a == b` is true then `a` and `b` write the same to every hasher. So types can be the
 /// keys of a hash map.
+///
+/// About [`DType`].
 pub fn equality_agrees_with_hash()
     ensures { (a b : DType) → IsTrue (⟦<DType as PartialEq>⟧.eq a b)
         → ⟦<DType as Hash>⟧.hash_input a ≡ ⟦<DType as Hash>⟧.hash_input b }
@@ -61,6 +67,8 @@ pub fn equality_agrees_with_hash()
 /// transitive. Second, for all `a` and `b` that are equal in this way, `hash_ignore_nullability` writes the same for
 /// both to every hasher. For example, it writes the same for `list(i32?)` and for `list(i32)?`. So types without their
 /// nullabilities can be the keys of a hash map.
+///
+/// About [`DType::eq_ignore_nullability`] and [`DType::hash_ignore_nullability`].
 pub fn equality_ignoring_nullability_agrees_with_its_hash()
     ensures equivalence { Equivalence (λ (a b : Tree). erase a ≡ erase b) }
     ensures hash { (a b : Tree) → erase a ≡ erase b
@@ -71,6 +79,8 @@ pub fn equality_ignoring_nullability_agrees_with_its_hash()
 /// outer nullability set to `n`. First, the outer nullability of `u` is then `n`. Second, `u` and `t` are equal except
 /// for nullabilities. Third, if the nullability is set twice, the second setting decides: setting `m` and then `n`
 /// makes the same type as setting `n`. For example, `i32` set to `Nullable` and then to `NonNullable` is `i32`.
+///
+/// About [`DType::with_nullability`].
 #[tactic(auto, using(crate::proofs::lemmas::Nullabilities::set_is, crate::proofs::lemmas::Nullabilities::set_keeps, crate::proofs::lemmas::Nullabilities::set_again))]
 pub fn nullability_is_set_alone()
     ensures sets { (t u : Tree) (n : Nullability) → SetNull t n u → nullability u ≡ n }
@@ -80,6 +90,8 @@ pub fn nullability_is_set_alone()
 {}
 
 /// The constant `DType::BYTES`, which this law returns, is the non-nullable `u8`.
+///
+/// About [`DType::BYTES`].
 pub fn bytes_are_non_nullable_u8() -> DType
     ensures { tree result ≡ primitive PType.U8 NonNullable }
 {
@@ -90,6 +102,8 @@ pub fn bytes_are_non_nullable_u8() -> DType
 /// has the tag `tag`, then `tag` is first found at `i`. So `tag_to_child_index` returns `Some(i)` for the tag that
 /// `child_index_to_tag` returns for `i`. For example, in `union(int@5=i32, string@9=utf8)` the tag 9 is at position 1,
 /// and the position 1 has the tag 9.
+///
+/// About [`UnionVariants::tag_to_child_index`] and [`UnionVariants::child_index_to_tag`].
 #[tactic(auto, using(crate::proofs::lemmas::Tags::position_of_tag))]
 pub fn tags_tell_positions()
     ensures { (u : UnionVariants) → Valid (union_tree u) → (i tag : ℕ)
@@ -99,18 +113,24 @@ pub fn tags_tell_positions()
 
 /// For each valid type `t`, the value `sample t` is a value of `t`. So each valid type has a value, and no statement
 /// about all values of a valid type is true for want of values.
+///
+/// About [`DType::eq_with_nullability_subset`].
 pub fn samples_are_values()
     ensures { (t : Tree) → Valid t → Of (sample t) t }
 {}
 
 /// For each type `t`, null is a value of `t` exactly if the outer nullability of `t` is `Nullable`. For example, null
 /// is a value of `list(i32)?` and not of `list(i32?)`.
+///
+/// About [`DType::is_nullable`].
 pub fn null_is_a_value_of_nullable_types()
     ensures { (t : Tree) → Of null_value t ↔ IsNullable t }
 {}
 
 /// For all types `t` and `u`, if `u` is `t` with its outer nullability set to `Nullable`, then the values of `u` are
 /// the values of `t`, and null. For example, the values of `bool?` are true, false and null.
+///
+/// About [`DType::as_nullable`].
 pub fn nullable_types_have_null_besides()
     ensures { (t u : Tree) → SetNull t Nullable u
         → AddsNull t u }
@@ -119,6 +139,8 @@ pub fn nullable_types_have_null_besides()
 /// `Sub`, the relation that `eq_with_nullability_subset` tests, is a partial order: each type is a subset of itself; if
 /// `a` is a subset of `b` and `b` of `c`, then `a` is a subset of `c`; and if `a` and `b` are subsets of each other,
 /// they are equal. For example, `i32` is a subset of `i32?`, and `i32?` isn't one of `i32`.
+///
+/// About [`DType::eq_with_nullability_subset`].
 pub fn sub_is_an_order()
     ensures { IsOrder Sub }
 {}
@@ -126,6 +148,8 @@ pub fn sub_is_an_order()
 /// For all types `a` and `b`, if `a` is a subset of `b` (`Sub a b`), then each value of `a` is a value of `b`. For
 /// example, each value of `list(i32)` is a value of `list(i32?)?`. So a column of type `a` may be used where one of
 /// type `b` is required.
+///
+/// About [`DType::eq_with_nullability_subset`].
 pub fn values_of_what_is_below_are_values()
     ensures { (a b : Tree) → Sub a b → IncludedIn a b }
 {}
@@ -134,6 +158,8 @@ pub fn values_of_what_is_below_are_values()
 /// of size 0, then `a` is a subset of `b` exactly if each value of `a` is a value of `b`. The premise about size 0 is
 /// needed: each value of `fixed_size_list(i32?)[0]`, which is only the empty list, is a value of
 /// `fixed_size_list(i32)[0]`, and yet the first isn't a subset of the second.
+///
+/// About [`DType::eq_with_nullability_subset`].
 #[tactic(auto, using(crate::proofs::lemmas::SubValues::sub_values, crate::proofs::TellLaws::included_is_sub))]
 pub fn the_order_is_inclusion_of_values()
     ensures { (a b : Tree) → Valid a → HasNoSizeZero a → erase a ≡ erase b
@@ -143,6 +169,8 @@ pub fn the_order_is_inclusion_of_values()
 /// For all types `a` and `b` that are equal except for nullabilities, if `a` is valid and contains no fixed-size list
 /// of size 0, and `a` isn't a subset of `b`, then `tell a b` is a value of `a` that isn't a value of `b`. For example,
 /// `tell` of `list(i32?)` and `list(i32)` is the list of one null. So a refused comparison can be explained by a value.
+///
+/// About [`DType::eq_with_nullability_subset`].
 #[tactic(auto, using(crate::proofs::TellLaws::tells_apart))]
 pub fn tell_tells_apart()
     ensures { (a b : Tree) → Valid a → HasNoSizeZero a → erase a ≡ erase b
@@ -151,6 +179,8 @@ pub fn tell_tells_apart()
 
 /// For all types `a` and `b` that are equal except for nullabilities, also with a fixed-size list of size 0, `tell a b`
 /// is `None` exactly if `a` is a subset of `b`.
+///
+/// About [`DType::eq_with_nullability_subset`].
 #[tactic(auto, using(crate::proofs::TellLaws::told_exactly))]
 pub fn tell_gives_exactly_where_not_below()
     ensures { (a b : Tree) → erase a ≡ erase b → ((tell a b ≡ None) ↔ Sub a b) }
@@ -159,6 +189,9 @@ pub fn tell_gives_exactly_where_not_below()
 /// The iterators over types, over fields and over variants yield exactly as many items as `len` announced, in order,
 /// and then `None`. For example, the iterator over the fields of `{a=i32, b=utf8}` returns `a` with `i32`, then `b`
 /// with `utf8`, then `None`. A caller needs this to know which fields a `for` loop visits.
+///
+/// About [`StructFields::pairs`], [`StructFields::fields`], [`StructFields::field_dtypes`], [`UnionVariants::triples`]
+/// and [`UnionVariants::variants`].
 pub fn parts_are_given_in_order()
     ensures types { GivesInOrder ⟦<DTypeIter<'static> as Iterator>⟧.next_gives
         ⟦<DTypeIter<'static> as Iterator>⟧.remaining (λ d. tree d.now) (map tree) }
@@ -172,6 +205,8 @@ pub fn parts_are_given_in_order()
 /// lists, fixed-size lists whose size is below 2^32, maps whose key type is non-nullable, the type of a map's entries,
 /// structs, unions whose names, types and tags `UnionVariants::try_new` accepts, and extensions whose metadata is
 /// bytes. For example, if `t` is valid then so is `list(t)?`.
+///
+/// About [`DType::list`], [`DType::map`] and [`DType::struct_`].
 #[tactic(auto, using(crate::proofs::lemmas::ValidLists::valid_struct_of, crate::proofs::lemmas::ValidLists::listed_variants, crate::proofs::lemmas::ValidLists::valid_variants, crate::proofs::lemmas::Validity::entries_valid))]
 pub fn types_made_of_valid_types_are_valid()
     ensures primitives { (p : PType) (n : Nullability) → Valid (primitive p n) }
@@ -192,6 +227,8 @@ pub fn types_made_of_valid_types_are_valid()
 
 /// For all types `t` and `u`, if `u` is `t` with its outer nullability set, then `t` is valid exactly if `u` is. For
 /// example, `list(decimal(5,2))` and `list(decimal(5,2))?` are both valid.
+///
+/// About [`DType::with_nullability`].
 pub fn setting_a_nullability_keeps_validity()
     ensures { (t u : Tree) (n : Nullability) → SetNull t n u → (Valid t ↔ Valid u) }
 {}
@@ -199,6 +236,8 @@ pub fn setting_a_nullability_keeps_validity()
 /// A copy of something valid is valid. There is one statement each for a type, the fields of a struct, the variants of
 /// a union, the parts of a map, an extension, and the type of a field. So what `try_clone` returns for a valid type may
 /// be used wherever a valid type is required.
+///
+/// About [`DType::try_clone`].
 pub fn copies_of_valid_types_are_valid()
     ensures types { (d copy : DType) → tree copy ≡ tree d → Valid (tree d) → Valid (tree copy) }
     ensures structs { (s copy : StructFields) → struct_pairs copy ≡ struct_pairs s → Valid (struct_tree s)
@@ -216,6 +255,8 @@ pub fn copies_of_valid_types_are_valid()
 /// The part of a valid type that an `as_.._opt` or `into_.._opt` call returns is valid: the element type of a list, the
 /// parts of a map, the fields of a struct, the variants of a union, and an extension. For example, if `list(t)` is
 /// valid then so is `t`.
+///
+/// About [`StructFields::field`] and [`UnionVariants::variant`].
 #[tactic(auto, using(crate::proofs::lemmas::ValidParts::valid_parts))]
 pub fn parts_of_a_valid_type_are_valid()
     ensures list_element { (t u : Tree) → list_element t ≡ Some u → Valid t → Valid u }
@@ -235,6 +276,8 @@ pub fn parts_of_a_valid_type_are_valid()
 /// is valid. There is one statement each for a field or a variant at a position, for one that is found by its name, for
 /// all of them, for a map's key type and value type, and for a storage type. For example, if `{a=t, b=u}` is valid then
 /// so is the type `t` of its field `a`.
+///
+/// About [`StructFields::field_by_index`] and [`UnionVariants::variant_by_index`].
 #[tactic(auto, using(crate::proofs::lemmas::Validity::types_in_valid_parts))]
 pub fn types_in_valid_parts_are_valid()
     ensures field_at { (s : StructFields) (i : ℕ) (t : Tree) → slice_get (field_types (children s)) i ≡ Some t
@@ -255,6 +298,8 @@ pub fn types_in_valid_parts_are_valid()
 
 /// Fields that are selected from the fields of a valid struct (`project`), fields of two valid structs that are joined
 /// (`disjoint_merge`), and the fields of a valid struct that are left after one is removed (`without_field`) are valid.
+///
+/// About [`StructFields::project`].
 #[tactic(auto, using(crate::proofs::lemmas::Validity::removal_valid, crate::proofs::lemmas::Validity::valid_joined, crate::proofs::lemmas::Validity::valid_projected))]
 pub fn selections_of_valid_fields_are_valid()
     ensures projected { (s projection : StructFields) (names : List (List ℕ))

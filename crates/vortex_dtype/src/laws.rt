@@ -35,6 +35,8 @@ use std::hash::Hash;
 /// Let `r` say what a plugin does with metadata. After it is registered under `id` in a session `s`, `r` is registered
 /// under `id`, every other id has the plugin that it had in `s`, and whether unknown ids are kept is unchanged. For
 /// example, registering a plugin of `x.tag` doesn't change how metadata of `x.text` is read.
+///
+/// About [`DTypeSession::register`].
 #[tactic(auto, using(crate::proofs::lemmas::Sessions::sessions, crate::proofs::lemmas::Sessions::session_laws))]
 pub fn register_changes_one_id()
     ensures registered { (s : Meaning) (id : List ℕ) (r : Rewrites) → (register_in id r s).registered id ≡ Some r }
@@ -44,6 +46,8 @@ pub fn register_changes_one_id()
 {}
 
 /// After `allow_unknown` in any session `s`, unknown ids are kept, and every id has the plugin that it had in `s`.
+///
+/// About [`DTypeSession::allow_unknown`].
 #[tactic(auto, using(crate::proofs::lemmas::Sessions::sessions, crate::proofs::lemmas::Sessions::session_laws))]
 pub fn allow_unknown_changes_the_flag()
     ensures unknown { (s : Meaning) → (allow_unknown_in s).unknown ≡ true }
@@ -53,6 +57,8 @@ pub fn allow_unknown_changes_the_flag()
 /// For each list of calls on a new session: if a plugin was registered under `id`, and no later call registered another
 /// under it, then that plugin is the one registered under `id`. For example, if two plugins of `x.tag` are registered
 /// one after the other, the second is used. So the order in which libraries register their plugins decides.
+///
+/// About [`DTypeSession::register`] and [`DTypeSession::registry`].
 #[tactic(auto, using(crate::proofs::lemmas::Sessions::sessions, crate::proofs::lemmas::Sessions::session_laws))]
 pub fn last_registered_counts()
     ensures { (before rest : List Call) (id : List ℕ) (r : Rewrites) → LeavesAlone id rest
@@ -61,6 +67,8 @@ pub fn last_registered_counts()
 
 /// For each list of calls on a new session, if none of them registers a plugin under `id`, then no plugin is registered
 /// under `id`.
+///
+/// About [`DTypeSession::new`] and [`DTypeSession::registry`].
 #[tactic(auto, using(crate::proofs::lemmas::Sessions::sessions, crate::proofs::lemmas::Sessions::session_laws))]
 pub fn none_registered_counts()
     ensures { (calls : List Call) (id : List ℕ) → LeavesAlone id calls
@@ -69,6 +77,8 @@ pub fn none_registered_counts()
 
 /// For each list of calls on a new session, the session keeps unknown ids exactly if one of the calls is
 /// `allow_unknown`. For example, registering a plugin afterwards doesn't change that they are kept.
+///
+/// About [`DTypeSession::allow_unknown`] and [`DTypeSession::allows_unknown`].
 #[tactic(auto, using(crate::proofs::lemmas::Sessions::sessions, crate::proofs::lemmas::Sessions::session_laws))]
 pub fn unknown_once_allowed()
     ensures { (calls : List Call) → (after calls empty_meaning).unknown ≡ list_any is_allow calls }
@@ -78,6 +88,8 @@ pub fn unknown_once_allowed()
 /// valid storage type, then `c` is bytes, and of the metadata `c` the session keeps `c`. For example, if a plugin
 /// changes `AB` to `ab`, it leaves `ab` unchanged. So metadata doesn't change again each time that a type is written
 /// and read.
+///
+/// About [`ExtDTypePlugin`].
 pub fn kept_again()
     ensures { (s : Meaning) → LawfulSession s → (id b c : List ℕ) (t : Tree) → Bytes b → Valid t
         → keeps s id b t ≡ Some c → Bytes c × (keeps s id c t ≡ Some c) }
@@ -86,6 +98,8 @@ pub fn kept_again()
 /// Metadata of foreign extensions is equal by `==` exactly if its bytes are the same, and it writes to a hasher what
 /// its bytes write. Foreign vtables are equal exactly if their ids are the same, and they write to a hasher what their
 /// ids write.
+///
+/// About [`ForeignExtDType`] and [`ForeignExtMetadata`].
 pub fn foreign_extensions_are_compared_by_their_parts()
     ensures metadata { (a b : ForeignExtMetadata)
         → Decides (⟦<crate::ForeignExtMetadata as PartialEq>⟧.eq a b) (a.0.items ≡ b.0.items) }
@@ -100,6 +114,8 @@ pub fn foreign_extensions_are_compared_by_their_parts()
 /// For each session whose plugins are lawful, each valid type `t` and each `u` that is `t` with another outer
 /// nullability, the session admits `t` (keeps the metadata of each extension in it unchanged) exactly if it admits `u`.
 /// For example, it admits `x.tag[2B](utf8)` exactly if it admits `x.tag[2B](utf8?)`.
+///
+/// About [`DTypeProto::to_proto`].
 #[tactic(auto, using(crate::proofs::lemmas::Sessions::sessions, crate::proofs::lemmas::Sessions::session_laws))]
 pub fn admits_set_null()
     ensures { (s : Meaning) → LawfulSession s → (t u : Tree) (n : Nullability)
@@ -109,6 +125,8 @@ pub fn admits_set_null()
 /// The function `read`, which reads the parts of a message in order, agrees with the relations `Reads` and `Fault`. For
 /// each session, each message and each type `t`, `read` returns `Ok t` exactly if the message reads as `t`. If `read`
 /// returns an error, then the message has that fault, and it reads as no type.
+///
+/// About [`DTypeProto::from_proto`].
 #[tactic(auto, using(crate::proofs::lemmas::Reading::reading))]
 pub fn read_is_what_reads()
     ensures given { (s : Meaning) (m : Message) (t : Tree) → (read s m ≡ Ok t) ↔ Reads s m t }
@@ -132,6 +150,8 @@ pub fn read_is_what_reads()
 ///
 /// For example, a message of the extension `x.tag` with the metadata `AB` and one with `ab` are different messages. If
 /// the plugin keeps `ab` of both, they have the same normal form and read as the same type.
+///
+/// About [`DTypeProto::from_proto`] and [`DTypeProto::to_proto`].
 #[tactic(auto, using(crate::proofs::lemmas::Reading::reading))]
 pub fn messages_are_exact()
     ensures one_type { (s : Meaning) (m : Message) (t u : Tree)

@@ -30,6 +30,20 @@ OWNERS = {name: owner for owner, names in {
 # The calls of commands that are named for what a call does.
 NAMED = {"text": "Display for {}", "eq": "PartialEq for {}", "hash_eq": "Hash for {}", "copy": "{}::try_clone"}
 
+# How the line begins that shows a call, if the command's own example is of another call; "" if no line shows it.
+SHOWN = {
+    "FieldPathSet::new": "set t new", "FieldPathSet::extend": "set s extend a.b x a",
+    "FieldPathSet::insert": "set s insert a.c", "StructFields::from_iter": "struct_from_iter a,a",
+    "FieldPathSet::unresolved": "set t missing u8", "DTypeSession::new": "session s new",
+    "DTypeSession::register": "session s register x.tag", "IndexedNames::try_clone": "", "pb::PType::try_clone": "",
+    **{f"{trait} for {owner}": f"{command} {kind}" for trait, command in (
+        ("PartialEq", "inner_eq"), ("Hash", "inner_hash_eq")) for owner, kind in (
+        ("UnionVariants", "union"), ("MapDType", "map"), ("ExtDTypeRef", "x."))},
+    "UnionVariants::eq_ignore_nullability": "inner_eq_ignore_nullability union",
+    "MapDType::eq_ignore_nullability": "inner_eq_ignore_nullability map",
+    "ExtDTypeRef::eq_ignore_nullability": "inner_eq_ignore_nullability x.",
+}
+
 
 def listed():
     """The calls by what runs them, as the list has them."""
@@ -69,6 +83,11 @@ def chosen(lines, wanted):
     return list(dict.fromkeys(first[:1] + errors[:1]))
 
 
+def showing(lines, beginning):
+    """The last short line of those that begin so, with its answer: a set or a session has what earlier ones put in."""
+    return [it for it in lines if beginning and it[0].startswith(f"> {beginning}") and sum(map(len, it)) <= SHORT][-1:]
+
+
 def examples(names):
     """By the name of a call, of those given, the lines of the console that show it; and the commands that show none."""
     lines, found, rest = answered(), defaultdict(list), []
@@ -77,7 +96,8 @@ def examples(names):
         if not own or not shown:
             rest.append(row.name)
         for call in own:
-            found[call] += [it for it in shown if it not in found[call]]
+            these = showing(lines[row.name], SHOWN[call]) if call in SHOWN else shown
+            found[call] += [it for it in these if it not in found[call]]
     return found, rest
 
 

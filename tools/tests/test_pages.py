@@ -44,7 +44,7 @@ CHANGES = [
     ("docs/TRUST.md", "", "\nsome 4 lines of `specs/`\n", " lines, not 4\n"),
     ("docs/TRUST.md", "", "\n```sh\ntools/gone\n```\n", "docs/TRUST.md: there is no tools/gone"),
     ("docs/TRUST.md", "", "\n`tools/reference --chek`\n", "docs/TRUST.md: tools/reference has no --chek"),
-    ("crates/dtype_native/src/integer_ptype.rt", "/// A native integer type.", "/// A type.",
+    ("crates/dtype_native/src/integer_ptype.rt", "/// A native integer type: one of", "/// A type: one of",
      "docs/reference/dtype_native.md: isn't of these sources"),
     ("CHANGELOG.md", f"## {version()}", f"## 9.9.9\n\n## {version()}", "its newest version is 9.9.9, the console's"),
     ("docs/benchmarks.csv", "", "find/x/10,30,10\n", "its summary isn't of docs/benchmarks.csv"),
@@ -66,12 +66,12 @@ class Pages(Planted):
         self.assertRegex(self.read("docs/BENCHMARKS.md"), r"\| find among 10 fields \| [\d.]+ to 30 \|")
 
     def test_the_reference_says_what_a_call_does(self):
-        self.change(NAME, "/// Makes a name of a copy of the text.", "/// Makes a name.")
+        self.change(NAME, "/// Returns the name with a copy of this text.", "/// Returns a name.")
         self.change("crates/dtype_console/stdout", "", "> name b c\nrefused 0: out of memory\n")
         self.run_tool("reference")
         self.assertIn("""
 ### `FieldName::new`
-Makes a name.
+Returns a name.
 - `fn new(alloc: Global, text: &str) -> VortexResult<Self>`
 - **error** `OutOfMemory` (0): an allocation fails.
 - **ensures**: `Makes result (λ n. n ≡ text.now)`

@@ -23,7 +23,7 @@ const _: () = prove!(MAX_PRECISION == 76 && MAX_SCALE == 76);
 /// The precision, from 1 to 76, is the greatest number of decimal digits of a value. The scale, from -128 to 76 and at
 /// most the precision, is how many of those digits are after the decimal point. A negative scale -k means that each
 /// value is a multiple of 10^k: its digits are followed by k zeros before the point. The values of `decimal(3,-2)` are
-/// the multiples of 100 up to 99900.
+/// the multiples of 100 from -99900 to 99900.
 #[derive(Clone, Copy, Debug, PartialEq, Eq, Hash)]
 pub struct DecimalDType {
     precision: u8,

@@ -21,7 +21,7 @@
 //! - `Escapes`: how a name is printed.
 //!
 //! `specs/private/` contains the definitions about the index of names, which no other crate cites. `laws` states the
-//! theorems about these definitions. `docs/PROMISES.md` lists what is proved and what is only tested.
+//! theorems about these definitions. `docs/TRUST.md` lists what is proved and what is only tested.
 #![tactic(auto)]
 
 mod decimal;

@@ -20,7 +20,7 @@
 //! - `texts`: what is printed.
 //! - `equality`: when types are equal, and what they write to a hasher.
 //!
-//! `laws` states theorems about these definitions. `docs/PROMISES.md` lists what is proved and what is only tested.
+//! `laws` states theorems about these definitions. `docs/TRUST.md` lists what is proved and what is only tested.
 #![tactic(auto)]
 
 mod dtype;

@@ -289,7 +289,7 @@ def given_out(crate):
     root = f"crates/{crate}/src/lib.rt"
     text = text_of(root if os.path.exists(root) else f"crates/{crate}/src/main.rt")
     names = {alias for it in GIVEN.finditer(text) for _, alias in names_in(it[1] or it[2])}
-    return names | set(re.findall(r"(?m)^pub fn (\w+)", text)), set(MODULE.findall(text))
+    return names | set(re.findall(r"(?m)^pub (?:fn|const) (\w+)", text)), set(MODULE.findall(text))
 
 
 def heads_of(owner):

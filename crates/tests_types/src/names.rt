@@ -1,7 +1,7 @@
 // SPDX-License-Identifier: Apache-2.0
 // SPDX-FileCopyrightText: Copyright the Vortex contributors
 
-use dtype_base::{FieldNames, VortexResult};
+use dtype_base::{FieldName, FieldNames, VortexResult};
 use std::alloc::Global;
 use std::test::Fail;
 
@@ -14,5 +14,28 @@ fn names_are_collected(rt: HostRuntime) -> Result<(), Fail> {
     let alloc = rt.alloc();
     let names = collected(alloc, FieldNames::from_texts(alloc, &["a", "b"])?)?;
     assert!(rt; names.eq_texts(&["a", "b"]));
+    Ok(())
+}
+
+#[test]
+fn a_name_is_made_of_its_shared_text(rt: HostRuntime) -> Result<(), Fail> {
+    let alloc = rt.alloc();
+    let shared = FieldName::new(alloc, "a")?.into_inner();
+    let name = FieldName::from_inner(shared);
+    assert!(rt; name.eq_str("a") && name.inner().as_str() == "a");
+    Ok(())
+}
+
+#[test]
+fn names_tell_how_many_are_left(rt: HostRuntime) -> Result<(), Fail> {
+    let alloc = rt.alloc();
+    let names = FieldNames::from_texts(alloc, &["a", "b"])?;
+    let mut lent = names.iter();
+    assert!(rt; lent.size_hint() == (2, Some(2)));
+    let _ = lent.next();
+    assert!(rt; lent.size_hint() == (1, Some(1)));
+    let mut owned = names.into_iter();
+    let _ = owned.next();
+    assert!(rt; owned.size_hint() == (1, Some(1)));
     Ok(())
 }

@@ -1,8 +1,8 @@
 // SPDX-License-Identifier: Apache-2.0
 // SPDX-FileCopyrightText: Copyright the Vortex contributors
 
-use dtype_base::VortexResult;
-use dtype_types::{DType, StructFields};
+use dtype_base::{FieldNames, VortexResult};
+use dtype_types::{DType, StructFields, UnionVariants};
 use fixtures_values::{booleans, field};
 use std::alloc::Global;
 use std::test::Fail;
@@ -28,5 +28,30 @@ fn ten_thousand_fields_merge(rt: HostRuntime) -> Result<(), Fail> {
     let merged = merged(alloc, 10_000)?;
     assert!(rt; merged.nfields() == 10_001);
     assert!(rt; merged.project(alloc, merged.names().as_slice())? == merged);
+    Ok(())
+}
+
+// Two variants, each null.
+fn variants(alloc: Global) -> VortexResult<UnionVariants> {
+    let names = FieldNames::from_texts(alloc, &["x", "y"])?;
+    let mut dtypes = Vec::new(alloc);
+    dtypes.push(DType::Null)?;
+    dtypes.push(DType::Null)?;
+    UnionVariants::new(alloc, names, dtypes)
+}
+
+#[test]
+fn fields_and_variants_tell_how_many_are_left(rt: HostRuntime) -> Result<(), Fail> {
+    let alloc = rt.alloc();
+    let fields = booleans(alloc, &["x", "y"])?;
+    let mut dtypes = fields.fields();
+    let mut pairs = fields.pairs();
+    let _ = (dtypes.next(), pairs.next());
+    assert!(rt; dtypes.size_hint() == (1, Some(1)) && pairs.size_hint() == (1, Some(1)));
+    let union = variants(alloc)?;
+    let mut variants = union.variants();
+    assert!(rt; variants.size_hint() == (2, Some(2)));
+    let _ = variants.next();
+    assert!(rt; variants.size_hint() == (1, Some(1)));
     Ok(())
 }

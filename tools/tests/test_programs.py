@@ -11,7 +11,6 @@ from repository import crates
 
 # The folder of a crate in which the mutations are planted that are tried here.
 TRIED = "crates/fixtures_values"
-MUST_FAIL = f'cd {TRIED}/must-fail && for it in *; do echo "rt: must-fail fixtures_values/$it: {{}}"; done'
 NOT_PROVED = r"printf '== dtype_base\nfn f: not proved: x\nrt: dtype_base NOT PROVED\n7 passed, 1 failed\n'; exit 1"
 KIT = "[ $1 = version ] && echo rattle-kit-1 || echo '  rt ci     {}'"
 # A driver that says the same of all that it can read, and golden files of two lines.
@@ -37,11 +36,6 @@ RUNS = [
      "gate: the kit at hand, rattle-kit-1, keeps what it passed"),
     ("bin/rt", KIT.format("proves every crate from nothing"), "run_ci --expect", 0,
      "gate: the kit at hand, rattle-kit-1, proves everything from nothing in each run"),
-    ("bin/rt", MUST_FAIL.format("NOT REFUSED"), "wrong_bodies fixtures_values", 1,
-     "fixtures_values/one: NOT REFUSED\n0 refused, 1 not refused\n"),
-    ("bin/rt", MUST_FAIL.format("refused, as it must be: why"), "wrong_bodies fixtures_values", 0,
-     "fixtures_values/one: refused, as it must be: why\n1 refused, 0 not refused\n"),
-    ("bin/rt", "", "wrong_bodies tests_types", 2, "there is no crates/tests_types/wrong"),
     ("bin/rt", "", "faults", 2, "isn't built"),
     ("bin/driver", "exit 0", ROWS, 1, "0 answers to 2 lines"),
     ("bin/driver", READS.format("true", 10), ROWS, 0, "2 passed, 0 failed\n"),
@@ -62,8 +56,8 @@ class Runs(Planted):
     def test_tells_each(self):
         table = "".join(f'    Row("{it}", "{forms}", "", "", "", X),\n' for it, forms in FORMS.items())
         shutil.rmtree(f"{self.top}/crates/console_core/src")
-        for file, text in ((f"{TRIED}/wrong/one.edit", ""), (f"{TRIED}/must-fail/other.edit", ""),
-                           ("crates/dtype_demo/stdout", "right\n"), ("crates/console_core/src/table.rt", table),
+        for file, text in ((f"{TRIED}/must-fail/other.edit", ""), ("crates/dtype_demo/stdout", "right\n"),
+                           ("crates/console_core/src/table.rt", table),
                            ("crates/dtype_console/stdin", "# A name.\nname a\nname_eq a\n"),
                            ("crates/dtype_console/stdout", GOLDEN)):
             self.write(file, text)

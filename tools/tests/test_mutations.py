@@ -1,0 +1,91 @@
+# SPDX-License-Identifier: Apache-2.0
+# SPDX-FileCopyrightText: Copyright the Vortex contributors
+
+"""tools/mutations, over an `rt` that says of a check what it is told."""
+from planted import Planted
+
+CRATE = "crates/fixtures_values"
+# Two functions, and mutations of each.
+SOURCE = "pub fn one() -> u8 {\n    1\n}\n\npub fn two() -> u8 {\n    2\n}\n"
+ONE, TWO = "file: src/two.rt\nold:     1\nnew:     3\n", "file: src/two.rt\nold:     2\nnew:     4\n"
+# What a check says of the function `one`, and after it of `two`.
+BY_SEARCH = "no proof: expected answers in ./proofs/two/one/Answers.antt; `search` did not prove `returns-clause-is`"
+BY_HAND = "not proved; it stands on `Rattle.fixtures_values.proofs.two.two.Answers.returns`, which antt refuses"
+WRONG_GOAL = "./proofs/two/two/Answers.antt:7:1: error: `returns`: computed as far as they go, the two types differ"
+NO_FIELD = "./proofs/two/two/Answers.antt:7:1: error: `c.two` has no field `three`"
+BY_CALL = "no proof: it calls `fixtures_values::two::one`, which is not proved"
+
+
+class Mutations(Planted):
+    def setUp(self):
+        super().setUp()
+        self.write(f"{CRATE}/src/two.rt", SOURCE)
+
+    def tried(self, mutations, *said):
+        """What the tool prints of these mutations, and its status, where a check says this; each check is counted."""
+        for name, text in mutations.items():
+            self.write(f"{CRATE}/wrong/{name}.edit", text)
+        lines = "\n".join([*said, "holes=0"])
+        self.write("said", f"{lines}\n")
+        self.script("rt", f'[ "$1" = version ] && echo kit && exit; echo check >>{self.top}/checks; cat {self.top}/said')
+        return self.run_tool("mutations", "fixtures_values", XDG_CACHE_HOME=f"{self.top}/cache")
+
+    def test_what_a_clause_refuses_passes(self):
+        said = f"fn fixtures_values::two::one: {BY_SEARCH}"
+        self.assertEqual(self.tried({"a": ONE}, said), (
+            0, "fixtures_values: a: refused by returns-clause-is\n1 passed, 0 failed\n"))
+
+    def test_what_was_refused_is_kept(self):
+        said = f"fn fixtures_values::two::one: {BY_SEARCH}"
+        self.tried({"a": ONE}, said)
+        self.assertEqual(self.tried({"a": ONE}, "fn fixtures_values::two::one: proved"), (
+            0, "fixtures_values: a: refused by returns-clause-is (kept)\n1 passed, 0 failed\n"))
+        self.write(f"{CRATE}/src/two.rt", f"{SOURCE}\n")
+        self.assertEqual(self.tried({"a": ONE}, "fn fixtures_values::two::one: proved")[0], 1)
+
+    def test_what_is_still_proved_fails(self):
+        self.assertEqual(self.tried({"a": ONE}, "fn fixtures_values::two::one: proved"), (
+            1, "fixtures_values: a: NOT REFUSED\n0 passed, 1 failed\n"))
+
+    def test_mutations_of_two_functions_are_tried_in_one_check(self):
+        said = [f"fn fixtures_values::two::one: {BY_SEARCH}", f"fn fixtures_values::two::two: {BY_HAND}", WRONG_GOAL]
+        self.assertEqual(self.tried({"a": ONE, "b": TWO}, *said), (
+            0, "fixtures_values: a: refused by returns-clause-is\n"
+               "fixtures_values: b: refused at its proof of returns\n2 passed, 0 failed\n"))
+        self.assertEqual(self.read("checks"), "check\n")
+
+    def test_a_proof_that_names_what_is_gone_fails(self):
+        said = [f"fn fixtures_values::two::two: {BY_HAND}", NO_FIELD]
+        self.assertEqual(self.tried({"b": TWO}, *said), (
+            1, "fixtures_values: b: proof doesn't fit\n0 passed, 1 failed\n"))
+
+    def test_a_function_that_hangs_on_another_is_tried_alone(self):
+        said = [f"fn fixtures_values::two::one: {BY_SEARCH}", f"fn fixtures_values::two::two: {BY_CALL}"]
+        self.assertEqual(self.tried({"a": ONE, "b": TWO}, *said), (
+            1, "fixtures_values: a: refused by returns-clause-is\n"
+               "fixtures_values: b: only what it calls is refused\n1 passed, 1 failed\n"))
+        self.assertEqual(self.read("checks"), "check\ncheck\n")
+
+    def test_mutations_that_do_not_compile_are_told_apart(self):
+        status, said = self.tried({"a": ONE, "b": TWO})
+        self.script("rt", "[ \"$1\" = version ] && echo kit && exit; echo 'error[unexpected-token]: expected `;`'")
+        status, said = self.run_tool("mutations", "--anew", "fixtures_values", XDG_CACHE_HOME=f"{self.top}/cache")
+        self.assertEqual((status, said), (1, "fixtures_values: a: doesn't compile\nfixtures_values: b: doesn't compile\n"
+                                             "0 passed, 2 failed\n"))
+
+    def test_a_text_that_is_not_there_fails(self):
+        status, said = self.tried({"a": "file: src/two.rt\nold:     7\nnew:     3\n"})
+        self.assertEqual(status, 1)
+        self.assertIn("'    7' doesn't stand in crates/fixtures_values/src/two.rt exactly once", said)
+
+    def test_a_text_in_no_function_needs_the_name_of_one(self):
+        constant = f"{SOURCE}\npub const X: u8 = 5;\n"
+        self.write(f"{CRATE}/src/two.rt", constant)
+        edit = "file: src/two.rt\nold: pub const X: u8 = 5;\nnew: pub const X: u8 = 6;\n"
+        self.assertIn("it needs a line `fails: FUNCTION`", self.tried({"a": edit})[1])
+        said = f"fn fixtures_values::two::one: {BY_SEARCH}"
+        self.assertEqual(self.tried({"a": f"fails: one\n{edit}"}, said)[0], 0)
+
+    def test_a_crate_without_mutations_is_told(self):
+        status, said = self.run_tool("mutations", "tests_types")
+        self.assertEqual((status, said), (2, "mutations: there is no crates/tests_types/wrong\n"))

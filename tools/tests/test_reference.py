@@ -1,0 +1,33 @@
+# SPDX-License-Identifier: Apache-2.0
+# SPDX-FileCopyrightText: Copyright the Vortex contributors
+
+"""tools/reference, over faults in what stands behind the calls."""
+from planted import Planted
+
+LAWS = "crates/dtype_paths/src/laws.rt"
+
+
+class Reference(Planted):
+    def assert_fails(self, text):
+        status, said = self.run_tool("reference", "--check")
+        self.assertEqual(status, 1)
+        self.assertIn(text, said)
+
+    def test_a_law_that_names_no_call_fails(self):
+        text = self.read(LAWS)
+        self.write(LAWS, text.replace("/// About [`FieldPath::exists_in`].\n", "", 1))
+        self.assert_fails("the law laws::beginnings_exist names no call")
+
+    def test_a_law_about_what_is_not_there_fails(self):
+        text = self.read(LAWS)
+        self.write(LAWS, text.replace("/// About [`FieldPath::exists_in`].\n", "/// About [`FieldPath::exists`].\n", 1))
+        self.assert_fails("is about FieldPath::exists, which isn't there")
+
+    def test_a_mutation_of_no_item_fails(self):
+        self.change("crates/dtype_paths/wrong/open_counts_no_visit.edit", "of: FieldPathSet::into_iter_counted\n", "")
+        self.assert_fails("open_counts_no_visit.edit: is of no public item")
+
+    def test_a_clause_that_is_gone_shows_in_the_reference(self):
+        file = "crates/dtype_paths/src/field_path_set.rt"
+        self.change(file, "        ensures err { OnErr result (self.new ≡ self.old) }\n", "")
+        self.assert_fails("docs/reference/dtype_paths.md isn't of these sources")

@@ -5,6 +5,7 @@ pub mod Bytes
 pub mod Distinct
 pub mod BinaryDigits
 pub mod Errors
+pub mod MadeFrom
 pub mod Nullability
 pub mod Primitives
 pub mod FieldNames

@@ -3,9 +3,9 @@
 
 ghost use Rattle.std.specs.Prelude.{◌≡◌, ◌↔◌, ℕ, IsTrue, List, [], ◌<◌, length, slice_get, map, Some, nat_eq};
 ghost use Rattle.std.specs.Option.{option_copied};
-ghost use Rattle.std.specs.Iterator.{IsFinite};
-ghost use Rattle.std.specs.Iterator.Runs.{WholeRun};
+ghost use Rattle.std.specs.Iterator.{IsFiniteIterable};
 ghost use Rattle.dtype_base.specs.Errors.{Makes};
+ghost use Rattle.dtype_base.specs.MadeFrom.{MadeFrom};
 ghost use Rattle.dtype_base.specs.FieldNames.{first_place};
 
 use crate::{FieldName, FieldNamesIntoIter, FieldNamesIter, VortexResult};
@@ -68,10 +68,8 @@ impl FieldNames {
         alloc: Global,
         names: I,
     ) -> VortexResult<Self>
-        requires { (it : I.IntoIter) → I.into_iter_gives names it
-            → I.IntoIter.can_next it × IsFinite (I.IntoIter.remaining it) }
-        ensures { Makes result (λ n. (it : I.IntoIter) × I.into_iter_gives names it
-            × WholeRun I.IntoIter.next_gives it (λ run. n ≡ run.items)) }
+        requires { IsFiniteIterable I.into_iter_gives I.IntoIter.can_next I.IntoIter.remaining names }
+        ensures { Makes result (λ n. MadeFrom (I.into_iter_gives names) I.IntoIter.next_gives (λ given. n ≡ given)) }
     {
         Ok(FieldNames {
             items: names.into_iter().collect(alloc)?,

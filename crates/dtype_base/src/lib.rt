@@ -16,6 +16,7 @@
 //! - `Primitives` and `Decimals`: the two tables.
 //! - `Bytes`: which lists of numbers are bytes.
 //! - `FieldNames`: `first_place`, the first position of a name.
+//! - `MadeFrom`: what is made of all that an iterator yields.
 //! - `Distinct`: whether a list has no repeated element.
 //! - `Comparisons`, `NameHashes` and `BinaryDigits`: how many names a lookup compares.
 //! - `Escapes`: how a name is printed.

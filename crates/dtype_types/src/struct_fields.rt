@@ -2,10 +2,11 @@
 // SPDX-FileCopyrightText: Copyright the Vortex contributors
 
 ghost use Rattle.std.specs.Prelude.{◌≡◌, ◌⊎◌, ◌↔◌, IsTrue, ◌<◌, ◌^◌, ◌++◌, [], length, map, remove, vec_len, ◌+◌, ◌≤◌, IfOk, IsOk, IsOkUnless, slice_get, Some, fold, OnOk, string_bytes, All, IsSome, MatchBool, MatchResult, nat_lt};
-ghost use Rattle.std.specs.Iterator.{IsFinite};
+ghost use Rattle.std.specs.Iterator.{IsFiniteIterable};
 ghost use Rattle.std.specs.List.{AllByRecursion, zip};
 ghost use Rattle.std.specs.Option.{option_copied};
 ghost use Rattle.dtype_base.specs.Errors.{Makes};
+ghost use Rattle.dtype_base.specs.MadeFrom.{MadeFrom};
 ghost use Rattle.dtype_base.specs.BinaryDigits.{binary_digits};
 ghost use Rattle.dtype_base.specs.FieldNames.{SelectionError, first_place};
 ghost use Rattle.dtype_base.specs.Comparisons.{comparisons, longest_bucket};
@@ -42,7 +43,7 @@ impl StructFields {
     ghost use Rattle.dtype_types.specs.equality.Equality.{items_equal_under};
     ghost use Rattle.dtype_types.specs.nullability.Merged.{merge_items, rule_of};
     ghost use Rattle.dtype_types.specs.tree.Erase.{erase, erase_items};
-    ghost use Rattle.dtype_types.specs.parts.FieldTypes.{field_tree, MadeFrom};
+    ghost use Rattle.dtype_types.specs.parts.FieldTypes.{field_tree};
     ghost use Rattle.dtype_types.specs.texts.IndentedText.{indented_text, indented_braces};
     ghost use Rattle.dtype_types.specs.parts.Lookups.{first_named, field_names, field_types, Projects};
     ghost use Rattle.dtype_base.specs.Distinct.{Distinct};
@@ -109,8 +110,7 @@ impl StructFields {
         alloc: Global,
         fields: I,
     ) -> VortexResult<Self>
-        requires { (it : I.IntoIter) → I.into_iter_gives fields it
-            → I.IntoIter.can_next it × IsFinite (I.IntoIter.remaining it) }
+        requires { IsFiniteIterable I.into_iter_gives I.IntoIter.can_next I.IntoIter.remaining fields }
         ensures { Makes result (λ s. MadeFrom (I.into_iter_gives fields) I.IntoIter.next_gives (λ given.
             (children s ≡ map (λ p. (p.0, field_tree p.1)) given)
             × (All (λ p. Valid (field_tree p.1)) given → Valid (struct_tree s)))) }

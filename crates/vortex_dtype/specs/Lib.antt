@@ -24,6 +24,7 @@ pub use Rattle.dtype_base.specs.Decimals
 pub use Rattle.dtype_base.specs.Escapes
 pub use Rattle.dtype_base.specs.Errors as ErrorNumbers
 pub use Rattle.dtype_base.specs.FieldNames
+pub use Rattle.dtype_base.specs.MadeFrom
 pub use Rattle.dtype_base.specs.Comparisons
 pub use Rattle.dtype_base.specs.Nullability
 pub use Rattle.dtype_base.specs.Primitives

@@ -3,8 +3,7 @@
 
 -- The type of a field, before it is in a struct. From the documentation of `FieldDType` and
 -- `StructFields::from_iter`.
-use Rattle.std.specs.Prelude.{◌≡◌, ℕ, All, List, Option, map}
-use Rattle.std.specs.Iterator.Runs.{WholeRun}
+use Rattle.std.specs.Prelude.{◌≡◌, ℕ, All, List, map}
 use Rattle.dtype_base.specs.declared.nullability.Nullability.{Nullability}
 use Rattle.dtype_types.specs.declared.dtype.DType.{DType}
 use Rattle.dtype_types.specs.declared.field_dtype.FieldDType.{FieldDType}
@@ -23,10 +22,6 @@ given_fields given = fields (map (λ p. (p.0, field_tree p.1)) given)
 -- each field's type is valid
 abbrev pub AreValidFields : List (List ℕ × FieldDType) → Type 0
 AreValidFields given = All (λ p. Valid (field_tree p.1)) given
-
--- an iterator that is run to its end gives items of which P holds
-abbrev pub MadeFrom : {I A : Type 0} → (I → Type 0) → (I → Option A → I → Type 0) → (List A → Type 0) → Type 0
-MadeFrom {I = I} gives next P = (it : I) × gives it × WholeRun next it (λ run. P run.items)
 
 -- the type is the struct of these fields, and is valid where their types are
 abbrev pub IsStructOf : Nullability → DType → List (List ℕ × FieldDType) → Type 0

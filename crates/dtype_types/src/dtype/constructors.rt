@@ -3,11 +3,12 @@
 
 // Constructors of types that hold others.
 ghost use Rattle.std.specs.Prelude.{◌≡◌, ◌⊎◌, OnOk, MatchResult};
-ghost use Rattle.std.specs.Iterator.{IsFinite};
+ghost use Rattle.std.specs.Iterator.{IsFiniteIterable};
 ghost use Rattle.dtype_base.specs.Errors.{Makes};
+ghost use Rattle.dtype_base.specs.MadeFrom.{MadeFrom};
 ghost use Rattle.dtype_base.specs.declared.nullability.Nullability.TheVariants.{NonNullable};
 ghost use Rattle.dtype_base.specs.declared.vortex_error.VortexError.TheVariants.{OutOfMemory, MapKeyNullable};
-ghost use Rattle.dtype_types.specs.parts.FieldTypes.{IsStructOf, MadeFrom};
+ghost use Rattle.dtype_types.specs.parts.FieldTypes.{IsStructOf};
 ghost use Rattle.dtype_types.specs.nullability.Nullable.{nullability, IsNullable};
 ghost use Rattle.dtype_types.specs.tree.Tree.{list, fixed_size_list, map_of};
 ghost use Rattle.dtype_types.specs.tree.TreeOf.{tree};
@@ -80,8 +81,7 @@ impl DType {
         fields: I,
         n: Nullability,
     ) -> VortexResult<DType>
-        requires { (it : I.IntoIter) → I.into_iter_gives fields it
-            → I.IntoIter.can_next it × IsFinite (I.IntoIter.remaining it) }
+        requires { IsFiniteIterable I.into_iter_gives I.IntoIter.can_next I.IntoIter.remaining fields }
         ensures { Makes result (λ d. MadeFrom (I.into_iter_gives fields) I.IntoIter.next_gives (IsStructOf n d)) }
     {
         Ok(DType::Struct(StructFields::from_iter(alloc, fields)?, n))

@@ -221,7 +221,7 @@ fn say_asked(call: &mut Call<'_>, here: &FieldPathCursor<'_>) -> ConsoleResult<(
         ("end", here.is_end()),
         ("[]", here.element().is_some()),
     ])?;
-    call.say(here.name_count())?;
+    call.say(here.names().len())?;
     let mut texts = Vec::new(call.alloc);
     for (name, below) in here.names() {
         texts.push(named_text(call.alloc, name, &below)?)?;
@@ -237,7 +237,7 @@ fn named_text(
 ) -> ConsoleResult<String> {
     let mut text = String::new(alloc);
     write_name(&mut text, name)?;
-    if below.element().is_some() || below.name_count() > 0 {
+    if below.element().is_some() || below.names().len() > 0 {
         text.push('.')?;
     }
     Ok(text)

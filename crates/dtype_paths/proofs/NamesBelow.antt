@@ -2,7 +2,7 @@
 -- SPDX-FileCopyrightText: Copyright the Vortex contributors
 
 -- The names among the children of a node.
-use Rattle.std.proofs.Common.{◌≡◌, ◌∙◌, ℕ, ◌+◌, ◌-◌, suc, length, map, false, is_some, List, [], ◌∷◌, Option, Some, None, option_and_then, slice_get, cond, refl, sym, ap, subst, arith, MatchOption}
+use Rattle.std.proofs.Common.{◌≡◌, ◌<◌, ◌^◌, ◌∙◌, ℕ, ◌+◌, ◌-◌, suc, length, map, false, is_some, List, [], ◌∷◌, Option, Some, None, option_and_then, slice_get, cond, refl, sym, ap, subst, arith, MatchOption}
 use Rattle.std.specs.List.{Contains, IsDistinct, AllByRecursion, filter_map}
 use Rattle.std.specs.Map.{keys_of, lookup}
 use Rattle.std.proofs.lemmas.Map.Made.{AllPairs-from_IsDistinct}
@@ -19,6 +19,7 @@ use Rattle.dtype_paths.specs.declared.field.Field.TheVariants.{Name, ElementType
 use Rattle.dtype_paths.specs.declared.node.Node.{Node}
 use Rattle.dtype_paths.specs.PathOrder.{held_name, named, named-held_name}
 use Rattle.std.proofs.lemmas.Option.{same_Some}
+use Rattle.std.proofs.lemmas.List.{length-map}
 use Rattle.std.proofs.lemmas.Simd.{map-map}
 use Rattle.dtype_paths.proofs.lemmas.DistinctLists.{distinct-given}
 use Rattle.dtype_paths.proofs.lemmas.Cases.{by_option}
@@ -56,6 +57,12 @@ names-once es d = rw (firsts-held es) (distinct-given held_name (keys_of es) d (
 
 firsts-named : (nodes : List Node) (es : List (List ℕ × ℕ)) → map (λ (e : List ℕ × PathPredicate). e.0) (named_paths nodes es) ≡ firsts es
 firsts-named nodes = map-map (λ (e : List ℕ × PathPredicate). e.0) (λ (e : List ℕ × ℕ). (e.0, ends_below nodes e.1))
+
+pub paths_counted : (nodes : List Node) (es : List (List ℕ × ℕ)) → length (named_paths nodes es) ≡ length es
+paths_counted nodes es = length-map es (λ (e : List ℕ × ℕ). (e.0, ends_below nodes e.1))
+
+pub paths_fit : (nodes : List Node) (es : List (List ℕ × ℕ)) → length es < 2 ^ 64 → length (named_paths nodes es) < 2 ^ 64
+paths_fit nodes es fit = omega (arith, fit, paths_counted nodes es)
 
 module _ (nodes : List Node) (t : IsTrie nodes) (i : ℕ) (n : Node) (r : IsReached nodes i) (at : slice_get nodes i ≡ Some n) (once : IsDistinct same_field (keys_of (nodes_by_step n.children))) where
   abbrev below : List (Field × ℕ)
@@ -100,7 +107,7 @@ no-element [] h = refl
 no-element ((Name n, i) ∷ es) h = ap (λ k. suc k) (no-element es h.1)
 no-element ((ElementType, i) ∷ es) h = cc
 
-pub names-count : (es : List (Field × ℕ)) → IsDistinct same_field (keys_of es) → length (names es) + cond (is_some (lookup (same_field ElementType) es)) 1 0 ≡ length es
+names-count : (es : List (Field × ℕ)) → IsDistinct same_field (keys_of es) → length (names es) + cond (is_some (lookup (same_field ElementType) es)) 1 0 ≡ length es
 unfolding IsDistinct
 names-count [] d = refl
 names-count ((Name n, i) ∷ es) d = omega (arith, names-count es d.1)

@@ -6,7 +6,6 @@
 use Rattle.std.specs.Prelude.{ℕ, List, Option, Some, None}
 use Rattle.std.specs.Borrow.{Bor}
 use Rattle.dtype_paths.specs.PathPredicates.{PathPredicate, no_path}
-use Rattle.dtype_paths.specs.private.ChildIters.{named_left}
 use Rattle.dtype_paths.specs.private.Reached.{ends_below, named_paths}
 use Rattle.dtype_paths.specs.declared.cursor_names.CursorNames.{CursorNames}
 use Rattle.dtype_paths.specs.declared.field_path_cursor.FieldPathCursor.{FieldPathCursor}
@@ -22,7 +21,7 @@ asks_if (Some c) = asks c
 
 -- the names that an iterator has left, each with what is asked for after it
 unfoldable pub names_left : CursorNames → List (List ℕ × PathPredicate)
-names_left it = named_paths it.trie.now (named_left it.children)
+names_left it = named_paths it.trie.now it.children
 
 -- a name that is borrowed, and what its cursor asks for
 abbrev pub borrowed_asks : Bor (List ℕ) × FieldPathCursor → List ℕ × PathPredicate

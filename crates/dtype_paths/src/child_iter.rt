@@ -1,6 +1,7 @@
 // SPDX-License-Identifier: Apache-2.0
 // SPDX-FileCopyrightText: Copyright the Vortex contributors
 
+ghost use Rattle.std.specs.Prelude.{◌≡◌, ◌<◌, ◌^◌, length};
 ghost use Rattle.std.specs.Iterator.{YieldsFirstBy};
 ghost use Rattle.dtype_paths.specs.private.Children.{borrowed_entry, borrowed_name};
 
@@ -9,6 +10,7 @@ use crate::child_list::Child;
 use crate::child_tree::ChildTreeIter;
 use dtype_base::FieldName;
 use std::collections::hash_map;
+use std::marker::Model;
 use std::slice;
 
 /// The children of a node that are left, in no promised order.
@@ -42,7 +44,7 @@ impl<'a> ChildIter<'a> {
     }
 
     // The next step that is a name, and the index of the node that it leads to.
-    pub(crate) fn next_name(&mut self) -> Option<(&'a FieldName, usize)>
+    fn next_name(&mut self) -> Option<(&'a FieldName, usize)>
         ensures { YieldsFirstBy borrowed_name named_left self.old result self.new }
     {
         while let Some((step, node_index)) = self.next() {
@@ -51,5 +53,52 @@ impl<'a> ChildIter<'a> {
             }
         }
         None
+    }
+}
+
+/// The children of a node that are left and whose steps are names, in no promised order, and how many they are.
+#[derive(Drop)]
+pub(crate) struct ChildNames<'a> {
+    children: ChildIter<'a>,
+    count: usize,
+}
+
+impl<'a> Model for ChildNames<'a> {
+    ghost use Rattle.std.specs.Prelude.{◌≡◌, ℕ, List, length};
+    ghost use Rattle.dtype_paths.specs.private.ChildIters.{named_left};
+
+    ghost Value = { List (List ℕ × ℕ) };
+
+    ghost view = { λ it. named_left it.children };
+
+    ghost invariant = { λ it. it.count ≡ length (named_left it.children) };
+}
+
+impl<'a> ChildNames<'a> {
+    ghost use Rattle.dtype_paths.specs.private.ChildIters.{named_left};
+
+    // The names among these children, of which there are this many.
+    pub(crate) fn new(children: ChildIter<'a>, count: usize) -> Self
+        requires { count ≡ length (named_left children) }
+        ensures names { result ≡ named_left children.entry }
+        ensures fits { length result < 2 ^ 64 }
+    {
+        ChildNames { children, count }
+    }
+
+    // How many are left.
+    pub(crate) fn len(&self) -> usize
+        ensures { result ≡ length self.now }
+    {
+        self.count
+    }
+
+    // The next name and the index of the node that it leads to.
+    pub(crate) fn next(&mut self) -> Option<(&'a FieldName, usize)>
+        ensures { YieldsFirstBy borrowed_name (λ left. left) self.old result self.new }
+    {
+        let (name, node_index) = self.children.next_name()?;
+        self.count -= 1;
+        Some((name, node_index))
     }
 }

@@ -1,17 +1,19 @@
 // SPDX-License-Identifier: Apache-2.0
 // SPDX-FileCopyrightText: Copyright the Vortex contributors
 
-ghost use Rattle.std.specs.Prelude.{◌<◌, ◌^◌, ℕ, List, length};
-ghost use Rattle.std.specs.Iterator.{YieldsFirstBy, item_count};
+ghost use Rattle.std.specs.Prelude.{◌≡◌, ◌<◌, ◌^◌, ℕ, IfSome, List, Some, length};
+ghost use Rattle.std.specs.Iterator.{YieldsFirstBy, UpTo, item_count};
+ghost use Rattle.std.specs.Iterator.SizeHint.{IsWithinCount};
 ghost use Rattle.std.specs.List.{Contains};
 ghost use Rattle.dtype_paths.specs.PathPredicates.{AreNames};
-ghost use Rattle.dtype_paths.specs.private.ChildIters.{named_left};
 ghost use Rattle.dtype_paths.specs.private.Reached.{ends_below, IsReached};
 
 use crate::FieldPathCursor;
-use crate::child_iter::ChildIter;
+use crate::child_iter::ChildNames;
 use crate::trie::Trie;
 use dtype_base::FieldName;
+use std::fmt;
+use std::iter::FusedIterator;
 
 /// An iterator over the names with which paths of a set continue after a cursor. It returns each name once, with the
 /// cursor after that name, in no particular order. In contracts it is the list of the names that are left, each with
@@ -19,15 +21,15 @@ use dtype_base::FieldName;
 #[derive(Drop)]
 pub struct CursorNames<'a> {
     trie: &'a Trie,
-    children: ChildIter<'a>,
-    ghost reached: { (e : List ℕ × ℕ) → Contains (named_left children) e → IsReached trie.now e.1 },
+    children: ChildNames<'a>,
+    ghost reached: { (e : List ℕ × ℕ) → Contains children e → IsReached trie.now e.1 },
 }
 
 impl<'a> CursorNames<'a> {
     ghost use Rattle.dtype_paths.specs.Cursors.{names_left};
 
     // Over the names that lead on from this node, which some path leads to.
-    #[tactic(auto, unfolding(crate::specs::Cursors::names_left))]
+    #[tactic(auto, using(crate::proofs::NamesBelow::paths_fit), unfolding(crate::specs::Cursors::names_left))]
     pub(crate) fn new(trie: &'a Trie, node_index: usize) -> Self
         requires { IsReached trie.now node_index }
         ensures names { AreNames (ends_below trie.now node_index) (names_left result) }
@@ -35,7 +37,7 @@ impl<'a> CursorNames<'a> {
     {
         CursorNames {
             trie,
-            children: trie.children(node_index),
+            children: trie.names(node_index),
         }
     }
 }
@@ -50,7 +52,32 @@ impl<'a> Iterator for CursorNames<'a> {
     ghost remaining = { item_count names_left };
 
     fn next(&mut self) -> Option<(&'a FieldName, FieldPathCursor<'a>)> {
-        let (name, node_index) = self.children.next_name()?;
+        let (name, node_index) = self.children.next()?;
         Some((name, FieldPathCursor::at(self.trie, node_index)))
+    }
+
+    fn size_hint(&self) -> (usize, Option<usize>)
+        ensures lower { IsWithinCount result.0 (item_count names_left self.now) }
+        ensures upper { IfSome result.1 (UpTo (item_count names_left self.now)) }
+        ensures exact { result ≡ (length (names_left self.now), Some (length (names_left self.now))) }
+    {
+        let left = self.len();
+        (left, Some(left))
+    }
+}
+
+#[tactic(auto, using(crate::proofs::NamesBelow::paths_counted), unfolding(crate::specs::Cursors::names_left))]
+impl<'a> ExactSizeIterator for CursorNames<'a> {
+    fn len(&self) -> usize {
+        self.children.len()
+    }
+}
+
+impl<'a> FusedIterator for CursorNames<'a> {}
+
+/// Writes the name of the type, and none of the names.
+impl<'a> fmt::Debug for CursorNames<'a> {
+    fn fmt<W: fmt::Write>(&self, f: &mut fmt::Formatter<W>) -> fmt::Result {
+        f.write_str("CursorNames { .. }")
     }
 }

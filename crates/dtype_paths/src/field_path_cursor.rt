@@ -6,7 +6,7 @@ ghost use Rattle.std.specs.FinSet as set;
 ghost use Rattle.std.specs.Iterator.{YieldsFirstBy};
 ghost use Rattle.std.specs.Iterator.Runs.{AllItems, AnyItem, EachRunFrom};
 ghost use Rattle.dtype_paths.specs.PathOrder.{set_of};
-ghost use Rattle.dtype_paths.specs.PathPredicates.{after_step, no_path, AreNames, PathPredicate};
+ghost use Rattle.dtype_paths.specs.PathPredicates.{after_step, no_path, AreNames};
 ghost use Rattle.dtype_paths.specs.private.Reached.{ends_below, IsReached};
 ghost use Rattle.dtype_paths.specs.private.Trie.{terminals};
 ghost use Rattle.dtype_paths.specs.declared.field.Field.{Field};
@@ -14,6 +14,7 @@ ghost use Rattle.dtype_paths.specs.declared.field.Field.TheVariants.{ElementType
 
 use crate::trie::Trie;
 use crate::{CursorNames, Field};
+use std::fmt;
 
 /// A place in a set of paths: it stands for what the paths of the set are after some steps. A reader that descends into
 /// a type steps a cursor along, and so never looks at paths that lead elsewhere.
@@ -98,7 +99,7 @@ impl<'a> FieldPathCursor<'a> {
     }
 
     /// Returns an iterator over the names with which paths of the cursor begin: each name once, with the cursor after
-    /// it, in no particular order. There are as many as `name_count` returns.
+    /// it, in no particular order. The iterator's `len` is how many names are left. `names` itself visits none of them.
     #[tactic(auto, unfolding(crate::specs::Cursors::asks))]
     pub fn names(&self) -> CursorNames<'a>
         ensures names { AreNames (asks self.now) (names_left result) }
@@ -111,13 +112,11 @@ impl<'a> FieldPathCursor<'a> {
     {
         CursorNames::new(self.trie, self.node_index)
     }
+}
 
-    /// Returns the number of different names with which paths of the cursor begin. The number is stored, so the call
-    /// doesn't visit the names.
-    #[tactic(auto, unfolding(crate::specs::Cursors::asks))]
-    pub fn name_count(&self) -> usize
-        ensures { (ns : List (List ℕ × PathPredicate)) × AreNames (asks self.now) ns × (length ns ≡ result) }
-    {
-        self.trie.name_count(self.node_index)
+/// Writes the name of the type, and nothing of the set.
+impl<'a> fmt::Debug for FieldPathCursor<'a> {
+    fn fmt<W: fmt::Write>(&self, f: &mut fmt::Formatter<W>) -> fmt::Result {
+        f.write_str("FieldPathCursor { .. }")
     }
 }

@@ -7,6 +7,7 @@ ghost use Rattle.std.specs.FinSet as set;
 ghost use Rattle.dtype_paths.specs.PathOrder.{PathSet, set_of};
 ghost use Rattle.dtype_paths.specs.PathPredicates.{PathPredicate, after_steps, asks_above};
 ghost use Rattle.std.specs.List.{Any, Contains, starts_with};
+ghost use Rattle.dtype_types.specs.Laws.{GivesInOrder};
 ghost use Rattle.dtype_types.specs.tree.Tree.{Tree};
 ghost use Rattle.dtype_types.specs.tree.Valid.{Valid};
 ghost use Rattle.dtype_types.specs.values.Value.{Of, Value};
@@ -19,9 +20,11 @@ ghost use Rattle.dtype_paths.specs.Covering.{SameCoverage, covers, least};
 ghost use Rattle.dtype_paths.specs.Found.{Found, FoundIn};
 ghost use Rattle.dtype_paths.specs.Unresolved.{unresolved};
 ghost use Rattle.dtype_paths.specs.Crosses.{CrossesNoExtension, CrossesNoSizeZero};
+ghost use Rattle.dtype_paths.specs.Cursors.{borrowed_asks, names_left};
 ghost use Rattle.dtype_paths.specs.declared.field.Field.{Field};
+ghost use Rattle.dtype_paths.specs.declared.field_path_cursor.FieldPathCursor.{FieldPathCursor};
 
-use crate::FieldPath;
+use crate::{CursorNames, FieldPath};
 use std::hash::Hash;
 
 /// For all types `t` and `u` and all paths `p` and `q`, the type at `p` followed by `q` in `t` is `u` exactly if there
@@ -224,4 +227,18 @@ pub fn a_list_has_the_members_of_its_set()
 pub fn a_set_is_stepped_into()
     ensures after { (w : PathPredicate) (p q : List Field) → after_steps p w q ≡ w (p ++ q) }
     ensures covers { (s : PathSet) (q : List Field) → covers s q ≡ asks_above (set.contains s) q }
+{}
+
+/// For each `CursorNames`, `next` returns the names that are left, in order, and as many as `len` returns before the
+/// first `None`. For example, of two names that are left the first call returns the first, the second call the second,
+/// and the third call `None`. So a `for` loop over `FieldPathCursor::names` visits every name once and ends.
+pub fn names_are_given_in_order()
+    ensures { GivesInOrder ⟦<CursorNames<'static> as Iterator>⟧.next_gives
+        ⟦<CursorNames<'static> as Iterator>⟧.remaining borrowed_asks names_left }
+{}
+
+/// For each cursor `a` and each copy `b` that `clone` makes of it, `b` is the same cursor as `a`. For example, a copy of
+/// the cursor after the step `a` contains the same paths. So a reader may keep a copy and go on with the original.
+pub fn copies_of_cursors_are_the_same()
+    ensures { (a b : FieldPathCursor) → ⟦<crate::FieldPathCursor<'static> as Clone>⟧.is_clone a b → b ≡ a }
 {}

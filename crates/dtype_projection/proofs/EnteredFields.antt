@@ -1,7 +1,7 @@
 -- SPDX-License-Identifier: Apache-2.0
 -- SPDX-FileCopyrightText: Copyright the Vortex contributors
 
--- What is asked of the fields of a struct, while the names by which paths go on are looked up one by one, or the fields.
+-- What is asked of the fields of a struct, while the names by which paths go on are looked up one by one.
 use Rattle.std.proofs.Common.{◌≡◌, ◌≢◌, ◌⊎◌, inl, inr, ℕ, zero, suc, ◌+◌, ◌<◌, ◌≤◌, ◌==◌, if◌then◌else◌, All, length, true, false, List, [], ◌∷◌, ◌++◌, map, get_or, slice_get, Some, None, refl, sym, ap, subst, ◌∙◌, append-nil, arith}
 use Rattle.std.specs.List.{Contains, IsDistinct, filter_map}
 use Rattle.std.specs.Cmp.{nat_eq_equiv}
@@ -64,23 +64,6 @@ bounded i n (e ∷ es) r = grind (arith, r, bounded (e.0 + 1) n es)
 pub none_before : (i n k : ℕ) (es : Entries) → Rise i n es → k < i → lookup (λ j. k == j) es ≡ None
 none_before i n k [] r lt = refl
 none_before i n k (e ∷ es) r lt = grind (arith, r, none_before (e.0 + 1) n k es, lt)
-
-none_after : (i n k : ℕ) (es : Entries) → Rise i n es → n ≤ k → lookup (λ j. k == j) es ≡ None
-none_after i n k [] r le = refl
-none_after i n k (e ∷ es) r le = grind (arith, r, none_after (e.0 + 1) n k es, le, bounded (e.0 + 1) n es)
-
-rise_on : (i n : ℕ) (es : Entries) → Rise i n es → Rise i (n + 1) es
-rise_on i n [] r = omega (arith, r)
-rise_on i n (e ∷ es) r = grind (arith, r, rise_on (e.0 + 1) n es)
-
--- one more, at the bound
-rise_push : (i n : ℕ) (es : Entries) (v : FieldPathCursor) → Rise i n es → Rise i (n + 1) (es ++ (n, v) ∷ [])
-rise_push i n [] v r = omega (arith, r)
-rise_push i n (e ∷ es) v r = grind (arith, r, rise_push (e.0 + 1) n es v)
-
-lookup_push : (i n k : ℕ) (es : Entries) (v : FieldPathCursor) → Rise i n es → lookup (λ j. k == j) (es ++ (n, v) ∷ []) ≡ (if k == n then Some v else lookup (λ j. k == j) es)
-lookup_push i n k [] v r = refl
-lookup_push i n k (e ∷ es) v r = grind (arith, r, lookup_push (e.0 + 1) n k es v, bounded (e.0 + 1) n es)
 
 -- ---- name by name
 
@@ -172,54 +155,3 @@ module _ (w : PathPredicate) (ns : List (List ℕ)) (es fs : Entries) (a : AreLo
         ]))
         (λ c some. let e = named k c (Contains-from_lookup (λ i j. (Decides-eqb i j).0) k c fs some) in rw some (e.2 ∙ sym (asked_first ns w k e.0 e.1)));
   }
-
--- ---- field by field
-
--- all is entered of the fields before the position i
-pub record AreEnteredTo (w : PathPredicate) (ns : List (List ℕ)) (i : ℕ) (es : Entries) : Type 0 where
-  pub order : Rise 0 i es
-  pub asked : (k : ℕ) → k < i → asked_at es k ≡ asked_below w ns k
-
-pub to-start : (w : PathPredicate) (ns : List (List ℕ)) (es : Entries) → es ≡ [] → AreEnteredTo w ns 0 es
-to-start w ns es none = rw none (record { order = omega arith; asked = λ k lt. absurd (omega (arith, lt)) })
-
-module _ (w : PathPredicate) (ns : List (List ℕ)) (i : ℕ) (m : List ℕ) (here : slice_get ns i ≡ Some m) (es : Entries) (old : AreEnteredTo w ns i es) where
-  -- of the fields before the next one, by whether it is this one
-  up_to : {P : Type 0} (k : ℕ) → k < i + 1 → (k ≡ i → (k == i) ≡ true → P) → (k < i → (k == i) ≡ false → P) → P
-  up_to k lt same less = by_bool (k == i)
-      (λ y. same ((Decides-eqb k i).0 y) y)
-      (λ n. less (let ne = (Decides-eqb k i).1 in grind (arith, lt, n, ne)) n)
-
-  -- nothing is entered at the position, where nothing is asked of it or the name is that of a field before it
-  pub to-passed : (Some i ≡ first_place ns m → after_step (Name m) w ≡ no_path) → AreEnteredTo w ns (i + 1) es
-  to-passed nothing = record {
-    order = rise_on 0 i es old.order;
-    asked = λ k lt. up_to k lt (λ is _. rw (is, none_after 0 i i es old.order (omega arith)) (sym none)) (λ less _. old.asked k less);
-  }
-    where
-      none : asked_below w ns i ≡ no_path
-      none = elim (asked_cases ns w i) [
-        | inr e ↦ e
-        | inl f ↦
-            let named : m ≡ f.0 = same_Some m f.0 (sym here ∙ f.1.here) in
-            asked_first ns w i f.0 f.1 ∙ ap (λ l. after_step (Name l) w) (sym named) ∙ nothing (sym (place_of_first ns f.0 i f.1) ∙ ap (first_place ns) (sym named))
-      ]
-
-  -- the cursor is entered there
-  pub to-entered : (v : FieldPathCursor) (es' : Entries) → Some i ≡ first_place ns m → asks v ≡ after_step (Name m) w → es' ≡ es ++ (i, v) ∷ [] → AreEnteredTo w ns (i + 1) es'
-  to-entered v es' at is new = rw new (record {
-    order = rise_push 0 i es v old.order;
-    asked = λ k lt. rw (lookup_push 0 i k es v old.order) (up_to k lt
-        (λ same y. rw (y, same) (is ∙ sym (asked_first ns w i m (first_of_place ns m i at))))
-        (λ less n. rw n (old.asked k less)));
-  })
-
-pub to-end : (w : PathPredicate) (ns : List (List ℕ)) (i : ℕ) (es : Entries) → i ≡ length ns → AreEnteredTo w ns i es → AreEntered w ns es
-to-end w ns i es end e = record {
-  order = subst (λ n. Rise 0 n es) end e.order;
-  asked = λ k. elim (cases_lt k i) [
-    | inl lt ↦ e.asked k lt
-    | inr le ↦ rw (none_after 0 i k es e.order le)
-        (elim (asked_cases ns w k) [ inr none ↦ sym none | inl f ↦ absurd (omega (arith, le, end, slice_get_within ns k f.0 f.1.here)) ])
-  ];
-}

@@ -107,7 +107,7 @@ fn cursors(rt: &impl Eprint, alloc: Global) -> VortexResult<bool> {
     let is_right = !root.is_end()
         && !root.is_empty()
         && root.element().is_none()
-        && root.name_count() == 2
+        && root.names().len() == 2
         && root.names().next().is_some()
         && below.is_some_and(|it| it.element().is_none());
     end(rt);

@@ -10,4 +10,5 @@ pub use Rattle.dtype_base.specs.declared.vortex_error.VortexError
 pub use Rattle.dtype_messages.specs.declared.pb.FieldPath
 pub use Rattle.dtype_paths.specs.declared.field.Field
 pub use Rattle.dtype_paths.specs.declared.field_mask.FieldMask
+pub use Rattle.dtype_paths.specs.declared.field_path_cursor.FieldPathCursor
 pub use Rattle.dtype_types.specs.declared.dtype.kinds.Kind

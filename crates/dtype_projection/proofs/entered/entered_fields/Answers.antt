@@ -7,7 +7,7 @@ use Rattle.dtype_types.specs.parts.Lookups.{field_names}
 use Rattle.dtype_types.specs.tree.TreeOf.{children}
 use Rattle.dtype_paths.specs.Cursors.{asks}
 use Rattle.dtype_projection.proofs.EnteredFields.{all_entered}
-use Rattle.dtype_projection.proofs.entered.entered_by_names.Goals as goal
+use Rattle.dtype_projection.proofs.entered.entered_fields.Goals as goal
 
 pub returns : goal.returns
 returns c =

@@ -10,9 +10,8 @@ use Rattle.std.proofs.Math.Seq.{take-append_seam}
 use Rattle.std.proofs.lemmas.List.FromFn.{get_or-map-range_with_len, length-map-range_with_len}
 use Rattle.std.proofs.lemmas.List.Concat.{length-flat_map}
 use Rattle.std.proofs.lemmas.Map.Made.{is_member-Decides, IsDistinct-from_AllPairs, length-le_from_is_member}
-use Rattle.dtype_paths.specs.Covering.{IsCountOf, least}
+use Rattle.dtype_paths.specs.Covering.{IsBegun, IsCountOf, least}
 use Rattle.dtype_paths.specs.PathOrder.{PathSet}
-use Rattle.dtype_paths.specs.private.Reached.{IsBegun}
 use Rattle.dtype_paths.specs.EqualityLaws.{same_path-Decides, same_path_equiv}
 use Rattle.dtype_paths.specs.declared.field.Field.{Field}
 use Rattle.dtype_paths.proofs.lemmas.Counts.{least_none}

@@ -19,9 +19,8 @@ use Rattle.dtype_paths.proofs.lemmas.SetCovers.{least_word}
 use Rattle.dtype_paths.proofs.lemmas.SetMembers.{from_list-Decides, of_has, of_only, same_by}
 use Rattle.dtype_paths.specs.Beginning.{Beginning}
 use Rattle.dtype_base.specs.Distinct.{Distinct}
-use Rattle.dtype_paths.specs.Covering.{IsCountOf, least}
+use Rattle.dtype_paths.specs.Covering.{IsBegun, IsCountOf, least}
 use Rattle.dtype_paths.specs.PathOrder.{PathSet, set_of}
-use Rattle.dtype_paths.specs.private.Reached.{IsBegun}
 use Rattle.dtype_paths.specs.Equality.{same_field}
 use Rattle.dtype_paths.specs.EqualityLaws.{same_field-Decides, same_field_equiv, same_path-Decides}
 use Rattle.dtype_paths.specs.declared.field.Field.{Field}

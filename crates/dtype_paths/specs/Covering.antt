@@ -4,10 +4,11 @@
 -- What a set of paths covers, and the fewest of its paths that cover the same. A path covers everything below it, so a
 -- reader of a path needs no path that it begins. From the original's `FieldPathSet::into_iter`, which drops each path
 -- that another path of the set begins. The law `what_covers_and_least_say` says both tests as relations.
-use Rattle.std.specs.Prelude.{◌≡◌, ◌↔◌, ℕ, Bool, List, length, not, ◌&&◌}
+use Rattle.std.specs.Prelude.{◌≡◌, ◌↔◌, ◌⊎◌, ℕ, Bool, IsTrue, List, [], length, not, ◌&&◌}
 use Rattle.std.specs.FinSet as set
 use Rattle.std.specs.List.{Contains, list_any, starts_with}
 use Rattle.dtype_base.specs.Distinct.{Distinct}
+use Rattle.dtype_paths.specs.Beginning.{Beginning}
 use Rattle.dtype_paths.specs.Equality.{same_field, same_path}
 use Rattle.dtype_paths.specs.PathOrder.{PathSet}
 use Rattle.dtype_paths.specs.declared.field.Field.{Field}
@@ -27,6 +28,10 @@ least s = set.retain s (λ p. not (list_any (λ q. begins_below q p) (set.items 
 -- the two sets cover the same paths
 abbrev pub SameCoverage : PathSet → PathSet → Type 0
 SameCoverage s t = (q : List Field) → covers s q ≡ covers t q
+
+-- q is the root, or a prefix of one of the set's least paths
+abbrev pub IsBegun : PathSet → List Field → Type 0
+IsBegun s q = (q ≡ []) ⊎ ((p : List Field) × IsTrue (set.contains (least s) p) × Beginning q p)
 
 -- there are exactly n paths with the property P
 pub record IsCountOf (P : List Field → Type 0) (n : ℕ) : Type 0 where

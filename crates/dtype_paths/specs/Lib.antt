@@ -13,6 +13,7 @@ pub mod Hashes
 pub mod Fields
 pub mod PathOrder
 pub mod Covering
+pub mod MadeBefore
 pub mod Unresolved
 pub mod PathPredicates
 pub mod Cursors

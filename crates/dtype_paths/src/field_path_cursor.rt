@@ -1,7 +1,7 @@
 // SPDX-License-Identifier: Apache-2.0
 // SPDX-FileCopyrightText: Copyright the Vortex contributors
 
-ghost use Rattle.std.specs.Prelude.{◌≡◌, ◌↔◌, ◌<◌, ◌^◌, ◌∷◌, ℕ, List, [], length, IfNone, IfSome, IsTrue, None, false, true};
+ghost use Rattle.std.specs.Prelude.{◌≡◌, ◌↔◌, ◌<◌, ◌^◌, ◌∷◌, ℕ, List, [], length, IfSome, IsTrue, false, true};
 ghost use Rattle.std.specs.FinSet as set;
 ghost use Rattle.std.specs.Iterator.{YieldsFirstBy};
 ghost use Rattle.std.specs.Iterator.Runs.{AllItems, AnyItem, EachRunFrom};
@@ -74,10 +74,7 @@ impl<'a> FieldPathCursor<'a> {
     /// for a cursor that contains `b` and `c.d` the step `c` returns a cursor that contains `d`.
     pub fn step(&self, step: &Field) -> Option<Self>
         ensures paths { asks_if result ≡ after_step step.now (asks self.now) }
-        ensures none { (result ≡ None) ↔ (after_step step.now (asks self.now) ≡ no_path) }
         ensures some { IfSome result (λ _. (q : List Field) × IsTrue (asks self.now (step.now ∷ q))) }
-        ensures each { IfSome result (λ c. (q : List Field) → asks c q ≡ asks self.now (step.now ∷ q)) }
-        ensures nothing { IfNone result ((q : List Field) → asks self.now (step.now ∷ q) ≡ false) }
     {
         let node_index = self.trie.child(self.node_index, step)?;
         Some(FieldPathCursor {
@@ -90,10 +87,7 @@ impl<'a> FieldPathCursor<'a> {
     /// step.
     pub fn element(&self) -> Option<Self>
         ensures paths { asks_if result ≡ after_step ElementType (asks self.now) }
-        ensures none { (result ≡ None) ↔ (after_step ElementType (asks self.now) ≡ no_path) }
         ensures some { IfSome result (λ _. (q : List Field) × IsTrue (asks self.now (ElementType ∷ q))) }
-        ensures each { IfSome result (λ c. (q : List Field) → asks c q ≡ asks self.now (ElementType ∷ q)) }
-        ensures nothing { IfNone result ((q : List Field) → asks self.now (ElementType ∷ q) ≡ false) }
     {
         self.step(&Field::ElementType)
     }

@@ -1,22 +1,24 @@
 // SPDX-License-Identifier: Apache-2.0
 // SPDX-FileCopyrightText: Copyright the Vortex contributors
 
-ghost use Rattle.std.specs.Prelude.{◌≡◌, ◌↔◌, ◌+◌, ◌<◌, ◌≤◌, ◌⊎◌, [], All, List, false, length, map, IfOk, IsOkUnless, IsTrue, OnErr, OnOk, Some};
+ghost use Rattle.std.specs.Prelude.{◌≡◌, ◌↔◌, ◌+◌, ◌<◌, ◌≤◌, ◌⊎◌, [], All, List, false, length, map, IfOk, IsOkUnless, IsTrue, OnErr, OnOk};
 ghost use Rattle.std.specs.Borrow.{Bor};
 ghost use Rattle.std.specs.FinSet as set;
-ghost use Rattle.std.specs.Iterator.{ExtendsWithItems, IsFinite, YieldsThen};
-ghost use Rattle.std.specs.Iterator.Runs.{WholeRun, YieldsInOrder};
+ghost use Rattle.std.specs.Iterator.{IsFiniteIterable};
+ghost use Rattle.std.specs.Iterator.Runs.{YieldsInOrder};
 ghost use Rattle.std.specs.List.{Contains, sum_by};
 ghost use Rattle.std.specs.Vec.Iter.{into_iter_items, into_iter_steps};
 ghost use Rattle.std.specs.declared.alloc.Global.{Global};
 ghost use Rattle.dtype_base.specs.Errors.{Makes};
+ghost use Rattle.dtype_base.specs.MadeFrom.{MadeFrom};
 ghost use Rattle.dtype_base.specs.declared.vortex_error.VortexError.TheVariants.{OutOfMemory};
 ghost use Rattle.dtype_base.specs.Distinct.{Distinct};
 ghost use Rattle.dtype_types.specs.tree.TreeOf.{tree};
 ghost use Rattle.dtype_paths.specs.At.{ExistsIn};
 ghost use Rattle.dtype_paths.specs.Beginning.{Beginning};
 ghost use Rattle.dtype_paths.specs.Cursors.{asks};
-ghost use Rattle.dtype_paths.specs.Covering.{SameCoverage, IsCountOf, covers, least};
+ghost use Rattle.dtype_paths.specs.Covering.{SameCoverage, IsBegun, IsCountOf, covers, least};
+ghost use Rattle.dtype_paths.specs.MadeBefore.{MadeBefore};
 ghost use Rattle.dtype_paths.specs.PathOrder.{set_of};
 ghost use Rattle.dtype_paths.specs.Unresolved.{unresolved};
 ghost use Rattle.dtype_paths.specs.declared.field.Field.{Field};
@@ -25,7 +27,7 @@ use crate::trie::Trie;
 use crate::{FieldPath, FieldPathCursor};
 use dtype_base::VortexResult;
 use dtype_types::DType;
-use std::alloc::Global;
+use std::alloc::{AllocError, Global};
 use std::marker::Model;
 use std::{fmt, vec};
 
@@ -73,10 +75,9 @@ impl FieldPathSet {
         alloc: Global,
         paths: I,
     ) -> VortexResult<Self>
-        requires { (it : I.IntoIter) → I.into_iter_gives paths it
-            → I.IntoIter.can_next it × IsFinite (I.IntoIter.remaining it) }
-        ensures { Makes result (λ s. (it : I.IntoIter) × I.into_iter_gives paths it
-            × WholeRun I.IntoIter.next_gives it (λ run. s ≡ set_of run.items)) }
+        requires { IsFiniteIterable I.into_iter_gives I.IntoIter.can_next I.IntoIter.remaining paths }
+        ensures { Makes result (λ s. MadeFrom (I.into_iter_gives paths) I.IntoIter.next_gives (λ given.
+            s ≡ set_of given)) }
     {
         let paths = paths.into_iter();
         let (least, _) = paths.size_hint();
@@ -124,16 +125,11 @@ impl FieldPathSet {
     ///
     /// - `OutOfMemory` (0): an allocation fails.
     pub fn extend<I: IntoIterator<Item = FieldPath>>(&mut self, paths: I) -> VortexResult<()>
-        requires { (it : I.IntoIter) → I.into_iter_gives paths it
-            → I.IntoIter.can_next it × IsFinite (I.IntoIter.remaining it) }
-        ensures items { ExtendsWithItems I.into_iter_gives I.IntoIter.next_gives
-            (λ old ps new. new ≡ set.union old (set_of ps)) paths self.old self.new result }
-        ensures run { OnOk result ((it : I.IntoIter) × I.into_iter_gives paths it
-            × WholeRun I.IntoIter.next_gives it (λ run. self.new ≡ set.union self.old (set_of run.items))) }
-        // those before some path p are in, and no other
-        ensures err { OnErr result ((it : I.IntoIter) × I.into_iter_gives paths it
-            × (xs : List (List Field)) × (p : List Field) × (u : I.IntoIter)
-            × YieldsThen I.IntoIter.next_gives it xs (Some p) u × (self.new ≡ set.union self.old (set_of xs))) }
+        requires { IsFiniteIterable I.into_iter_gives I.IntoIter.can_next I.IntoIter.remaining paths }
+        ensures extended { OnOk result (MadeFrom (I.into_iter_gives paths) I.IntoIter.next_gives (λ given.
+            self.new ≡ set.union self.old (set_of given))) }
+        ensures err { OnErr result (MadeBefore (I.into_iter_gives paths) I.IntoIter.next_gives (λ given.
+            self.new ≡ set.union self.old (set_of given))) }
         ensures errors { IsOkUnless result OutOfMemory }
     {
         for path in paths {
@@ -212,9 +208,7 @@ impl FieldPathSet {
         ensures ok { Makes result (λ r. set_of (into_iter_items r.0) ≡ least self) }
         ensures once { IfOk result (λ r. Distinct (into_iter_items r.0)) }
         ensures runs { OnOk result (YieldsInOrder (into_iter_steps {X = List Field} {Z = Global}) into_iter_items) }
-        // the root and each beginning of a least path
-        ensures visits { IfOk result (λ r. IsCountOf (λ q. (q ≡ [])
-            ⊎ ((p : List Field) × IsTrue (set.contains (least self) p) × Beginning q p)) r.1) }
+        ensures visits { IfOk result (λ r. IsCountOf (IsBegun self) r.1) }
         ensures some { IfOk result (λ r. 0 < r.1) }
         ensures root_alone { self ≡ set.empty → IfOk result (λ r. r.1 ≡ 1) }
         ensures at_most { IfOk result (λ r. r.1 ≤ 1 + sum_by length (into_iter_items r.0)) }
@@ -235,6 +229,23 @@ impl FieldPathSet {
             alloc: self.alloc,
             trie: self.trie.try_clone(self.alloc)?,
         })
+    }
+}
+
+/// Collects the paths that an iterator yields into a set, so that `collect` makes one.
+impl FromIterator<FieldPath> for FieldPathSet {
+    type Alloc = Global;
+
+    ghost from_iter_gives = { λ paths s. s ≡ set_of paths };
+
+    fn from_iter<I: IntoIterator<Item = FieldPath>>(
+        alloc: Global,
+        paths: I,
+    ) -> Result<FieldPathSet, AllocError> {
+        match FieldPathSet::from_iter(alloc, paths) {
+            Ok(set) => Ok(set),
+            Err(_) => Err(AllocError),
+        }
     }
 }
 

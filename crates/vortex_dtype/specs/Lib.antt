@@ -60,6 +60,7 @@ pub use Rattle.dtype_paths.specs.Fields
 pub use Rattle.dtype_paths.specs.Overlaps
 pub use Rattle.dtype_paths.specs.In
 pub use Rattle.dtype_paths.specs.Covering
+pub use Rattle.dtype_paths.specs.MadeBefore
 pub use Rattle.dtype_paths.specs.Unresolved
 pub use Rattle.dtype_paths.specs.Cursors
 pub use Rattle.dtype_paths.specs.PathPredicates

@@ -3,7 +3,7 @@
 
 -- Lemmas on what is asked for after some steps. For callers' proofs `stepping_into` names them in one line:
 --     #![tactic(auto, using(dtype_paths::proofs::lemmas::PathsBelow::stepping_into))]
-use Rattle.std.proofs.Common.{◌≡◌, ◌≢◌, ◌∙◌, ◌<◌, ℕ, zero, suc, drop, List, [], ◌∷◌, ◌++◌, Bool, true, false, ◌||◌, Option, Some, None, IsTrue, length, map, arith, refl, sym, ap, subst, ⊎_elim}
+use Rattle.std.proofs.Common.{◌≡◌, ◌≢◌, ◌↔◌, ◌∙◌, ◌<◌, ℕ, zero, suc, drop, List, [], ◌∷◌, ◌++◌, Bool, true, false, ◌||◌, Option, Some, None, IsTrue, IfSome, length, map, arith, refl, sym, ap, subst, ⊎_elim}
 use Rattle.std.proofs.lemmas.Bool.{false≢true, or_cases, or_left, or_right}
 use Rattle.std.proofs.lemmas.Bool.Decides.{same_from_decides}
 use Rattle.std.proofs.lemmas.List.{nil_from_length}
@@ -74,6 +74,11 @@ nowhere_asked_at c f p q e is = nowhere_asked c f p e ∙ ap (asks c) (sym is)
 pub given_below : (c : FieldPathCursor) (f : Field) (q : List Field) (r : Option FieldPathCursor) → asks_if r ≡ after_step f (asks c) → IsTrue (asks c (f ∷ q)) → IsTrue (is_some r)
 given_below c f q (Some x) told h = refl
 given_below c f q None told h = absurd (false≢true (ap (λ (v : PathPredicate). v q) told ∙ h))
+
+-- a step leads nowhere exactly where no path goes on with it
+pub stepped_nowhere : (c : FieldPathCursor) (f : Field) (r : Option FieldPathCursor) → asks_if r ≡ after_step f (asks c) → IfSome r (λ _. (q : List Field) × IsTrue (asks c (f ∷ q))) → (r ≡ None) ↔ (after_step f (asks c) ≡ no_path)
+stepped_nowhere c f None told some = (λ _. sym told, λ _. refl)
+stepped_nowhere c f (Some x) told some = (λ e. cc, λ none. absurd (false≢true (sym (ap (λ (v : PathPredicate). v some.0) none) ∙ some.1)))
 
 -- on the way, step by step
 pub ends_above : (w : PathPredicate) (q : List Field) → w [] ≡ true → true ≡ asks_above w q
@@ -200,4 +205,4 @@ pub none_read : (c : FieldPathCursor) (s : PathSet) → (asks c ≡ asks c) × (
 none_read c s = (refl, λ is e ns a. ((names_none ns).1 c a).1 (λ n q. ap (λ (v : PathPredicate). v (Name n ∷ q)) is ∙ ap (λ (x : PathSet). set.contains x (Name n ∷ q)) e ∙ contains_empty (Name n ∷ q)))
 
 -- what is asked for after some steps, and whether anything is
-pub ruleset stepping_into = (asked_after, covered_on_the_way, nothing_asked, nowhere_asked, nowhere_asked_at, given_below, ends_above, none_above, first_named, none_named, unnamed, names_none, empty_unasked, unasked_empty, none_read)
+pub ruleset stepping_into = (stepped_nowhere, asked_after, covered_on_the_way, nothing_asked, nowhere_asked, nowhere_asked_at, given_below, ends_above, none_above, first_named, none_named, unnamed, names_none, empty_unasked, unasked_empty, none_read)

@@ -1,12 +1,8 @@
 -- SPDX-License-Identifier: Apache-2.0
 -- SPDX-FileCopyrightText: Copyright the Vortex contributors
 
--- The nodes of a trie that some path leads to, the paths that end below a node, and those that a walk to the least comes by.
-use Rattle.std.specs.Prelude.{◌≡◌, ◌⊎◌, ℕ, IsTrue, List, [], map, Bool, Some, is_some, option_and_then}
-use Rattle.std.specs.FinSet as set
-use Rattle.dtype_paths.specs.Beginning.{Beginning}
-use Rattle.dtype_paths.specs.Covering.{least}
-use Rattle.dtype_paths.specs.PathOrder.{PathSet}
+-- The nodes of a trie that some path leads to, and the paths that end below a node.
+use Rattle.std.specs.Prelude.{◌≡◌, ℕ, List, map, Bool, Some, is_some, option_and_then}
 use Rattle.dtype_paths.specs.PathPredicates.{PathPredicate}
 use Rattle.dtype_paths.specs.private.Trie.{child_at, terminal_at, walk}
 use Rattle.dtype_paths.specs.declared.field.Field.{Field}
@@ -23,7 +19,3 @@ ends_below nodes i p = is_some (option_and_then (terminal_at nodes) (walk (child
 -- names with the nodes that they lead to, each with the paths that end below its node
 abbrev pub named_paths : List Node → List (List ℕ × ℕ) → List (List ℕ × PathPredicate)
 named_paths nodes es = map (λ e. (e.0, ends_below nodes e.1)) es
-
--- q is the root, or begins one of the set's least paths
-abbrev pub IsBegun : PathSet → List Field → Type 0
-IsBegun s q = (q ≡ []) ⊎ ((p : List Field) × IsTrue (set.contains (least s) p) × Beginning q p)

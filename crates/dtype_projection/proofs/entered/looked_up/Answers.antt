@@ -16,7 +16,7 @@ loop-name-init c =
     let w = asks c.args.wanted.now in
     let it = c.into_iter-name-iterator.result in
     looked_up-none w (field_names (children c.args.fields.now)) (names_left it) c.in_ok-entered.entered.items c.in_ok-entered.ensures.items
-    (subst (λ (n : CursorNames). AreNames w (names_left n)) (sym c.into_iter-name-iterator.ensures.into_iter_gives) c.names-name-items.ensures.names)
+    (subst (λ (n : CursorNames). AreNames w (names_left n)) (sym c.into_iter-name-iterator.ensures.into_iter_gives) c.names-names.ensures.names)
 
 pub loop-name-preserved-in-Continue-branch-2 : goal.loop-name-preserved-in-Continue-branch-2
 loop-name-preserved-in-Continue-branch-2 c =

@@ -2,7 +2,6 @@
 -- SPDX-FileCopyrightText: Copyright the Vortex contributors
 
 use Rattle.std.proofs.Common.{◌∙◌, ap, sym}
-use Rattle.std.proofs.lemmas.Bool.{false≢true}
 use Rattle.dtype_paths.specs.Cursors.{asks, asks_if}
 use Rattle.dtype_paths.specs.PathPredicates.{PathPredicate}
 use Rattle.dtype_paths.proofs.Reaching.{ends_stepped, ends_nowhere}
@@ -13,21 +12,9 @@ unfolding asks
 returns-in_err-node_index-clause-paths c =
     ap asks_if c.from_residual.ensures ∙ ends_nowhere c.args.self.now.trie.now c.args.self.now.node_index c.args.step.now c.in_err-node_index.ensures.node
 
-pub returns-in_err-node_index-clause-none : goal.returns-in_err-node_index-clause-none
-unfolding asks
-returns-in_err-node_index-clause-none c =
-    (λ _. sym (ends_nowhere c.args.self.now.trie.now c.args.self.now.node_index c.args.step.now c.in_err-node_index.ensures.node), λ _. c.from_residual.ensures)
-
 pub returns-clause-paths : goal.returns-clause-paths
 unfolding asks
 returns-clause-paths c = ends_stepped c.args.self.now.trie.now c.args.self.now.node_index c.in_ok-node_index.node_index c.args.step.now c.in_ok-node_index.ensures.node
-
-pub returns-clause-none : goal.returns-clause-none
-unfolding asks
-returns-clause-none c =
-    let on = ends_stepped c.args.self.now.trie.now c.args.self.now.node_index c.in_ok-node_index.node_index c.args.step.now c.in_ok-node_index.ensures.node in
-    let q = c.in_ok-node_index.ensures.some in
-    (λ e. cc, λ z. absurd (false≢true (ap (λ (w : PathPredicate). w q.0) (sym (on ∙ z)) ∙ q.1)))
 
 pub returns-clause-some : goal.returns-clause-some
 unfolding asks
@@ -35,14 +22,3 @@ returns-clause-some c =
     let on = ends_stepped c.args.self.now.trie.now c.args.self.now.node_index c.in_ok-node_index.node_index c.args.step.now c.in_ok-node_index.ensures.node in
     let q = c.in_ok-node_index.ensures.some in
     (q.0, ap (λ (w : PathPredicate). w q.0) (sym on) ∙ q.1)
-
-pub returns-in_err-node_index-clause-nothing : goal.returns-in_err-node_index-clause-nothing
-unfolding asks
-returns-in_err-node_index-clause-nothing c =
-    let none = ends_nowhere c.args.self.now.trie.now c.args.self.now.node_index c.args.step.now c.in_err-node_index.ensures.node in
-    rw c.from_residual.ensures (λ q. sym (ap (λ (w : PathPredicate). w q) none))
-
-pub returns-clause-each : goal.returns-clause-each
-unfolding asks
-returns-clause-each c = λ q.
-    ap (λ (w : PathPredicate). w q) (ends_stepped c.args.self.now.trie.now c.args.self.now.node_index c.in_ok-node_index.node_index c.args.step.now c.in_ok-node_index.ensures.node)

@@ -18,8 +18,8 @@ loop-path-preserved g c =
     ∙ sym (ap (set.union c.args.self.now) (of_push c.loop-path.yielded c.in-Some.path) ∙ union_insert c.args.self.now (set.from_list c.loop-path.yielded) c.in-Some.path)
 
 -- the list that was taken, as a run
-pub returns-clause-run : goal.returns-clause-run
-returns-clause-run g c =
+pub returns-clause-extended : goal.returns-clause-extended
+returns-clause-extended g c =
     let whole = run_of_exit g.I.IntoIter.Iterator.next_gives _ c.loop-path.yielded _ c.loop-path.yielded_by _ (rw c.in-None.is at c.next.ensures.steps) in
     let all = c.loop-path.invariant ∙ ap (λ ps. set.union c.args.self.now (set.from_list {R = path_cmp} ps)) (sym whole.3.0) in
     (c.into_iter-path-iterator.result, c.into_iter-path-iterator.ensures.into_iter_gives, (whole.0, whole.1, whole.2, all))

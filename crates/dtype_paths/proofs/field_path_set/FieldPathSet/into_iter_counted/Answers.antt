@@ -2,9 +2,8 @@
 -- SPDX-FileCopyrightText: Copyright the Vortex contributors
 
 use Rattle.std.proofs.Common.{subst}
-use Rattle.dtype_paths.specs.Covering.{IsCountOf}
+use Rattle.dtype_paths.specs.Covering.{IsBegun, IsCountOf}
 use Rattle.dtype_paths.specs.PathOrder.{PathSet}
-use Rattle.dtype_paths.specs.private.Reached.{IsBegun}
 use Rattle.dtype_paths.proofs.field_path_set.FieldPathSet.into_iter_counted.Goals as goal
 
 pub returns-clause-visits : goal.returns-clause-visits

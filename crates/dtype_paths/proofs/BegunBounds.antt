@@ -18,7 +18,7 @@ use Rattle.dtype_paths.proofs.lemmas.Counts.{least_none}
 use Rattle.dtype_paths.proofs.lemmas.SetMembers.{contains_empty}
 use Rattle.dtype_paths.proofs.lemmas.ListMembers.{contains-head, contains-tail, contains-flat_map}
 
--- the beginnings of a path, but for the root
+-- the prefixes of a path, but for the root
 abbrev starts : List Field → List (List Field)
 starts p = map (λ k. take k p) (range_with_len 1 (length p))
 
@@ -34,7 +34,7 @@ starts-has f q p rest e =
       get_or-map-range_with_len (λ k. take k p) 1 (length p) (length q) (suc (length q)) (f ∷ q) long (omega arith) ∙ taken,
     )
 
--- what is begun is the root, or a beginning of one of these with a step
+-- what is begun is the root, or a prefix of one of these with a step
 begun-has : (s : PathSet) (ls : List (List Field)) (q : List Field) → ((p : List Field) → IsTrue (set.contains (least s) p) → Contains ls p) → IsBegun s q → Contains ([] ∷ flat_map starts ls) q
 begun-has s ls [] has b = contains-head [] (flat_map starts ls)
 begun-has s ls (f ∷ q) has (inl e) = absurd (cc)
@@ -53,7 +53,7 @@ begun_at_most s ls n c has =
     let sum : length (flat_map starts ls) ≡ sum_by length ls = simp length-starts at (length-flat_map starts ls) in
     omega (arith, within, c.count, sum)
 
--- a set without paths begins the root alone
+-- of a set without paths the root alone is begun
 pub begun_none : (s : PathSet) (n : ℕ) → s ≡ set.empty → IsCountOf (IsBegun s) n → n ≡ 1
 begun_none s n none c =
     let most = begun_at_most s [] n c (λ p l. absurd (false≢true (

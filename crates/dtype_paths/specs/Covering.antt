@@ -2,8 +2,8 @@
 -- SPDX-FileCopyrightText: Copyright the Vortex contributors
 
 -- What a set of paths covers, and the fewest of its paths that cover the same. A path covers everything below it, so a
--- reader of a path needs no path that it begins. From the original's `FieldPathSet::into_iter`, which drops each path
--- that another path of the set begins. The law `what_covers_and_least_say` says both tests as relations.
+-- reader of a path needs no path that it is a prefix of. From the original's `FieldPathSet::into_iter`, which drops each
+-- path that another path of the set is a prefix of. The law `what_covers_and_least_say` says both tests as relations.
 use Rattle.std.specs.Prelude.{◌≡◌, ◌↔◌, ◌⊎◌, ℕ, Bool, IsTrue, List, [], length, not, ◌&&◌}
 use Rattle.std.specs.FinSet as set
 use Rattle.std.specs.List.{Contains, list_any, starts_with}
@@ -13,15 +13,15 @@ use Rattle.dtype_paths.specs.Equality.{same_field, same_path}
 use Rattle.dtype_paths.specs.PathOrder.{PathSet}
 use Rattle.dtype_paths.specs.declared.field.Field.{Field}
 
--- some path of the set begins q
+-- some path of the set is a prefix of q
 unfoldable pub covers : PathSet → List Field → Bool
 covers s q = list_any (λ p. starts_with same_field q p) (set.items s)
 
--- q begins p, and isn't p
+-- q is a prefix of p, and isn't p
 abbrev pub begins_below : List Field → List Field → Bool
 begins_below q p = starts_with same_field p q && not (same_path q p)
 
--- the paths of the set that no other of its paths begins
+-- the paths of the set that no other of its paths is a prefix of
 unfoldable pub least : PathSet → PathSet
 least s = set.retain s (λ p. not (list_any (λ q. begins_below q p) (set.items s)))
 

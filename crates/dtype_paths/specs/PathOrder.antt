@@ -32,7 +32,7 @@ named-held_name ElementType = refl
 abbrev pub field_cmp : Field → Field → Ordering
 field_cmp = on held_name (option_cmp (slice_cmp nat_cmp))
 
--- by the first step in which they differ, and a beginning before what it begins
+-- by the first step in which they differ, and a prefix before what it is a prefix of
 abbrev pub path_cmp : List Field → List Field → Ordering
 path_cmp = slice_cmp field_cmp
 

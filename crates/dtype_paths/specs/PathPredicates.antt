@@ -1,15 +1,15 @@
 -- SPDX-License-Identifier: Apache-2.0
 -- SPDX-FileCopyrightText: Copyright the Vortex contributors
 
--- Which paths are asked for, as a test of paths, and what they ask after a step. What a set asks for is its `contains`,
--- and after a step that is a test again. So neither an order nor repeats of paths have to be left out of account.
+-- Paths as a test: which ones are contained, and which ones are after a step. Of a set the test is its `contains`, and
+-- after a step that is a test again. So neither an order nor repeats of paths have to be left out of account.
 use Rattle.std.specs.Prelude.{◌≡◌, ◌≢◌, ◌↔◌, ℕ, List, [], ◌∷◌, map, ◌||◌, Bool, IsTrue, false}
 use Rattle.std.specs.List.{Contains}
 use Rattle.dtype_base.specs.Distinct.{Distinct}
 use Rattle.dtype_paths.specs.declared.field.Field.{Field}
 use Rattle.dtype_paths.specs.declared.field.Field.TheVariants.{Name}
 
--- which paths are asked for
+-- which paths are contained
 abbrev pub PathPredicate : Type 0
 PathPredicate = List Field → Bool
 
@@ -26,12 +26,12 @@ abbrev pub after_steps : List Field → PathPredicate → PathPredicate
 after_steps [] w = w
 after_steps (f ∷ p) w = after_steps p (after_step f w)
 
--- some path that is asked for begins the path
-abbrev pub asks_above : PathPredicate → List Field → Bool
-asks_above w [] = w []
-asks_above w (f ∷ p) = w [] || asks_above (after_step f w) p
+-- some contained path is a prefix of the path
+abbrev pub contains_above : PathPredicate → List Field → Bool
+contains_above w [] = w []
+contains_above w (f ∷ p) = w [] || contains_above (after_step f w) p
 
--- the names by which paths go on, each once, and what is asked for after it: some path
+-- the names by which paths go on, each once, and what is contained below it: some path
 pub record AreNames (w : PathPredicate) (ns : List (List ℕ × PathPredicate)) : Type 0 where
   pub once : Distinct (map (λ e. e.0) ns)
   pub exact : (n : List ℕ) → Contains (map (λ e. e.0) ns) n ↔ (after_step (Name n) w ≢ no_path)

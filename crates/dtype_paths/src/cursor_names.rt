@@ -45,9 +45,9 @@ impl<'a> CursorNames<'a> {
 impl<'a> Iterator for CursorNames<'a> {
     type Item = (&'a FieldName, FieldPathCursor<'a>);
 
-    ghost use Rattle.dtype_paths.specs.Cursors.{borrowed_asks, names_left};
+    ghost use Rattle.dtype_paths.specs.Cursors.{borrowed_below, names_left};
 
-    ghost next_gives = { YieldsFirstBy borrowed_asks names_left };
+    ghost next_gives = { YieldsFirstBy borrowed_below names_left };
 
     ghost remaining = { item_count names_left };
 

@@ -29,21 +29,21 @@ pub struct FieldPathCursor<'a> {
 }
 
 impl<'a> FieldPathCursor<'a> {
-    ghost use Rattle.dtype_paths.specs.Cursors.{asks, asks_if, borrowed_asks, names_left};
+    ghost use Rattle.dtype_paths.specs.Cursors.{contains_below, contains_below_if, borrowed_below, names_left};
 
     // At this node, which some path leads to.
-    #[tactic(auto, unfolding(crate::specs::Cursors::asks))]
+    #[tactic(auto, unfolding(crate::specs::Cursors::contains_below))]
     pub(crate) fn at(trie: &'a Trie, node_index: usize) -> Self
         requires { IsReached trie.now node_index }
-        ensures { asks result ≡ ends_below trie.now node_index }
+        ensures { contains_below result ≡ ends_below trie.now node_index }
     {
         FieldPathCursor { trie, node_index }
     }
 
     // At the root of the trie.
-    #[tactic(auto, unfolding(crate::specs::Cursors::asks))]
+    #[tactic(auto, unfolding(crate::specs::Cursors::contains_below))]
     pub(crate) fn at_root(trie: &'a Trie) -> Self
-        ensures { asks result ≡ set.contains (set_of (terminals trie.now)) }
+        ensures { contains_below result ≡ set.contains (set_of (terminals trie.now)) }
     {
         FieldPathCursor {
             trie,
@@ -53,19 +53,19 @@ impl<'a> FieldPathCursor<'a> {
 
     /// Returns whether a path of the set ends at this cursor. That path is in the set, so everything below it is
     /// wanted.
-    #[tactic(auto, unfolding(crate::specs::Cursors::asks))]
+    #[tactic(auto, unfolding(crate::specs::Cursors::contains_below))]
     pub fn is_end(&self) -> bool
-        ensures { result ≡ asks self.now [] }
+        ensures { result ≡ contains_below self.now [] }
     {
         self.trie.is_terminal(self.node_index)
     }
 
     /// Returns whether the cursor contains no path. This is true only of the cursor at the root of an empty set.
-    #[tactic(auto, unfolding(crate::specs::Cursors::asks))]
+    #[tactic(auto, unfolding(crate::specs::Cursors::contains_below))]
     pub fn is_empty(&self) -> bool
-        ensures nothing { IsTrue result ↔ (asks self.now ≡ no_path) }
-        ensures some { result ≡ false → (q : List Field) × IsTrue (asks self.now q) }
-        ensures each { IsTrue result → (q : List Field) → asks self.now q ≡ false }
+        ensures nothing { IsTrue result ↔ (contains_below self.now ≡ no_path) }
+        ensures some { result ≡ false → (q : List Field) × IsTrue (contains_below self.now q) }
+        ensures each { IsTrue result → (q : List Field) → contains_below self.now q ≡ false }
     {
         self.trie.is_empty_at(self.node_index)
     }
@@ -73,8 +73,8 @@ impl<'a> FieldPathCursor<'a> {
     /// Returns the cursor after one more step, or `None` if no path of the cursor begins with that step. For example,
     /// for a cursor that contains `b` and `c.d` the step `c` returns a cursor that contains `d`.
     pub fn step(&self, step: &Field) -> Option<Self>
-        ensures paths { asks_if result ≡ after_step step.now (asks self.now) }
-        ensures some { IfSome result (λ _. (q : List Field) × IsTrue (asks self.now (step.now ∷ q))) }
+        ensures paths { contains_below_if result ≡ after_step step.now (contains_below self.now) }
+        ensures some { IfSome result (λ _. (q : List Field) × IsTrue (contains_below self.now (step.now ∷ q))) }
     {
         let node_index = self.trie.child(self.node_index, step)?;
         Some(FieldPathCursor {
@@ -86,23 +86,23 @@ impl<'a> FieldPathCursor<'a> {
     /// Returns the cursor after a step to the element of a list, or `None` if no path of the cursor begins with that
     /// step.
     pub fn element(&self) -> Option<Self>
-        ensures paths { asks_if result ≡ after_step ElementType (asks self.now) }
-        ensures some { IfSome result (λ _. (q : List Field) × IsTrue (asks self.now (ElementType ∷ q))) }
+        ensures paths { contains_below_if result ≡ after_step ElementType (contains_below self.now) }
+        ensures some { IfSome result (λ _. (q : List Field) × IsTrue (contains_below self.now (ElementType ∷ q))) }
     {
         self.step(&Field::ElementType)
     }
 
     /// Returns an iterator over the names with which paths of the cursor begin: each name once, with the cursor after
     /// it, in no particular order. The iterator's `len` is how many names are left. `names` itself visits none of them.
-    #[tactic(auto, unfolding(crate::specs::Cursors::asks))]
+    #[tactic(auto, unfolding(crate::specs::Cursors::contains_below))]
     pub fn names(&self) -> CursorNames<'a>
-        ensures names { AreNames (asks self.now) (names_left result) }
+        ensures names { AreNames (contains_below self.now) (names_left result) }
         ensures fits { length (names_left result) < 2 ^ 64 }
-        ensures each { EachRunFrom (YieldsFirstBy borrowed_asks names_left) result (λ run. AllItems run (λ x.
-            ((q : List Field) → asks x.1 q ≡ asks self.now (Name x.0.now ∷ q))
-            × ((q : List Field) × IsTrue (asks self.now (Name x.0.now ∷ q))))) }
-        ensures all { EachRunFrom (YieldsFirstBy borrowed_asks names_left) result (λ run. run.whole ≡ true
-            → (n : List ℕ) (q : List Field) → IsTrue (asks self.now (Name n ∷ q)) → AnyItem run (λ x. x.0.now ≡ n)) }
+        ensures each { EachRunFrom (YieldsFirstBy borrowed_below names_left) result (λ run. AllItems run (λ x.
+            ((q : List Field) → contains_below x.1 q ≡ contains_below self.now (Name x.0.now ∷ q))
+            × ((q : List Field) × IsTrue (contains_below self.now (Name x.0.now ∷ q))))) }
+        ensures all { EachRunFrom (YieldsFirstBy borrowed_below names_left) result (λ run. run.whole ≡ true
+            → (n : List ℕ) (q : List Field) → IsTrue (contains_below self.now (Name n ∷ q)) → AnyItem run (λ x. x.0.now ≡ n)) }
     {
         CursorNames::new(self.trie, self.node_index)
     }

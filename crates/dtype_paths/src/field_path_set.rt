@@ -16,7 +16,7 @@ ghost use Rattle.dtype_base.specs.Distinct.{Distinct};
 ghost use Rattle.dtype_types.specs.tree.TreeOf.{tree};
 ghost use Rattle.dtype_paths.specs.At.{ExistsIn};
 ghost use Rattle.dtype_paths.specs.Beginning.{Beginning};
-ghost use Rattle.dtype_paths.specs.Cursors.{asks};
+ghost use Rattle.dtype_paths.specs.Cursors.{contains_below};
 ghost use Rattle.dtype_paths.specs.Covering.{SameCoverage, IsBegun, IsCountOf, covers, least};
 ghost use Rattle.dtype_paths.specs.MadeBefore.{MadeBefore};
 ghost use Rattle.dtype_paths.specs.PathOrder.{set_of};
@@ -97,8 +97,8 @@ impl FieldPathSet {
 
     /// Returns a cursor at the root of the set. It contains the paths of the set. Doesn't allocate.
     pub fn cursor(&self) -> FieldPathCursor<'_>
-        ensures paths { asks result ≡ set.contains self.now }
-        ensures each { (q : List Field) → asks result q ≡ set.contains self.now q }
+        ensures paths { contains_below result ≡ set.contains self.now }
+        ensures each { (q : List Field) → contains_below result q ≡ set.contains self.now q }
     {
         FieldPathCursor::at_root(&self.trie)
     }

@@ -5,7 +5,7 @@
 ghost use Rattle.std.specs.Prelude.{◌≡◌, ◌↔◌, IsTrue, List, Some, ◌++◌};
 ghost use Rattle.std.specs.FinSet as set;
 ghost use Rattle.dtype_paths.specs.PathOrder.{PathSet, set_of};
-ghost use Rattle.dtype_paths.specs.PathPredicates.{PathPredicate, after_steps, asks_above};
+ghost use Rattle.dtype_paths.specs.PathPredicates.{PathPredicate, after_steps, contains_above};
 ghost use Rattle.std.specs.List.{Any, Contains, starts_with};
 ghost use Rattle.dtype_types.specs.Laws.{GivesInOrder};
 ghost use Rattle.dtype_types.specs.tree.Tree.{Tree};
@@ -20,7 +20,7 @@ ghost use Rattle.dtype_paths.specs.Covering.{SameCoverage, covers, least};
 ghost use Rattle.dtype_paths.specs.Found.{Found, FoundIn};
 ghost use Rattle.dtype_paths.specs.Unresolved.{unresolved};
 ghost use Rattle.dtype_paths.specs.Crosses.{CrossesNoExtension, CrossesNoSizeZero};
-ghost use Rattle.dtype_paths.specs.Cursors.{borrowed_asks, names_left};
+ghost use Rattle.dtype_paths.specs.Cursors.{borrowed_below, names_left};
 ghost use Rattle.dtype_paths.specs.declared.field.Field.{Field};
 ghost use Rattle.dtype_paths.specs.declared.field_path_cursor.FieldPathCursor.{FieldPathCursor};
 
@@ -223,10 +223,10 @@ pub fn a_list_has_the_members_of_its_set()
 /// `is_end` whether the path is covered.
 ///
 /// About [`FieldPathSet::cursor`], [`FieldPathCursor::step`] and [`FieldPathCursor::element`].
-#[tactic(auto, using(crate::proofs::lemmas::PathsBelow::asked_after, crate::proofs::lemmas::PathsBelow::covered_on_the_way))]
+#[tactic(auto, using(crate::proofs::lemmas::PathsBelow::contained_after, crate::proofs::lemmas::PathsBelow::covered_on_the_way))]
 pub fn a_set_is_stepped_into()
     ensures after { (w : PathPredicate) (p q : List Field) → after_steps p w q ≡ w (p ++ q) }
-    ensures covers { (s : PathSet) (q : List Field) → covers s q ≡ asks_above (set.contains s) q }
+    ensures covers { (s : PathSet) (q : List Field) → covers s q ≡ contains_above (set.contains s) q }
 {}
 
 /// For each `CursorNames`, `next` returns the names that are left, in order, and as many as `len` returns before the
@@ -234,7 +234,7 @@ pub fn a_set_is_stepped_into()
 /// and the third call `None`. So a `for` loop over `FieldPathCursor::names` visits every name once and ends.
 pub fn names_are_given_in_order()
     ensures { GivesInOrder ⟦<CursorNames<'static> as Iterator>⟧.next_gives
-        ⟦<CursorNames<'static> as Iterator>⟧.remaining borrowed_asks names_left }
+        ⟦<CursorNames<'static> as Iterator>⟧.remaining borrowed_below names_left }
 {}
 
 /// For each cursor `a` and each copy `b` that `clone` makes of it, `b` is the same cursor as `a`. For example, a copy of

@@ -1,7 +1,7 @@
 -- SPDX-License-Identifier: Apache-2.0
 -- SPDX-FileCopyrightText: Copyright the Vortex contributors
 
--- What is asked of the fields of a struct, while the names by which paths go on are looked up one by one.
+-- What is contained below the fields of a struct, while the names by which paths go on are looked up one by one.
 use Rattle.std.proofs.Common.{◌≡◌, ◌≢◌, ◌⊎◌, inl, inr, ℕ, zero, suc, ◌+◌, ◌<◌, ◌≤◌, ◌==◌, if◌then◌else◌, All, length, true, false, List, [], ◌∷◌, ◌++◌, map, get_or, slice_get, Some, None, refl, sym, ap, subst, ◌∙◌, append-nil, arith}
 use Rattle.std.specs.List.{Contains, IsDistinct, filter_map}
 use Rattle.std.specs.Cmp.{nat_eq_equiv}
@@ -21,33 +21,33 @@ use Rattle.std.proofs.lemmas.Option.{same_Some, slice_get_within}
 use Rattle.std.proofs.lemmas.Simd.{map-map}
 use Rattle.dtype_base.specs.FieldNames.{FirstAt, first_place}
 use Rattle.dtype_base.proofs.lemmas.Lookups.{first_of_place, place_of_first}
-use Rattle.dtype_paths.specs.Cursors.{asks}
+use Rattle.dtype_paths.specs.Cursors.{contains_below}
 use Rattle.dtype_paths.specs.PathPredicates.{no_path, AreNames}
 use Rattle.dtype_paths.specs.declared.field.Field.TheVariants.{Name}
 use Rattle.dtype_paths.specs.declared.field_path_cursor.FieldPathCursor.{FieldPathCursor}
 use Rattle.dtype_paths.proofs.lemmas.Cases.{by_bool, by_option}
 use Rattle.dtype_paths.proofs.lemmas.DistinctLists.{distinct-given}
 use Rattle.dtype_paths.proofs.lemmas.ListMembers.{contains-given, contains-map, contains-mapped, given_by}
-use Rattle.dtype_projection.specs.private.Entered.{asked_at, asked_below, placed, shown, AreEntered, AreLookedUp, Entries, Rise}
+use Rattle.dtype_projection.specs.private.Entered.{contained_at, contained_below, placed, shown, AreEntered, AreLookedUp, Entries, Rise}
 use Rattle.dtype_projection.specs.Projected.{PathPredicate, after_step, without_field}
 use Rattle.dtype_projection.proofs.lemmas.Projections.{by_name, after_without_same, after_without_other}
 
--- ---- what is asked below the field at a position, by whether it is the first of its name
+-- ---- what is contained below the field at a position, by whether it is the first of its name
 
-asked_first : (ns : List (List ℕ)) (w : PathPredicate) (k : ℕ) (n : List ℕ) → FirstAt ns n k → asked_below w ns k ≡ after_step (Name n) w
-asked_first [] w k n f = let at = f.here in cc
-asked_first (m ∷ ns) w zero n f = ap (λ l. after_step (Name l) w) (same_Some m n f.here)
-asked_first (m ∷ ns) w (suc k) n f =
-    asked_first ns (without_field m w) k n (record { here = f.here; first = λ j lt. f.first (suc j) (omega (arith, lt)) })
+contained_first : (ns : List (List ℕ)) (w : PathPredicate) (k : ℕ) (n : List ℕ) → FirstAt ns n k → contained_below w ns k ≡ after_step (Name n) w
+contained_first [] w k n f = let at = f.here in cc
+contained_first (m ∷ ns) w zero n f = ap (λ l. after_step (Name l) w) (same_Some m n f.here)
+contained_first (m ∷ ns) w (suc k) n f =
+    contained_first ns (without_field m w) k n (record { here = f.here; first = λ j lt. f.first (suc j) (omega (arith, lt)) })
     ∙ after_without_other m n w (λ e. f.first 0 (omega arith) (ap Some e))
 
-asked_cases : (ns : List (List ℕ)) (w : PathPredicate) (k : ℕ) → ((n : List ℕ) × FirstAt ns n k) ⊎ (asked_below w ns k ≡ no_path)
-asked_cases [] w k = inr refl
-asked_cases (m ∷ ns) w zero = inl (m, record { here = refl; first = λ j lt. absurd (omega (arith, lt)) })
-asked_cases (m ∷ ns) w (suc k) = elim (asked_cases ns (without_field m w) k) [
+contained_cases : (ns : List (List ℕ)) (w : PathPredicate) (k : ℕ) → ((n : List ℕ) × FirstAt ns n k) ⊎ (contained_below w ns k ≡ no_path)
+contained_cases [] w k = inr refl
+contained_cases (m ∷ ns) w zero = inl (m, record { here = refl; first = λ j lt. absurd (omega (arith, lt)) })
+contained_cases (m ∷ ns) w (suc k) = elim (contained_cases ns (without_field m w) k) [
   | inr none ↦ inr none
   | inl f ↦ by_name m f.0
-      (λ e. inr (asked_first ns (without_field m w) k f.0 f.1 ∙ ap (λ l. after_step (Name l) (without_field m w)) (sym e) ∙ after_without_same m w))
+      (λ e. inr (contained_first ns (without_field m w) k f.0 f.1 ∙ ap (λ l. after_step (Name l) (without_field m w)) (sym e) ∙ after_without_same m w))
       (λ ne. inl (f.0, record { here = f.1.here; first = past f.0 ne f.1.first }))
 ]
   where
@@ -77,7 +77,7 @@ module _ (w : PathPredicate) (ns : List (List ℕ)) (left rest : List (List ℕ 
   looked_up-absent none = record { names = old.names; by_name = old.by_name; found = grind (arith, common_steps, old.found, next, none) }
 
   -- the field i has it, and its cursor is entered
-  pub looked_up-more : (i : ℕ) (below : FieldPathCursor) (es' : Entries) → Some i ≡ first_place ns n → asks below ≡ v → es' ≡ es ++ (i, below) ∷ [] → AreLookedUp w ns rest es'
+  pub looked_up-more : (i : ℕ) (below : FieldPathCursor) (es' : Entries) → Some i ≡ first_place ns n → contains_below below ≡ v → es' ≡ es ++ (i, below) ∷ [] → AreLookedUp w ns rest es'
   looked_up-more i below es' at is new = record {
     names = old.names;
     by_name = old.by_name;
@@ -120,11 +120,11 @@ module _ (w : PathPredicate) (ns : List (List ℕ)) (es fs : Entries) (a : AreLo
   all = sym (append-nil (map shown es)) ∙ a.found
 
   -- an entry is that of a name
-  named : (k : ℕ) (c : FieldPathCursor) → Contains fs (k, c) → (n : List ℕ) × FirstAt ns n k × (asks c ≡ after_step (Name n) w)
+  named : (k : ℕ) (c : FieldPathCursor) → Contains fs (k, c) → (n : List ℕ) × FirstAt ns n k × (contains_below c ≡ after_step (Name n) w)
   named k c there =
       let old = contains-mapped shown (k, c) es (Contains-permutation fs es (k, c) (IsPermutation-sym es fs moved) there) in
-      let p = placed_from ns a.names k (asks c) (subst (λ xs. Contains xs (k, asks c)) all old) in
-      (p.0, first_of_place ns p.0 k (sym p.2), a.by_name.each (p.0, asks c) p.1)
+      let p = placed_from ns a.names k (contains_below c) (subst (λ xs. Contains xs (k, contains_below c)) all old) in
+      (p.0, first_of_place ns p.0 k (sym p.2), a.by_name.each (p.0, contains_below c) p.1)
 
   -- and each name that a field has is entered
   entered : (n : List ℕ) (k : ℕ) → FirstAt ns n k → Contains (map (λ e. e.0) a.names) n → IsSome (lookup (λ j. k == j) fs)
@@ -148,10 +148,10 @@ module _ (w : PathPredicate) (ns : List (List ℕ)) (es fs : Entries) (a : AreLo
     order = rising (length ns) fs (λ k d lt.
         let e = get_or fs k d in let n = named e.0 e.1 (Contains-get_or fs k d lt) in
         slice_get_within ns e.0 n.0 n.1.here) falls differ;
-    asked = λ k. by_option (lookup (λ j. k == j) fs)
-        (λ none. rw none (elim (asked_cases ns w k) [
+    contained = λ k. by_option (lookup (λ j. k == j) fs)
+        (λ none. rw none (elim (contained_cases ns w k) [
           | inr e ↦ sym e
-          | inl f ↦ sym (asked_first ns w k f.0 f.1 ∙ unnamed w a.names f.0 a.by_name (λ c. let some = entered f.0 k f.1 c in false≢true (rw none at some)))
+          | inl f ↦ sym (contained_first ns w k f.0 f.1 ∙ unnamed w a.names f.0 a.by_name (λ c. let some = entered f.0 k f.1 c in false≢true (rw none at some)))
         ]))
-        (λ c some. let e = named k c (Contains-from_lookup (λ i j. (Decides-eqb i j).0) k c fs some) in rw some (e.2 ∙ sym (asked_first ns w k e.0 e.1)));
+        (λ c some. let e = named k c (Contains-from_lookup (λ i j. (Decides-eqb i j).0) k c fs some) in rw some (e.2 ∙ sym (contained_first ns w k e.0 e.1)));
   }

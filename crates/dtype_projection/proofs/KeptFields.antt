@@ -18,9 +18,9 @@ use Rattle.dtype_types.specs.tree.TreeOf.{tree, children, fields_of, struct_pair
 use Rattle.dtype_types.specs.declared.dtype.DType.{DType, Struct}
 use Rattle.dtype_types.specs.declared.struct_fields.StructFields.{StructFields}
 use Rattle.dtype_paths.specs.declared.field.Field.TheVariants.{Name}
-use Rattle.dtype_paths.specs.Cursors.{asks}
+use Rattle.dtype_paths.specs.Cursors.{contains_below}
 use Rattle.dtype_paths.specs.declared.field_path_cursor.FieldPathCursor.{FieldPathCursor}
-use Rattle.dtype_projection.specs.private.Entered.{asked_at, asked_below, kept_field, AreEntered, AreWhole, Entries, Rise}
+use Rattle.dtype_projection.specs.private.Entered.{contained_at, contained_below, kept_field, AreEntered, AreWhole, Entries, Rise}
 use Rattle.dtype_projection.specs.Projected.{PathPredicate, after_step, without_field, projected, projected_fields, struct_with, prepend_kept}
 use Rattle.dtype_projection.proofs.EnteredFields.{bounded, none_before}
 use Rattle.dtype_projection.proofs.lemmas.Projections.{kept_root, projected_nothing}
@@ -30,7 +30,7 @@ Pairs = List (List ℕ × Tree)
 
 -- what is kept of the field at an entry's position
 abbrev pub kept_at : Pairs → ℕ × FieldPathCursor → Option (List ℕ × Tree)
-kept_at fs e = kept_field fs e.0 (asks e.1)
+kept_at fs e = kept_field fs e.0 (contains_below e.1)
 
 -- ---- the fields kept
 
@@ -46,23 +46,23 @@ kept_pairs : (n : List ℕ) (o : Option Tree) (rest : Fields) → cons_option (o
 kept_pairs n None rest = refl
 kept_pairs n (Some t) rest = refl
 
--- fs are the fields from position i on, and es has what is asked of them
+-- fs are the fields from position i on, and es has what is contained below them
 kept_from : (all fs : Pairs) (i n : ℕ) (es : Entries) (w : PathPredicate) → n ≡ i + length fs → ((k j : ℕ) → j ≡ k + i → slice_get all j ≡ slice_get fs k) → Rise i n es
-    → ((k j : ℕ) → j ≡ k + i → asked_at es j ≡ asked_below w (field_names fs) k) → filter_map (kept_at all) es ≡ pairs (projected_fields (fields fs) w)
+    → ((k j : ℕ) → j ≡ k + i → contained_at es j ≡ contained_below w (field_names fs) k) → filter_map (kept_at all) es ≡ pairs (projected_fields (fields fs) w)
 kept_from all [] i n [] w long at from asked = refl
 kept_from all [] i n (e ∷ es) w long at from asked = absurd (omega (arith, long, from.0, bounded (e.0 + 1) n es from.1))
 kept_from all (f ∷ fs) i n es w long at from asked =
-    let here : asked_at es i ≡ after_step (Name f.0) w = asked 0 i (omega arith) in
+    let here : contained_at es i ≡ after_step (Name f.0) w = asked 0 i (omega arith) in
     let there : slice_get all i ≡ Some f = at 0 i (omega arith) in
     let later = projected_fields (fields fs) (without_field f.0 w) in
     let pair = kept_pairs f.0 (projected f.1 (after_step (Name f.0) w)) later in
-    let on : (rest : Entries) → Rise (i + 1) n rest → ((j : ℕ) → i < j → asked_at rest j ≡ asked_at es j) → filter_map (kept_at all) rest ≡ pairs later =
+    let on : (rest : Entries) → Rise (i + 1) n rest → ((j : ℕ) → i < j → contained_at rest j ≡ contained_at es j) → filter_map (kept_at all) rest ≡ pairs later =
     λ rest from same. kept_from all fs (i + 1) n rest (without_field f.0 w) (omega (arith, long)) (λ k j e. at (suc k) j (omega (arith, e))) from
     (λ k j e. same j (omega (arith, e)) ∙ asked (suc k) j (omega (arith, e))) in
     elim (next_position i n es from (omega (arith, long))) [
       | inl h ↦
-          let skipped : (j : ℕ) → i < j → asked_at h.1 j ≡ asked_at es j = λ j lt. rw h.2 (let ne = (Decides-eqb j i).0 in grind (arith, lt, ne)) in
-          let own : asked_at es i ≡ asks h.0 = rw (h.2, (Decides-eqb i i).1 refl) refl in
+          let skipped : (j : ℕ) → i < j → contained_at h.1 j ≡ contained_at es j = λ j lt. rw h.2 (let ne = (Decides-eqb j i).0 in grind (arith, lt, ne)) in
+          let own : contained_at es i ≡ contains_below h.0 = rw (h.2, (Decides-eqb i i).1 refl) refl in
           grind (arith, h.2, there, here, own, on h.1 h.3 skipped, pair)
       | inr after ↦ grind (arith, here, none_before (i + 1) n i es after, on es after (λ j lt. refl), projected_nothing f.1, pair)
     ]
@@ -71,7 +71,7 @@ pub all_kept : (fs : Pairs) (es : Entries) (w : PathPredicate) → AreEntered w 
 all_kept fs es w e =
     let same : (k j : ℕ) → j ≡ k + 0 → j ≡ k = λ k j e. omega (arith, e) in
     let long : length (field_names fs) ≡ length fs = length-map fs (λ f. f.0) in
-    kept_from fs fs 0 (length (field_names fs)) es w (omega (arith, long)) (λ k j e. ap (slice_get fs) (same k j e)) e.order (λ k j i. e.asked j ∙ ap (asked_below w (field_names fs)) (same k j i))
+    kept_from fs fs 0 (length (field_names fs)) es w (omega (arith, long)) (λ k j e. ap (slice_get fs) (same k j e)) e.order (λ k j i. e.contained j ∙ ap (contained_below w (field_names fs)) (same k j i))
 
 -- ---- one field
 
@@ -107,11 +107,11 @@ struct_made s n (f ∷ fs) made some = ap Some (tree_struct s n ∙ ap (λ gs. s
 
 -- ---- all fields, kept whole
 
-whole_at : (i n : ℕ) (es : Entries) → AreWhole i n es → (j : ℕ) → i ≤ j → j < n → asked_at es j [] ≡ true
+whole_at : (i n : ℕ) (es : Entries) → AreWhole i n es → (j : ℕ) → i ≤ j → j < n → contained_at es j [] ≡ true
 whole_at i n [] end j le lt = absurd (omega (arith, end, le, lt))
 whole_at i n (e ∷ es) all j le lt = grind (arith, cases_lt i j, whole_at (i + 1) n es all.2, all, le, lt)
 
-whole_fields : (fs : Pairs) (w : PathPredicate) → ((k : ℕ) → k < length fs → asked_below w (field_names fs) k [] ≡ true) → fields fs ≡ projected_fields (fields fs) w
+whole_fields : (fs : Pairs) (w : PathPredicate) → ((k : ℕ) → k < length fs → contained_below w (field_names fs) k [] ≡ true) → fields fs ≡ projected_fields (fields fs) w
 whole_fields [] w ends = refl
 whole_fields (f ∷ fs) w ends =
     ap (field f.0 f.1) (whole_fields fs (without_field f.0 w) (λ k lt. ends (suc k) (omega (arith, lt))))
@@ -121,4 +121,4 @@ whole_fields (f ∷ fs) w ends =
 pub struct_shared : (s t : StructFields) (n : Nullability) (w : PathPredicate) (es : Entries) → struct_pairs s ≡ struct_pairs t → AreEntered w (field_names (children t)) es → AreWhole 0 (length (children t)) es → 0 < length (children t) → Some (tree (Struct s n)) ≡ struct_with n (projected_fields (fields_of t) w)
 struct_shared s t n w es same a all some =
     struct_made s n (children t) (ap with_trees same) some
-    ∙ ap (struct_with n) (whole_fields (children t) w (λ k lt. sym (ap (λ (v : PathPredicate). v []) (a.asked k)) ∙ whole_at 0 (length (children t)) es all k (omega arith) lt))
+    ∙ ap (struct_with n) (whole_fields (children t) w (λ k lt. sym (ap (λ (v : PathPredicate). v []) (a.contained k)) ∙ whole_at 0 (length (children t)) es all k (omega arith) lt))

@@ -4,7 +4,7 @@
 -- The projection of a type to some paths: what a reader of these paths opens. A path leads where `step` of
 -- `dtype_paths` leads, from the documentation of the original's `FieldPath::resolve`; that a parent is cut down to the
 -- children asked for is the projection mask of Parquet's readers, and nested column pruning of query engines. The paths are
--- given by a predicate, which for a set is its `contains`: what they ask after a step is a predicate again, and their order
+-- given by a predicate, which for a set is its `contains`: what is contained after a step is a predicate again, and their order
 -- and repeats can't matter.
 use Rattle.std.specs.Prelude.{ℕ, List, [], ◌∷◌, not, ◌&&◌, Option, Some, None, if◌then◌else◌}
 use Rattle.std.specs.Option.{option_map}

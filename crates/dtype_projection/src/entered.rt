@@ -6,7 +6,7 @@ ghost use Rattle.std.specs.Prelude.{◌<◌, [], IsTrue};
 ghost use Rattle.dtype_base.specs.Errors.{Makes};
 ghost use Rattle.dtype_types.specs.parts.Lookups.{field_names};
 ghost use Rattle.dtype_types.specs.tree.TreeOf.{children};
-ghost use Rattle.dtype_paths.specs.Cursors.{asks};
+ghost use Rattle.dtype_paths.specs.Cursors.{contains_below};
 ghost use Rattle.dtype_projection.specs.private.Entered.{AreEntered, AreLookedUp, AreWhole};
 
 use dtype_base::VortexResult;
@@ -20,11 +20,11 @@ use std::alloc::Global;
 pub(crate) fn entered_fields<'a>(
     alloc: Global,
     fields: &StructFields,
-    wanted: &FieldPathCursor<'a>,
+    cursor: &FieldPathCursor<'a>,
 ) -> VortexResult<Vec<(usize, FieldPathCursor<'a>)>>
-    ensures { Makes result (λ m. AreEntered (asks wanted.now) (field_names (children fields.now)) m.items) }
+    ensures { Makes result (λ m. AreEntered (contains_below cursor.now) (field_names (children fields.now)) m.items) }
 {
-    let mut entered = looked_up(alloc, fields, wanted)?;
+    let mut entered = looked_up(alloc, fields, cursor)?;
     entered.sort_unstable_by_key(|entry| entry.0);
     Ok(entered)
 }
@@ -33,11 +33,11 @@ pub(crate) fn entered_fields<'a>(
 fn looked_up<'a>(
     alloc: Global,
     fields: &StructFields,
-    wanted: &FieldPathCursor<'a>,
+    cursor: &FieldPathCursor<'a>,
 ) -> VortexResult<Vec<(usize, FieldPathCursor<'a>)>>
-    ensures { Makes result (λ m. AreLookedUp (asks wanted.now) (field_names (children fields.now)) [] m.items) }
+    ensures { Makes result (λ m. AreLookedUp (contains_below cursor.now) (field_names (children fields.now)) [] m.items) }
 {
-    let names = wanted.names();
+    let names = cursor.names();
     let mut entered = Vec::with_capacity(alloc, names.len().min(fields.nfields()))?;
     for (name, below) in names {
         if let Some(position) = fields.find(name.as_str()) {

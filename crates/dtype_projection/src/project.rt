@@ -14,7 +14,7 @@ ghost use Rattle.dtype_types.specs.values.Value.{Of, Value};
 ghost use Rattle.dtype_paths.specs.Along.{along};
 ghost use Rattle.dtype_paths.specs.At.{ExistsIn};
 ghost use Rattle.dtype_paths.specs.Covering.{covers};
-ghost use Rattle.dtype_paths.specs.Cursors.{asks};
+ghost use Rattle.dtype_paths.specs.Cursors.{contains_below};
 ghost use Rattle.dtype_paths.specs.Overlaps.{Overlaps};
 ghost use Rattle.dtype_paths.specs.declared.field.Field.{Field};
 ghost use Rattle.dtype_paths.specs.declared.field.Field.TheVariants.{ElementType};
@@ -29,7 +29,7 @@ use dtype_paths::{FieldPathCursor, FieldPathSet};
 use dtype_types::{DType, StructFields};
 use std::alloc::Global;
 
-/// Returns the projection of `dtype` to the paths of `wanted`: the type without what no path leads to. Returns `None`
+/// Returns the projection of `dtype` to the paths of `paths`: the type without what no path leads to. Returns `None`
 /// if no path of the set exists in `dtype`.
 ///
 /// For example, the projection of `{a=list({b=u32, c=utf8})?, d=i8}` to `a.[].b` and `x` is `{a=list({b=u32})?}`.
@@ -56,60 +56,60 @@ use std::alloc::Global;
 pub fn project_paths(
     alloc: Global,
     dtype: &DType,
-    wanted: &FieldPathSet,
+    paths: &FieldPathSet,
 ) -> VortexResult<Option<DType>>
-    ensures ok { Makes result (λ r. option_map tree r ≡ projected (tree dtype.now) (set.contains wanted.now)) }
-    ensures some { IfOk result (λ r. IsSome r ↔ ((p : List Field) × IsTrue (set.contains wanted.now p)
+    ensures ok { Makes result (λ r. option_map tree r ≡ projected (tree dtype.now) (set.contains paths.now)) }
+    ensures some { IfOk result (λ r. IsSome r ↔ ((p : List Field) × IsTrue (set.contains paths.now p)
         × ExistsIn (tree dtype.now) p)) }
-    ensures kept { IfOk result (λ r. IfSome r (λ u. (q : List Field) → IsTrue (covers wanted.now q)
+    ensures kept { IfOk result (λ r. IfSome r (λ u. (q : List Field) → IsTrue (covers paths.now q)
         → along (tree u) q ≡ along (tree dtype.now) q)) }
     ensures only { IfOk result (λ r. IfSome r (λ u. (q : List Field) → (ExistsIn (tree u) q
-        ↔ (ExistsIn (tree dtype.now) q × ((p : List Field) × IsTrue (set.contains wanted.now p)
+        ↔ (ExistsIn (tree dtype.now) q × ((p : List Field) × IsTrue (set.contains paths.now p)
         × ExistsIn (tree dtype.now) p × Overlaps p q))))) }
     ensures nullability { IfOk result (λ r. IfSome r (λ u. nullability (tree u) ≡ nullability (tree dtype.now))) }
     ensures valid { Valid (tree dtype.now) → IfOk result (λ r. IfSome r (λ u. Valid (tree u))) }
     ensures values { IfOk result (λ r. IfSome r (λ u. (v : Value) → Of v (tree dtype.now)
-        → Of (restricted (tree dtype.now) (set.contains wanted.now) v) (tree u))) }
+        → Of (restricted (tree dtype.now) (set.contains paths.now) v) (tree u))) }
 {
-    project(alloc, dtype, &wanted.cursor())
+    project(alloc, dtype, &paths.cursor())
 }
 
-// The projection of a type to what is asked for here. Inlined, since most of what is kept is kept whole.
+// The projection of a type to what the cursor contains. Inlined, since most of what is kept is kept whole.
 #[inline(always)]
 #[cycle(projecting)]
 fn project(
     alloc: Global,
     dtype: &DType,
-    wanted: &FieldPathCursor<'_>,
+    cursor: &FieldPathCursor<'_>,
 ) -> VortexResult<Option<DType>>
-    ensures { Makes result (λ r. option_map tree r ≡ projected (tree dtype.now) (asks wanted.now)) }
+    ensures { Makes result (λ r. option_map tree r ≡ projected (tree dtype.now) (contains_below cursor.now)) }
 {
-    if wanted.is_end() {
+    if cursor.is_end() {
         return Ok(Some(dtype.try_clone(alloc)?));
     }
-    project_parts(alloc, dtype, wanted)
+    project_parts(alloc, dtype, cursor)
 }
 
-// The projection of a type to what is asked for here, which isn't the type itself.
+// The projection of a type to what the cursor contains, which isn't the type itself.
 #[cycle(projecting)]
 fn project_parts(
     alloc: Global,
     dtype: &DType,
-    wanted: &FieldPathCursor<'_>,
+    cursor: &FieldPathCursor<'_>,
 ) -> VortexResult<Option<DType>>
-    requires { asks wanted.now [] ≡ false }
-    ensures { Makes result (λ r. option_map tree r ≡ projected (tree dtype.now) (asks wanted.now)) }
+    requires { contains_below cursor.now [] ≡ false }
+    ensures { Makes result (λ r. option_map tree r ≡ projected (tree dtype.now) (contains_below cursor.now)) }
 {
     match dtype {
-        DType::List(element, n) => match project_element(alloc, element, wanted)? {
+        DType::List(element, n) => match project_element(alloc, element, cursor)? {
             Some(kept) => Ok(Some(DType::list(alloc, kept, *n)?)),
             None => Ok(None),
         },
-        DType::FixedSizeList(element, size, n) => match project_element(alloc, element, wanted)? {
+        DType::FixedSizeList(element, size, n) => match project_element(alloc, element, cursor)? {
             Some(kept) => Ok(Some(DType::fixed_size_list(alloc, kept, *size, *n)?)),
             None => Ok(None),
         },
-        DType::Struct(fields, n) => project_struct(alloc, fields, *n, wanted),
+        DType::Struct(fields, n) => project_struct(alloc, fields, *n, cursor),
         DType::Null
         | DType::Bool(_)
         | DType::Primitive(_, _)
@@ -123,32 +123,32 @@ fn project_parts(
     }
 }
 
-// The projection of an element to what is asked of it.
+// The projection of an element to what the cursor contains below it.
 #[cycle(projecting)]
 fn project_element(
     alloc: Global,
     element: &DType,
-    wanted: &FieldPathCursor<'_>,
+    cursor: &FieldPathCursor<'_>,
 ) -> VortexResult<Option<DType>>
-    ensures { Makes result (λ r. option_map tree r ≡ projected (tree element.now) (after_step ElementType (asks wanted.now))) }
+    ensures { Makes result (λ r. option_map tree r ≡ projected (tree element.now) (after_step ElementType (contains_below cursor.now))) }
 {
-    match wanted.element() {
+    match cursor.element() {
         Some(below) => project(alloc, element, &below),
         None => Ok(None),
     }
 }
 
-// The projection of a struct of these fields to what is asked for here, which isn't the struct itself.
+// The projection of a struct of these fields to what the cursor contains, which isn't the struct itself.
 #[cycle(projecting)]
 fn project_struct(
     alloc: Global,
     fields: &StructFields,
     n: Nullability,
-    wanted: &FieldPathCursor<'_>,
+    cursor: &FieldPathCursor<'_>,
 ) -> VortexResult<Option<DType>>
-    ensures { Makes result (λ r. option_map tree r ≡ struct_with n (projected_fields (fields_of fields.now) (asks wanted.now))) }
+    ensures { Makes result (λ r. option_map tree r ≡ struct_with n (projected_fields (fields_of fields.now) (contains_below cursor.now))) }
 {
-    let entered = entered_fields(alloc, fields, wanted)?;
+    let entered = entered_fields(alloc, fields, cursor)?;
     if are_all_whole(&entered, fields.nfields()) {
         return Ok(Some(DType::Struct(fields.try_clone(alloc)?, n)));
     }
@@ -180,22 +180,22 @@ fn struct_of(
     Ok(Some(DType::Struct(fields, n)))
 }
 
-// The name of the field at this position, and its projection to what is asked of it.
+// The name of the field at this position, and its projection to what the cursor contains.
 #[cycle(projecting)]
 #[tactic(auto, using(crate::proofs::KeptFields::kept_some, crate::proofs::KeptFields::kept_none))]
 fn project_field(
     alloc: Global,
     fields: &StructFields,
     position: usize,
-    wanted: &FieldPathCursor<'_>,
+    cursor: &FieldPathCursor<'_>,
 ) -> VortexResult<Option<(FieldName, DType)>>
-    ensures { Makes result (λ r. option_map (λ f. (f.0, tree f.1)) r ≡ kept_field (children fields.now) position (asks wanted.now)) }
+    ensures { Makes result (λ r. option_map (λ f. (f.0, tree f.1)) r ≡ kept_field (children fields.now) position (contains_below cursor.now)) }
 {
     let (Some(name), Some(dtype)) = (fields.field_name(position), fields.field_by_index(position))
     else {
         return Ok(None);
     };
-    match project(alloc, dtype, wanted)? {
+    match project(alloc, dtype, cursor)? {
         Some(kept) => Ok(Some((name.try_clone(alloc)?, kept))),
         None => Ok(None),
     }

@@ -8,7 +8,7 @@ use Rattle.std.specs.List.{Contains, slice_index_or}
 use Rattle.vortex_dtype.specs.Beginning.{Beginning}
 use Rattle.vortex_dtype.specs.Distinct.{Distinct}
 use Rattle.vortex_dtype.specs.In.{In}
-use Rattle.vortex_dtype.specs.PathPredicates.{AreNames, PathPredicate, after_step, asks_above, no_path}
+use Rattle.vortex_dtype.specs.PathPredicates.{AreNames, PathPredicate, after_step, contains_above, no_path}
 use Rattle.vortex_dtype.specs.Types.Field.{Field}
 use Rattle.vortex_dtype.specs.Types.Field.TheVariants.{Name, ElementType}
 use Rattle.vortex_dtype.specs.Types.FieldMask.{FieldMask}
@@ -34,22 +34,22 @@ goes_on_step w v u p f at here is one = record {
     on (g ∷ r) q e h = (r, e ∙ ap (λ x. p ++ x ∷ r) (one g r h) ∙ sym (append_assoc p (f ∷ []) r))
 
 -- a path that is asked for begins those that it is above, and the converse
-asked_above : (w : PathPredicate) (p rest : List Field) → IsTrue (w p) → IsTrue (asks_above w (p ++ rest))
+asked_above : (w : PathPredicate) (p rest : List Field) → IsTrue (w p) → IsTrue (contains_above w (p ++ rest))
 asked_above w [] [] h = h
-asked_above w [] (g ∷ rest) h = or_left (w []) (asks_above (after_step g w) rest) h
-asked_above w (f ∷ p) rest h = or_right (w []) (asks_above (after_step f w) (p ++ rest)) (asked_above (after_step f w) p rest h)
+asked_above w [] (g ∷ rest) h = or_left (w []) (contains_above (after_step g w) rest) h
+asked_above w (f ∷ p) rest h = or_right (w []) (contains_above (after_step f w) (p ++ rest)) (asked_above (after_step f w) p rest h)
 
-above_asked : (w : PathPredicate) (q : List Field) → IsTrue (asks_above w q) → (p : List Field) × IsTrue (w p) × Beginning p q
+above_asked : (w : PathPredicate) (q : List Field) → IsTrue (contains_above w q) → (p : List Field) × IsTrue (w p) × Beginning p q
 above_asked w [] h = ([], h, ([], refl))
 above_asked w (f ∷ q) h =
     ⊎_elim (λ e. ([], e, (f ∷ q, refl)))
     (λ e. let a = above_asked (after_step f w) q e in (f ∷ a.0, a.1, (a.2.0, ap (λ r. f ∷ r) a.2.1)))
-    (or_cases (w []) (asks_above (after_step f w) q) h)
+    (or_cases (w []) (contains_above (after_step f w) q) h)
 
 -- where a path ends after p, the prefix of p selects what is asked for
-pub prefix_is_asked : (w v : PathPredicate) (p q : List Field) → GoesOn w p v → v [] ≡ true → In (Prefix p) q ↔ IsTrue (asks_above w q)
+pub prefix_is_asked : (w v : PathPredicate) (p q : List Field) → GoesOn w p v → v [] ≡ true → In (Prefix p) q ↔ IsTrue (contains_above w q)
 prefix_is_asked w v p q at ends = (
-  λ b. subst (λ x. IsTrue (asks_above w x)) (sym b.1) (asked_above w p b.0 (ap w (sym (append-nil p)) ∙ at.after [] ∙ ends)),
+  λ b. subst (λ x. IsTrue (contains_above w x)) (sym b.1) (asked_above w p b.0 (ap w (sym (append-nil p)) ∙ at.after [] ∙ ends)),
   λ h.
       let a = above_asked w q h in let b = at.only a.0 a.1 in
       (b.0 ++ a.2.0, a.2.1 ∙ ap (λ x. x ++ a.2.0) b.1 ∙ append_assoc p b.0 a.2.0),

@@ -3,7 +3,7 @@
 
 -- What a reader of layouts opens (`descending`): all of a type, or what a cursor asks of it.
 use Rattle.std.specs.Prelude.{Option, Some}
-use Rattle.vortex_dtype.specs.Cursors.{asks}
+use Rattle.vortex_dtype.specs.Cursors.{contains_below}
 use Rattle.vortex_dtype.specs.Projected.{projected}
 use Rattle.vortex_dtype.specs.Tree.{Tree}
 use Rattle.vortex_dtype.specs.TreeOf.{tree}
@@ -13,4 +13,4 @@ use Rattle.uses_paths.specs.declared.descending.Piece.TheVariants.{Whole, Part}
 -- the type that is opened
 abbrev pub piece_type : Piece → Option Tree
 piece_type (Whole d) = Some (tree d.now)
-piece_type (Part d c) = projected (tree d.now) (asks c)
+piece_type (Part d c) = projected (tree d.now) (contains_below c)

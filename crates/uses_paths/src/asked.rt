@@ -152,7 +152,7 @@ pub fn ask_the_same(asked: &FieldPathSet, other: &FieldPathSet) -> VortexResult<
 }
 
 /// How many columns of a query a table lacks.
-#[tactic(auto, using(vortex_dtype::proofs::rulesets::counting, vortex_dtype::proofs::rulesets::missing_paths))]
+#[tactic(auto, using(vortex_dtype::proofs::rulesets::counting, vortex_dtype::proofs::rulesets::unresolved_paths))]
 pub fn number_missing(asked: &FieldPathSet, table: &DType) -> VortexResult<usize>
     ensures { IfOk result (λ n. n ≡ set.len (unresolved asked.now (tree table.now))) }
 {

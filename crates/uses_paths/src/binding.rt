@@ -2,7 +2,7 @@
 // SPDX-FileCopyrightText: Copyright the Vortex contributors
 
 //! A binder: it refuses a query by the path of a column that the table lacks.
-#![tactic(auto, using(vortex_dtype::proofs::rulesets::missing_paths))]
+#![tactic(auto, using(vortex_dtype::proofs::rulesets::unresolved_paths))]
 
 ghost use Rattle.std.specs.Prelude.{◌≡◌, IfNone, IfOk, IfSome, IsErrOf, IsTrue, List, OnOk};
 ghost use Rattle.std.specs.FinSet as set;

@@ -8,9 +8,9 @@ ghost use Rattle.std.specs.Prelude.{◌≡◌, ◌↔◌, ◌<◌, ◌∷◌, []
 ghost use Rattle.std.specs.FinSet as set;
 ghost use Rattle.vortex_dtype.specs.Beginning.{Beginning};
 ghost use Rattle.vortex_dtype.specs.Covering.{covers};
-ghost use Rattle.vortex_dtype.specs.Cursors.{asks, asks_if};
+ghost use Rattle.vortex_dtype.specs.Cursors.{contains_below, contains_below_if};
 ghost use Rattle.vortex_dtype.specs.In.{In};
-ghost use Rattle.vortex_dtype.specs.PathPredicates.{after_step, after_steps, asks_above, no_path};
+ghost use Rattle.vortex_dtype.specs.PathPredicates.{after_step, after_steps, contains_above, no_path};
 ghost use Rattle.vortex_dtype.specs.Types.Field.{Field};
 ghost use Rattle.vortex_dtype.specs.Types.FieldMask.{FieldMask};
 
@@ -19,7 +19,7 @@ use vortex_dtype::{Field, FieldMask, FieldPath, FieldPathCursor, FieldPathSet, V
 
 /// Whether a path is asked for from here, as stepping along it finds.
 pub fn is_asked_from(here: &FieldPathCursor<'_>, path: &[Field]) -> bool
-    ensures { result ≡ asks here.now path.now }
+    ensures { result ≡ contains_below here.now path.now }
 {
     let Some((step, rest)) = path.split_first() else {
         return here.is_end();
@@ -39,7 +39,7 @@ pub fn is_asked(asked: &FieldPathSet, path: &FieldPath) -> bool
 
 /// Whether a path that is asked for from here begins the path.
 pub fn is_under_asked_from(here: &FieldPathCursor<'_>, path: &[Field]) -> bool
-    ensures { result ≡ asks_above (asks here.now) path.now }
+    ensures { result ≡ contains_above (contains_below here.now) path.now }
 {
     if here.is_end() {
         return true;
@@ -62,7 +62,7 @@ pub fn is_under_asked(asked: &FieldPathSet, path: &FieldPath) -> bool
 
 /// What is asked of a column, where a query asks for something in it.
 pub fn asked_of_column<'a>(asked: &'a FieldPathSet, column: &Field) -> Option<FieldPathCursor<'a>>
-    ensures paths { asks_if result ≡ after_step column.now (set.contains asked.now) }
+    ensures paths { contains_below_if result ≡ after_step column.now (set.contains asked.now) }
     ensures nothing { (result ≡ None) ↔ (after_step column.now (set.contains asked.now) ≡ no_path) }
 {
     asked.cursor().step(column)
@@ -70,7 +70,7 @@ pub fn asked_of_column<'a>(asked: &'a FieldPathSet, column: &Field) -> Option<Fi
 
 /// Whether a list column is read whole, with all that is in its elements.
 pub fn is_element_whole(here: &FieldPathCursor<'_>) -> bool
-    ensures { result ≡ asks here.now (Field.ElementType ∷ []) }
+    ensures { result ≡ contains_below here.now (Field.ElementType ∷ []) }
 {
     match here.element() {
         Some(element) => element.is_end(),
@@ -80,21 +80,21 @@ pub fn is_element_whole(here: &FieldPathCursor<'_>) -> bool
 
 /// Whether a reader skips a column: where nothing in it is asked for.
 pub fn skips(here: &FieldPathCursor<'_>, column: &Field) -> bool
-    ensures { IsTrue result ↔ ((q : List Field) → asks here.now (column.now ∷ q) ≡ false) }
+    ensures { IsTrue result ↔ ((q : List Field) → contains_below here.now (column.now ∷ q) ≡ false) }
 {
     here.step(column).is_none()
 }
 
 /// Whether something in the elements of a list column is asked for.
 pub fn asks_in_elements(here: &FieldPathCursor<'_>) -> bool
-    ensures { IsTrue result ↔ ((q : List Field) × IsTrue (asks here.now (Field.ElementType ∷ q))) }
+    ensures { IsTrue result ↔ ((q : List Field) × IsTrue (contains_below here.now (Field.ElementType ∷ q))) }
 {
     here.element().is_some()
 }
 
 /// Whether anything is asked for from here.
 pub fn asks_something(here: &FieldPathCursor<'_>) -> bool
-    ensures { IsTrue result ↔ ((q : List Field) × IsTrue (asks here.now q)) }
+    ensures { IsTrue result ↔ ((q : List Field) × IsTrue (contains_below here.now q)) }
 {
     !here.is_empty()
 }
@@ -127,7 +127,7 @@ pub fn reads_path(asked: &FieldPathSet, path: &FieldPath) -> bool
 /// The cursor along a whole path.
 #[tactic(auto, using(vortex_dtype::proofs::rulesets::walked_cursors))]
 pub fn cursor_along<'a>(asked: &'a FieldPathSet, path: &FieldPath) -> Option<FieldPathCursor<'a>>
-    ensures { asks_if result ≡ after_steps path.now (set.contains asked.now) }
+    ensures { contains_below_if result ≡ after_steps path.now (set.contains asked.now) }
 {
     let mut cursor = asked.cursor();
     for step in path.parts() {
@@ -152,11 +152,11 @@ pub fn only_step<'a>(
     alloc: Global,
     here: &FieldPathCursor<'a>,
 ) -> VortexResult<Option<(Field, FieldPathCursor<'a>)>>
-    ensures after { IfOk result (λ r. IfSome r (λ s. asks s.1 ≡ after_step s.0 (asks here.now))) }
+    ensures after { IfOk result (λ r. IfSome r (λ s. contains_below s.1 ≡ after_step s.0 (contains_below here.now))) }
     ensures only { IfOk result (λ r. IfSome r (λ s. (f : Field) (q : List Field)
-        → IsTrue (asks here.now (f ∷ q)) → f ≡ s.0)) }
-    ensures none { IfOk result (λ r. IfNone r ((f : Field) (q : List Field) → IsTrue (asks here.now (f ∷ q))
-        → ¬ ((g : Field) (p : List Field) → IsTrue (asks here.now (g ∷ p)) → g ≡ f))) }
+        → IsTrue (contains_below here.now (f ∷ q)) → f ≡ s.0)) }
+    ensures none { IfOk result (λ r. IfNone r ((f : Field) (q : List Field) → IsTrue (contains_below here.now (f ∷ q))
+        → ¬ ((g : Field) (p : List Field) → IsTrue (contains_below here.now (g ∷ p)) → g ≡ f))) }
 {
     let mut names = here.names();
     let first = names.next();
@@ -182,11 +182,11 @@ pub fn mask_of_rest(
     limit: usize,
 ) -> VortexResult<Option<FieldMask>>
     ensures selects { IfOk result (λ r. IfSome r (λ m. (q : List Field)
-        → In m q ↔ IsTrue (asks_above (asks here.now) q))) }
+        → In m q ↔ IsTrue (contains_above (contains_below here.now) q))) }
     ensures path { IfOk result (λ r. IfSome r (λ m. (p : List Field) × (m ≡ FieldMask.Prefix p)
-        × (length p < limit) × IsTrue (asks here.now p))) }
-    ensures none { IfOk result (λ r. IfNone r ((p : List Field) → length p < limit → IsTrue (asks here.now p)
-        → ¬ ((q : List Field) → IsTrue (asks here.now q) → Beginning p q))) }
+        × (length p < limit) × IsTrue (contains_below here.now p))) }
+    ensures none { IfOk result (λ r. IfNone r ((p : List Field) → length p < limit → IsTrue (contains_below here.now p)
+        → ¬ ((q : List Field) → IsTrue (contains_below here.now q) → Beginning p q))) }
 {
     let mut path = FieldPath::root(alloc);
     let mut place = *here;

@@ -9,7 +9,7 @@ ghost use Rattle.std.specs.Prelude.{◌≡◌, ◌∷◌, [], IfSome, false, opt
 ghost use Rattle.std.specs.FinSet as set;
 ghost use Rattle.vortex_dtype.specs.Along.{along};
 ghost use Rattle.vortex_dtype.specs.At.{step};
-ghost use Rattle.vortex_dtype.specs.Cursors.{asks};
+ghost use Rattle.vortex_dtype.specs.Cursors.{contains_below};
 ghost use Rattle.vortex_dtype.specs.Projected.{projected};
 ghost use Rattle.vortex_dtype.specs.TreeOf.{shown, tree};
 ghost use Rattle.vortex_dtype.specs.Types.Field.{Field};
@@ -42,9 +42,9 @@ pub fn element_piece<'a>(
     list: &'a DType,
     here: &FieldPathCursor<'a>,
 ) -> Option<(&'a DType, FieldPathCursor<'a>)>
-    requires { asks here.now [] ≡ false }
-    ensures { IfSome result (λ r. projected (tree r.0.now) (asks r.1)
-        ≡ option_and_then (λ u. along u (Field.ElementType ∷ [])) (projected (tree list.now) (asks here.now))) }
+    requires { contains_below here.now [] ≡ false }
+    ensures { IfSome result (λ r. projected (tree r.0.now) (contains_below r.1)
+        ≡ option_and_then (λ u. along u (Field.ElementType ∷ [])) (projected (tree list.now) (contains_below here.now))) }
 {
     Some((list.as_any_size_list_element_opt()?, here.element()?))
 }
@@ -67,7 +67,7 @@ pub fn piece_along<'a>(
     path: &[Field],
 ) -> Option<Piece<'a>>
     ensures { option_and_then piece_type result
-        ≡ option_and_then (λ u. along u path.now) (projected (tree stored.now) (asks here.now)) }
+        ≡ option_and_then (λ u. along u path.now) (projected (tree stored.now) (contains_below here.now)) }
 {
     if here.is_end() {
         return match type_along(stored, path) {

@@ -6,7 +6,7 @@
 #![tactic(auto)]
 
 ghost use Rattle.std.specs.Prelude.{◌≡◌, ◌↔◌, ◌∷◌, [], ℕ, IfNone, IfSome, IsTrue, List, Contains, false, length};
-ghost use Rattle.vortex_dtype.specs.Cursors.{asks};
+ghost use Rattle.vortex_dtype.specs.Cursors.{contains_below};
 ghost use Rattle.vortex_dtype.specs.Lookups.{field_names};
 ghost use Rattle.vortex_dtype.specs.PathPredicates.{AreNames, PathPredicate};
 ghost use Rattle.vortex_dtype.specs.TreeOf.{children};
@@ -17,29 +17,29 @@ use vortex_dtype::{Field, FieldName, FieldPathCursor, StructFields};
 /// Whether each column that is asked for is asked for whole.
 pub fn are_all_whole(here: &FieldPathCursor<'_>) -> bool
     ensures { IsTrue result ↔ ((n : List ℕ) (q : List Field)
-        → IsTrue (asks here.now (Field.Name n ∷ q)) → IsTrue (asks here.now (Field.Name n ∷ []))) }
+        → IsTrue (contains_below here.now (Field.Name n ∷ q)) → IsTrue (contains_below here.now (Field.Name n ∷ []))) }
 {
     here.names().all(|(_, below)| below.is_end())
 }
 
 /// Whether some column is asked for whole.
 pub fn is_any_whole(here: &FieldPathCursor<'_>) -> bool
-    ensures { IsTrue result ↔ ((n : List ℕ) × IsTrue (asks here.now (Field.Name n ∷ []))) }
+    ensures { IsTrue result ↔ ((n : List ℕ) × IsTrue (contains_below here.now (Field.Name n ∷ []))) }
 {
     here.names().any(|(_, below)| below.is_end())
 }
 
 /// Whether something is asked for in the column of this name.
 pub fn is_named(here: &FieldPathCursor<'_>, name: &str) -> bool
-    ensures { IsTrue result ↔ ((q : List Field) × IsTrue (asks here.now (Field.Name name.now ∷ q))) }
+    ensures { IsTrue result ↔ ((q : List Field) × IsTrue (contains_below here.now (Field.Name name.now ∷ q))) }
 {
     here.names().any(|(asked, _)| asked.eq_str(name))
 }
 
 /// A column that is asked for whole, or `None` where none is.
 pub fn whole_column<'a>(here: &FieldPathCursor<'a>) -> Option<&'a FieldName>
-    ensures found { IfSome result (λ n. IsTrue (asks here.now (Field.Name n.now ∷ []))) }
-    ensures none { IfNone result ((n : List ℕ) → asks here.now (Field.Name n ∷ []) ≡ false) }
+    ensures found { IfSome result (λ n. IsTrue (contains_below here.now (Field.Name n.now ∷ []))) }
+    ensures none { IfNone result ((n : List ℕ) → contains_below here.now (Field.Name n ∷ []) ≡ false) }
 {
     match here.names().find(|(_, below)| below.is_end()) {
         Some((name, _)) => Some(name),
@@ -51,7 +51,7 @@ pub fn whole_column<'a>(here: &FieldPathCursor<'a>) -> Option<&'a FieldName>
 #[tactic(auto, using(vortex_dtype::proofs::rulesets::presence))]
 pub fn are_all_known(here: &FieldPathCursor<'_>, table: &StructFields) -> bool
     ensures { IsTrue result ↔ ((n : List ℕ) (q : List Field)
-        → IsTrue (asks here.now (Field.Name n ∷ q)) → Contains (field_names (children table.now)) n) }
+        → IsTrue (contains_below here.now (Field.Name n ∷ q)) → Contains (field_names (children table.now)) n) }
 {
     here.names()
         .all(|(name, _)| table.find(name.as_str()).is_some())
@@ -61,7 +61,7 @@ pub fn are_all_known(here: &FieldPathCursor<'_>, table: &StructFields) -> bool
 #[tactic(auto, using(vortex_dtype::proofs::rulesets::presence))]
 pub fn some_column(here: &FieldPathCursor<'_>, table: &StructFields) -> bool
     ensures { IsTrue result ↔ ((n : List ℕ)
-        × ((q : List Field) × IsTrue (asks here.now (Field.Name n ∷ q)))
+        × ((q : List Field) × IsTrue (contains_below here.now (Field.Name n ∷ q)))
         × Contains (field_names (children table.now)) n) }
 {
     here.names()
@@ -72,7 +72,7 @@ pub fn some_column(here: &FieldPathCursor<'_>, table: &StructFields) -> bool
 #[tactic(auto, using(vortex_dtype::proofs::rulesets::presence))]
 pub fn known_column<'a>(here: &FieldPathCursor<'a>, table: &StructFields) -> Option<&'a FieldName>
     ensures { IfSome result (λ n. Contains (field_names (children table.now)) n.now
-        × ((q : List Field) × IsTrue (asks here.now (Field.Name n.now ∷ q)))) }
+        × ((q : List Field) × IsTrue (contains_below here.now (Field.Name n.now ∷ q)))) }
 {
     match here
         .names()
@@ -85,7 +85,7 @@ pub fn known_column<'a>(here: &FieldPathCursor<'a>, table: &StructFields) -> Opt
 
 /// The number of columns that are asked for, as the iterator counts them.
 pub fn column_count(here: &FieldPathCursor<'_>) -> usize
-    ensures { (ns : List (List ℕ × PathPredicate)) × AreNames (asks here.now) ns × (length ns ≡ result) }
+    ensures { (ns : List (List ℕ × PathPredicate)) × AreNames (contains_below here.now) ns × (length ns ≡ result) }
 {
     here.names().count()
 }

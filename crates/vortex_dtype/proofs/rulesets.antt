@@ -23,8 +23,8 @@ pub use Rattle.dtype_paths.proofs.lemmas.MaskLists.{mask_lists}
 pub use Rattle.dtype_paths.proofs.lemmas.PathsBelow.{set_cursors, stepping_into, walked_cursors}
 pub use Rattle.dtype_paths.proofs.lemmas.Stepping.{beginnings, one_column, stepped_masks, stepping, types_along}
 pub use Rattle.dtype_paths.proofs.lemmas.Steps.{one_step}
-pub use Rattle.dtype_paths.proofs.lemmas.Unresolved.{missing_paths}
-pub use Rattle.dtype_projection.proofs.lemmas.Descending.{descending, opened_after, opened_nowhere, opened_unasked}
+pub use Rattle.dtype_paths.proofs.lemmas.Unresolved.{unresolved_paths}
+pub use Rattle.dtype_projection.proofs.lemmas.Descending.{descending, opened_after, opened_nowhere, opened_uncontained}
 pub use Rattle.dtype_projection.proofs.lemmas.Projecting.{projecting, projecting_one}
 -- of vortex_dtype: sessions; and what callers of the crates below need and their own proofs don't: names that are among
 -- the names of fields, also each of many, fields that a contract names one after another, and counts

@@ -1,7 +1,7 @@
 -- SPDX-License-Identifier: Apache-2.0
 -- SPDX-FileCopyrightText: Copyright the Vortex contributors
 
--- Lemmas on the beginnings of a path.
+-- Lemmas on the prefixes of a path.
 use Rattle.std.proofs.Common.{◌≡◌, ◌⊎◌, ◌<◌, Bool, Decides, false, List, [], ◌∷◌, ◌++◌, length, drop, refl, ap, sym, ◌∙◌, inl, inr, append-nil, append_assoc, length-append, arith}
 use Rattle.std.specs.List.{starts_with}
 use Rattle.std.proofs.lemmas.List.{nil_from_length}
@@ -11,7 +11,7 @@ use Rattle.dtype_paths.specs.Equality.{same_field, same_path}
 use Rattle.dtype_paths.specs.EqualityLaws.{same_field-Decides, same_path-Decides}
 use Rattle.dtype_paths.specs.declared.field.Field.{Field}
 
--- a list of steps starts with another exactly where the other is a beginning of it
+-- a list of steps starts with another exactly where the other is a prefix of it
 pub starts_with-Decides : (p q : List Field) (r : Bool) → r ≡ starts_with same_field q p → Decides r (Beginning p q)
 starts_with-Decides p q r e =
     let s = starts_is same_field-Decides q p r e in
@@ -23,7 +23,7 @@ beginning_refl p = ([], sym (append-nil p))
 pub beginning_trans : (p q r : List Field) → Beginning p q → Beginning q r → Beginning p r
 beginning_trans p q r a b = (a.0 ++ b.0, b.1 ∙ ap (λ x. x ++ b.0) a.1 ∙ append_assoc p a.0 b.0)
 
--- beginnings of each other are the same
+-- prefixes of each other are the same
 pub beginning_both : (p q : List Field) → Beginning p q → Beginning q p → p ≡ q
 beginning_both p q a b =
     let none : length b.0 ≡ 0 = omega (arith, ap length a.1, ap length b.1, length-append p a.0, length-append q b.0) in
@@ -32,7 +32,7 @@ beginning_both p q a b =
 pub begins_nil : (p : List Field) → Beginning p [] → p ≡ []
 begins_nil p b = beginning_both p [] b (p, refl)
 
--- a beginning that isn't the path itself is shorter
+-- a prefix that isn't the path itself is shorter
 pub beginning_shorter : (p q : List Field) → Beginning p q → same_path p q ≡ false → length p < length q
 beginning_shorter p q b other = go b.0 b.1
   where
@@ -40,7 +40,7 @@ beginning_shorter p q b other = go b.0 b.1
     go [] e = let is = (same_path-Decides p q).1 (sym (e ∙ append-nil p)) in absurd (cc)
     go (f ∷ rest) e = omega (arith, ap length e, length-append p (f ∷ rest))
 
--- of two beginnings of a path one begins the other
+-- of two prefixes of a path one is a prefix of the other
 pub either_begins : (p r q : List Field) → Beginning p q → Beginning r q → Beginning p r ⊎ Beginning r p
 either_begins [] r q bp br = inl (r, refl)
 either_begins (x ∷ p) [] q bp br = inr (x ∷ p, refl)

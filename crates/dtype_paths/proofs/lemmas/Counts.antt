@@ -153,6 +153,6 @@ cover_none ps = (
   ),
 )
 
--- where the root is asked for, a cover has one path
+-- where the root is contained, a cover has one path
 pub root_alone_listed : (ps : List (List Field)) (s : PathSet) → set_of ps ≡ least s → Distinct ps → set.contains s [] ≡ true → length ps ≡ 1
 root_alone_listed ps s is d root = ap length (one_listed ps [] (is ∙ least_root s root) d)

@@ -30,7 +30,7 @@ cover_begun s q = (
       (λ h. a.0 (same ∙ h), λ b. sym same ∙ a.1 b),
 )
 
--- one of a cover begins each member
+-- one of a cover is a prefix of each member
 pub member_begun : (s : PathSet) (q : List Field) → (set.contains s q ≡ set.contains s q) × ((cover : List (List Field)) → set.from_list cover ≡ least s → IsTrue (set.contains s q) → (p : List Field) × Contains cover p × Beginning p q)
 member_begun s q = (
   refl,

@@ -32,7 +32,7 @@ pub ruleset count_bounds = (listed_len, lent_len, fewest, cover_len, insert_len,
 -- how many are opened, at most: of a set, of a list; none, or one
 pub ruleset opened_counts = (cover_len, cover_at_most, opened_at_most, cover_none, root_alone_listed)
 
--- the paths that `into_iter` gives, one by one, and those that a list begins
+-- the paths that `into_iter` gives, one by one, and the prefixes of those of a list
 pub ruleset opened_paths = (listed_begun, cover_begun, member_begun, cover_has_first, cover_member, cover_first, cover_apart, cover_none, root_alone_listed)
 
 -- ---- `covering` by question: among fewer lemmas a search comes further
@@ -49,7 +49,7 @@ pub ruleset collected_paths = (union_insert, insert_union, union_ended)
 -- which paths a set covers
 pub ruleset covered_paths = (of_has, covers_of, covers_none, covers_union, covers_member, covers_below, insert_covers, insert_covers_below, covers_least, root_covers, union_covers_left, union_covers_right)
 
--- what a set covers that `new`, `insert` and `from_iter` make, path by path: what its paths begin
+-- what a set covers that `new`, `insert` and `from_iter` make, path by path: what its paths are prefixes of
 pub ruleset made_coverage = (insert_covers, insert_covered, none_covered, covers_none, listed_covered, of_covers_below, covers_member, root_begins)
 
 -- what a set covers that `extend` makes, path by path: what it covered, and what the other set or the list covers

@@ -10,9 +10,9 @@ use Rattle.dtype_paths.specs.declared.field_mask.FieldMask.{FieldMask}
 use Rattle.dtype_paths.specs.declared.field_mask.FieldMask.TheVariants.{All, Prefix, Exact}
 
 -- where a mask's path begins with a step, the mask holds some path that begins with it
-pub first_asked : (m : FieldMask) (f : Field) → first_part m ≡ Some f → (q : List Field) × In m (f ∷ q)
-first_asked All f e = cc
-first_asked (Prefix []) f e = cc
-first_asked (Prefix (h ∷ p)) f e = let same = same_Some h f e in (p, ([], λ i. sym same i ∷ sym (append-nil p) i))
-first_asked (Exact []) f e = cc
-first_asked (Exact (h ∷ p)) f e = let same = same_Some h f e in (p, λ i. sym same i ∷ p)
+pub first_contained : (m : FieldMask) (f : Field) → first_part m ≡ Some f → (q : List Field) × In m (f ∷ q)
+first_contained All f e = cc
+first_contained (Prefix []) f e = cc
+first_contained (Prefix (h ∷ p)) f e = let same = same_Some h f e in (p, ([], λ i. sym same i ∷ sym (append-nil p) i))
+first_contained (Exact []) f e = cc
+first_contained (Exact (h ∷ p)) f e = let same = same_Some h f e in (p, λ i. sym same i ∷ p)

@@ -27,7 +27,7 @@ use Rattle.dtype_paths.proofs.lemmas.SetMembers.{contains_empty, from_list-Decid
 
 -- ---- what is covered
 
--- whether one of the paths begins q, of a list with these members
+-- whether one of the paths is a prefix of q, of a list with these members
 covered_by : (ps : List (List Field)) (q : List Field) (has : List Field → Bool) → ((p : List Field) → Decides (has p) (Contains ps p)) → Decides (list_any (λ p. starts_with same_field q p) ps) ((p : List Field) × IsTrue (has p) × Beginning p q)
 covered_by ps q has told = (
   λ h. let w = some_member (λ p. starts_with same_field q p) ps h in (w.0, (told w.0).1 w.1, (starts_with-Decides w.0 q _ refl).0 w.2),
@@ -143,7 +143,7 @@ least_word s p =
           below.1 (l.1 w.0 ((items-Decides s w.0).1 w.1) below.0)))),
     )
 
--- a member is begun by a least path: itself, or one that begins a shorter member
+-- a least path is a prefix of each member: the member itself, or a prefix of a shorter member
 descend : (n : ℕ) (s : PathSet) (p : List Field) → length p < n → set.contains s p ≡ true → (r : List Field) × IsTrue (set.contains (least s) r) × Beginning r p
 descend zero s p short c = absurd (omega (arith, short))
 descend (suc n) s p short c =
@@ -267,7 +267,7 @@ least_begins_once s p r q hp hr bp br =
     (λ b. sym (((least_word s p).0 hp).1 r ((least_word s r).0 hr).0 b))
     (either_begins p r q bp br)
 
--- of a list of the least paths, by their places: each is a member, none but itself of the members begins it, and no two
+-- of a list of the least paths, by their places: each is a member, none but itself of the members is a prefix of it, and no two
 -- of them overlap
 pub cover_member : (cover : List (List Field)) (s : PathSet) (p : List Field) (k : ℕ) → set.from_list cover ≡ least s → get_or cover k p ≡ p → k < length cover → IsTrue (set.contains s p)
 cover_member cover s p k is at l = ((least_word s p).0 (ap (λ x. set.contains x p) (sym is) ∙ of_has_at cover p k at l)).0

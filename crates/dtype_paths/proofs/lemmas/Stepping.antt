@@ -25,7 +25,7 @@ use Rattle.dtype_paths.specs.EqualityLaws.{same_field-Decides, same_path-Decides
 use Rattle.dtype_paths.specs.In.{In, first_part}
 use Rattle.dtype_paths.proofs.lemmas.Beginnings.{begins_nil, starts_with-Decides}
 use Rattle.dtype_paths.proofs.lemmas.Cases.{by_bool}
-use Rattle.dtype_paths.proofs.lemmas.MaskSteps.{first_asked}
+use Rattle.dtype_paths.proofs.lemmas.MaskSteps.{first_contained}
 use Rattle.dtype_paths.proofs.lemmas.Steps.{step_element, then_some}
 use Rattle.dtype_paths.proofs.lemmas.Walks.{along-At, At-along, along_after, none_after, none_further, one_type_at}
 use Rattle.dtype_paths.specs.declared.field.Field.{Field}
@@ -139,20 +139,20 @@ given_valid t u p e h = valid_along t p u h (given_at t u p e)
 other_first : (p q : List Field) (f g h : Field) → f ∷ p ≡ h ∷ q → Some g ≡ Some h → same_field g f ≡ false → ⊥
 other_first p q f g h same first other = let e : same_field g f ≡ true = (same_field-Decides g f).1 (cc) in cc
 
-pub other_unasked : (m : FieldMask) (f g : Field) (q : List Field) → Some g ≡ first_part m → same_field g f ≡ false → In m (f ∷ q) → ⊥
-other_unasked All f g q first other asked = cc
-other_unasked (Prefix []) f g q first other asked = cc
-other_unasked (Prefix (h ∷ p)) f g q first other asked = other_first q (p ++ asked.0) f g h asked.1 first other
-other_unasked (Exact []) f g q first other asked = cc
-other_unasked (Exact (h ∷ p)) f g q first other asked = other_first q p f g h asked first other
+pub other_uncontained : (m : FieldMask) (f g : Field) (q : List Field) → Some g ≡ first_part m → same_field g f ≡ false → In m (f ∷ q) → ⊥
+other_uncontained All f g q first other asked = cc
+other_uncontained (Prefix []) f g q first other asked = cc
+other_uncontained (Prefix (h ∷ p)) f g q first other asked = other_first q (p ++ asked.0) f g h asked.1 first other
+other_uncontained (Exact []) f g q first other asked = cc
+other_uncontained (Exact (h ∷ p)) f g q first other asked = other_first q p f g h asked first other
 
 -- nor does a mask whose path has no step, unless it selects everything
-pub none_unasked : (m : FieldMask) (f : Field) (q : List Field) → None ≡ first_part m → (((r : List Field) → In m r) → ⊥) → In m (f ∷ q) → ⊥
-none_unasked All f q first some asked = some (λ r. tt)
-none_unasked (Prefix []) f q first some asked = some (λ r. (r, refl))
-none_unasked (Prefix (h ∷ p)) f q first some asked = cc
-none_unasked (Exact []) f q first some asked = cc
-none_unasked (Exact (h ∷ p)) f q first some asked = cc
+pub none_uncontained : (m : FieldMask) (f : Field) (q : List Field) → None ≡ first_part m → (((r : List Field) → In m r) → ⊥) → In m (f ∷ q) → ⊥
+none_uncontained All f q first some asked = some (λ r. tt)
+none_uncontained (Prefix []) f q first some asked = some (λ r. (r, refl))
+none_uncontained (Prefix (h ∷ p)) f q first some asked = cc
+none_uncontained (Exact []) f q first some asked = cc
+none_uncontained (Exact (h ∷ p)) f q first some asked = cc
 
 -- a path of one step
 pub one_part : (p : List Field) → length p ≡ 1 → (f : Field) × (p ≡ f ∷ [])
@@ -191,7 +191,7 @@ first_begins (Exact []) f q e a = cc
 first_begins (Exact (h ∷ p)) f q e a = let same = same_Some f h e in (p, a ∙ (λ i. sym same i ∷ p))
 
 -- all of the topic, where a file steps types and masks at once; by question below
-pub ruleset stepping = (given_at, given_exists, fields_shown, given_valid, none_at, none_exists, column_along, name_no_size_zero, name_no_extension, at_append, at_element, beginning_exists_in, front_exists_in, root_begins, root_leads, root_exists_in, tested_fields, tested_paths, one_type_at, along_after, none_after, none_further, first_asked, other_unasked, none_unasked, one_part, one_begins, tested_beginning, beginning_tested, root_alone, first_begins)
+pub ruleset stepping = (given_at, given_exists, fields_shown, given_valid, none_at, none_exists, column_along, name_no_size_zero, name_no_extension, at_append, at_element, beginning_exists_in, front_exists_in, root_begins, root_leads, root_exists_in, tested_fields, tested_paths, one_type_at, along_after, none_after, none_further, first_contained, other_uncontained, none_uncontained, one_part, one_begins, tested_beginning, beginning_tested, root_alone, first_begins)
 
 -- ---- `stepping` by question: among fewer lemmas a search comes further
 
@@ -201,8 +201,8 @@ pub ruleset types_along = (given_at, given_exists, given_valid, none_at, none_ex
 -- a path of one name in a struct
 pub ruleset one_column = (fields_shown, column_along, name_no_size_zero, name_no_extension)
 
--- paths that begin others, and what the tests of steps and paths say
+-- paths that are prefixes of others, and what the tests of steps and paths say
 pub ruleset beginnings = (root_begins, tested_fields, tested_paths, one_part, short_path, one_begins, tested_beginning, beginning_tested)
 
 -- what a mask selects, after a step too
-pub ruleset stepped_masks = (first_asked, other_unasked, none_unasked, root_begins, one_begins, tested_fields, tested_beginning, beginning_tested, root_alone, first_begins)
+pub ruleset stepped_masks = (first_contained, other_uncontained, none_uncontained, root_begins, one_begins, tested_fields, tested_beginning, beginning_tested, root_alone, first_begins)

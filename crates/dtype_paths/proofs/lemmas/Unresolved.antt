@@ -1,7 +1,7 @@
 -- SPDX-License-Identifier: Apache-2.0
 -- SPDX-FileCopyrightText: Copyright the Vortex contributors
 
--- The paths of a set that don't exist in a type. `missing_paths` names all that callers need in one line.
+-- The paths of a set that don't exist in a type. `unresolved_paths` names all that callers need in one line.
 use Rattle.std.specs.Prelude.{◌≡◌, ◌≢◌, ◌↔◌, ◌≤◌, IsTrue, List, [], ◌∷◌, Bool, not, ◌&&◌, is_some, map, refl}
 use Rattle.std.specs.Bool.{Decides}
 use Rattle.std.specs.Borrow.{Bor}
@@ -38,8 +38,8 @@ exists-Decides t p = (
 )
 
 -- of a test that was asked, what its negation says
-pub missing_test : (t : Tree) (p : List Field) (b : Bool) → (IsTrue b ↔ ExistsIn t p) → not b ≡ not (is_some (along t p))
-missing_test t p b told = ap not (same_from_decides b _ told (exists-Decides t p))
+pub unresolved_test : (t : Tree) (p : List Field) (b : Bool) → (IsTrue b ↔ ExistsIn t p) → not b ≡ not (is_some (along t p))
+unresolved_test t p b told = ap not (same_from_decides b _ told (exists-Decides t p))
 
 -- a mapped list, filtered
 map_filter : {A B : Type 0} (f : A → B) (test : B → Bool) (xs : List A) → map f (filter (λ x. test (f x)) xs) ≡ filter test (map f xs)
@@ -101,15 +101,15 @@ none_unresolved ps s t is = (
         absurd (here.1 (all x.now here.0))
 
 -- at most as many are missing as the set has, and of no path none is
-pub missing_len : (s : PathSet) (t : Tree) → set.len (unresolved s t) ≤ set.len s
-missing_len s t = part_len (unresolved s t) s (λ p h. ((unresolved_word s t p).0 h).0)
+pub unresolved_len : (s : PathSet) (t : Tree) → set.len (unresolved s t) ≤ set.len s
+unresolved_len s t = part_len (unresolved s t) s (λ p h. ((unresolved_word s t p).0 h).0)
 
-pub none_missing : (s : PathSet) (t : Tree) → (unresolved s t ≡ unresolved s t) × (s ≡ set.empty → unresolved s t ≡ set.empty)
-none_missing s t = (
+pub nothing_unresolved : (s : PathSet) (t : Tree) → (unresolved s t ≡ unresolved s t) × (s ≡ set.empty → unresolved s t ≡ set.empty)
+nothing_unresolved s t = (
   refl,
   λ e. same_by _ _ (λ p. by_bool (set.contains (unresolved s t) p)
       (λ h. absurd (false≢true (sym (contains_empty p) ∙ ap (λ x. set.contains x p) (sym e) ∙ ((unresolved_word s t p).0 h).0)))
       (λ h. h ∙ sym (contains_empty p))),
 )
 
-pub ruleset missing_paths = (unresolved_word, each_unresolved, none_unresolved, missing_len, none_missing)
+pub ruleset unresolved_paths = (unresolved_word, each_unresolved, none_unresolved, unresolved_len, nothing_unresolved)

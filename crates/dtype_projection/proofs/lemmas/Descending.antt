@@ -1,7 +1,7 @@
 -- SPDX-License-Identifier: Apache-2.0
 -- SPDX-FileCopyrightText: Copyright the Vortex contributors
 
--- What a reader comes to that steps along a path in a type and in what is asked for, at once: what the projection has
+-- What a reader comes to that steps along a path in a type and in a set of paths, at once: what the projection has
 -- there. `descending` names all of it in one line.
 use Rattle.std.proofs.Common.{◌≡◌, List, [], ◌∷◌, Option, Some, None, option_and_then, true, false, refl, sym, ap, ◌∙◌}
 use Rattle.dtype_types.specs.tree.Kinds.{any_size_list_element}
@@ -32,11 +32,11 @@ opened_nowhere t w f p q root is none =
     ∙ sym (along_step t w f p root)
     ∙ ap (λ z. option_and_then (λ u. along u z) (projected t w)) (sym is)
 
--- where nothing of it is asked for
-pub opened_unasked : (t x : Tree) (w : PathPredicate) (f : Field) (p q : List Field) → w [] ≡ false → q ≡ f ∷ p → Some x ≡ step t f → no_path ≡ after_step f w → None ≡ option_and_then (λ u. along u q) (projected t w)
-opened_unasked t x w f p q root is at none = opened_after t x w no_path f p q None root is at none (ap (option_and_then (λ u. along u p)) (sym (projected_nothing x)))
+-- where nothing of it is contained
+pub opened_uncontained : (t x : Tree) (w : PathPredicate) (f : Field) (p q : List Field) → w [] ≡ false → q ≡ f ∷ p → Some x ≡ step t f → no_path ≡ after_step f w → None ≡ option_and_then (λ u. along u q) (projected t w)
+opened_uncontained t x w f p q root is at none = opened_after t x w no_path f p q None root is at none (ap (option_and_then (λ u. along u p)) (sym (projected_nothing x)))
 
--- where all below is asked for
+-- where all below is contained
 pub opened_whole : (t : Tree) (w : PathPredicate) (p : List Field) (o : Option Tree) → w [] ≡ true → o ≡ along t p → o ≡ option_and_then (λ u. along u p) (projected t w)
 opened_whole t w p o root e = e ∙ ap (option_and_then (λ u. along u p)) (sym (kept_root t w root))
 
@@ -49,4 +49,4 @@ opened_here t w p end =
 pub element_opened : (t : Tree) (w : PathPredicate) → (projected t w ≡ projected t w) × (w [] ≡ false → option_and_then (λ u. along u (ElementType ∷ [])) (projected t w) ≡ option_and_then (λ x. projected x (after_step ElementType w)) (any_size_list_element t))
 element_opened t w = (refl, λ root. along_step t w ElementType [] root ∙ (λ i. option_and_then (λ x. then_some (projected x (after_step ElementType w)) i) (step_element t i)))
 
-pub ruleset descending = (opened_after, opened_nowhere, opened_unasked, opened_whole, opened_here, element_opened)
+pub ruleset descending = (opened_after, opened_nowhere, opened_uncontained, opened_whole, opened_here, element_opened)

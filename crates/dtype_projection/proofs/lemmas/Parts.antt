@@ -181,7 +181,7 @@ least_is_kept t u w p is x l =
 
 -- ---- so it depends on what the paths cover alone
 
--- a path of w is a beginning of q
+-- a path of w is a prefix of q
 pub record Covered (w : PathPredicate) (q : List Field) : Type 0 where
   pub path : List Field
   pub holds : w path ≡ true

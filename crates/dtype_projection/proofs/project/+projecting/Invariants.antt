@@ -7,7 +7,7 @@ use Rattle.std.specs.List.{filter_map, zip}
 use Rattle.std.specs.Vec.Iter.{into_iter_items, into_iter_len}
 use Rattle.dtype_types.specs.tree.Tree.{pairs}
 use Rattle.dtype_types.specs.tree.TreeOf.{tree, children, fields_of}
-use Rattle.dtype_paths.specs.Cursors.{asks}
+use Rattle.dtype_paths.specs.Cursors.{contains_below}
 use Rattle.dtype_projection.specs.Projected.{projected_fields}
 use Rattle.dtype_projection.proofs.KeptFields.{kept_at}
 use Rattle.dtype_types.proofs.lemmas.TypesBelow.{weight, weight_items}
@@ -31,7 +31,7 @@ decreases-project_field l = 4 * weight_items (fields_of l.fields.now) + 2
 -- what is kept so far, followed by what is kept of the fields at the positions that are left, is what is kept of all
 abbrev pub invariant-project_struct-loop-position : goal.invariant-project_struct-loop-position
 invariant-project_struct-loop-position l = record {
-  kept : zip l.names.items (map tree l.dtypes.items) ++ filter_map (kept_at (children l.fields)) (into_iter_items l.position-iterator) ≡ pairs (projected_fields (fields_of l.fields) (asks l.wanted));
+  kept : zip l.names.items (map tree l.dtypes.items) ++ filter_map (kept_at (children l.fields)) (into_iter_items l.position-iterator) ≡ pairs (projected_fields (fields_of l.fields) (contains_below l.cursor));
   even : vec_len l.names ≡ vec_len l.dtypes;
   names_fit : vec_len l.names + into_iter_len l.position-iterator ≤ vec_capacity l.names;
   dtypes_fit : vec_len l.dtypes + into_iter_len l.position-iterator ≤ vec_capacity l.dtypes;

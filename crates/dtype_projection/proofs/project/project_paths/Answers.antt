@@ -47,7 +47,7 @@ clauses t s (Some u) is = (
 pub returns : goal.returns
 returns c =
     let t = tree c.args.dtype.now in
-    let s = c.args.wanted.now in
+    let s = c.args.paths.now in
     let part : MatchResult c.project.result (λ r. option_map tree r ≡ projected t (set.contains s)) (λ e. e ≡ OutOfMemory) =
     subst (λ w. MatchResult c.project.result (λ r. option_map tree r ≡ projected t w) (λ e. e ≡ OutOfMemory)) c.cursor.ensures.paths c.project.ensures in
     record {

@@ -2,7 +2,7 @@
 -- SPDX-FileCopyrightText: Copyright the Vortex contributors
 
 -- The nodes that a path leads to, and the paths that end below them.
-use Rattle.std.proofs.Common.{slice_get, subst, ◌≡◌, ◌≢◌, ◌∙◌, ℕ, ◌<◌, length, true, false, IsTrue, Decides, List, [], ◌∷◌, ◌++◌, Some, None, is_some, option_and_then, refl, sym, ap}
+use Rattle.std.proofs.Common.{slice_get, subst, ◌≡◌, ◌≢◌, ◌∙◌, ℕ, ◌<◌, length, true, false, IsTrue, IfSome, Decides, List, [], ◌∷◌, ◌++◌, Option, Some, None, is_some, option_and_then, refl, sym, ap}
 use Rattle.std.proofs.Math.Logic.{∥∥₁_elim, ∥∥₁_map}
 use Rattle.std.specs.Coded.{le_prop}
 use Rattle.std.proofs.lemmas.Bool.{false≢true}
@@ -75,16 +75,19 @@ none-below nodes i n at e = λ k p. none p k
     none [] = rw (at, e.0) refl
     none (f ∷ p) = rw (at, e.1) refl
 
--- a path leads to a node's child, and below it some path ends
-module _ (nodes ns : List Node) (i j : ℕ) (f : Field) (n : Node) (t : IsTrie nodes) (same : nodes ≡ ns) (r : IsReached ns i) (at : slice_get nodes i ≡ Some n) (led : Some j ≡ child n.children f) where
-  to_child : child_at ns i f ≡ Some j
-  to_child = rw (← same, at) (sym led)
+-- a path leads to a node's child, if it has one, and below that some path ends
+module _ (nodes ns : List Node) (i : ℕ) (f : Field) (n : Node) (o : Option ℕ) (t : IsTrie nodes) (same : nodes ≡ ns) (r : IsReached ns i) (at : slice_get nodes i ≡ Some n) (led : o ≡ child n.children f) where
+  to_child : o ≡ child_at ns i f
+  to_child = rw (← same, at) led
 
-  pub reached_child : IsReached ns j
-  reached_child = child-reached ns (subst IsTrie same t) i j f r to_child
+  if_child : (P : ℕ → Type 0) → ((j : ℕ) → child_at ns i f ≡ Some j → P j) → IfSome o P
+  if_child P h = by_option o (λ none. rw none tt) (λ j is. rw is (h j (sym to_child ∙ is)))
 
-  pub child_asks : (q : List Field) × IsTrue (ends_below ns j q)
-  child_asks = child-witness ns (subst IsTrie same t) i j f r to_child
+  pub reached_child : IfSome o (IsReached ns)
+  reached_child = if_child (IsReached ns) (λ j. child-reached ns (subst IsTrie same t) i j f r)
+
+  pub child_asks : IfSome o (λ j. (q : List Field) × IsTrue (ends_below ns j q))
+  child_asks = if_child (λ j. (q : List Field) × IsTrue (ends_below ns j q)) (λ j. child-witness ns (subst IsTrie same t) i j f r)
 
 -- after a step to a child that is there end the suffixes, and none after a step to no child
 pub ends_stepped : (nodes : List Node) (i j : ℕ) (f : Field) → Some j ≡ child_at nodes i f → ends_below nodes j ≡ after_step f (ends_below nodes i)

@@ -1,13 +1,13 @@
 // SPDX-License-Identifier: Apache-2.0
 // SPDX-FileCopyrightText: Copyright the Vortex contributors
 
-ghost use Rattle.std.specs.Prelude.{◌≡◌, ◌^◌, ◌<◌, ◌≤◌, [], ℕ, None, Some, if◌then◌else◌, length, IsTrue, IfErr, OnOk};
+ghost use Rattle.std.specs.Prelude.{◌≡◌, ◌^◌, ◌<◌, ◌≤◌, [], ℕ, length, IsTrue, IfErr, OnOk};
 ghost use Rattle.std.specs.List.{IsDistinct};
-ghost use Rattle.std.specs.Map.{keys_of, lookup};
+ghost use Rattle.std.specs.Map.{keys_of};
 ghost use Rattle.dtype_base.specs.Errors.{Makes};
 ghost use Rattle.dtype_base.specs.declared.vortex_error.VortexError.TheVariants.{OutOfMemory};
 ghost use Rattle.dtype_paths.specs.private.ChildIters.{entries_left};
-ghost use Rattle.dtype_paths.specs.private.Children.{entry_node, HasKnownKey};
+ghost use Rattle.dtype_paths.specs.private.Children.{node_by, LeadsTo};
 ghost use Rattle.dtype_paths.specs.Equality.{same_field};
 ghost use Rattle.dtype_paths.specs.declared.field.Field.{Field};
 
@@ -15,7 +15,6 @@ use crate::Field;
 use crate::bucket_loads::BucketLoads;
 use crate::child_iter::ChildIter;
 use crate::child_tree::ChildTree;
-use crate::entry::Entry;
 use dtype_base::VortexResult;
 use std::alloc::Global;
 use std::collections::{HashMap, hash_map};
@@ -52,15 +51,11 @@ impl ChildMap {
         })
     }
 
-    // The entry of the step.
-    pub(crate) fn entry(&self, step: &Field) -> Entry
-        ensures node { entry_node result ≡ lookup (same_field step.now) self.now }
-        ensures key { HasKnownKey result step.now }
+    // The node that the step leads to.
+    pub(crate) fn child(&self, step: &Field) -> Option<usize>
+        ensures { result ≡ node_by self.now step.now }
     {
-        match self.node_indices.get(step) {
-            Some(node_index) => Entry::Occupied(*node_index),
-            None => Entry::Vacant(None),
-        }
+        self.node_indices.get(step).copied()
     }
 
     // How many children there are.
@@ -85,8 +80,7 @@ impl ChildMap {
         step: Field,
         node_index: usize,
     ) -> VortexResult<()>
-        ensures added { OnOk result ((f : Field) → lookup (same_field f) self.new
-            ≡ (if same_field step f then Some node_index else lookup (same_field f) self.old)) }
+        ensures added { OnOk result (LeadsTo (node_by self.old) step node_index (node_by self.new)) }
         ensures errors { IfErr result (λ e. (e ≡ OutOfMemory) × (self.new ≡ self.old)) }
     {
         if self.node_indices.len() >= MAX_UNCOUNTED {
@@ -99,8 +93,7 @@ impl ChildMap {
     // Lets the step lead to a node. After an error the children are unchanged.
     #[inline(always)]
     fn put(&mut self, step: Field, node_index: usize) -> VortexResult<()>
-        ensures leads { OnOk result ((f : Field) → lookup (same_field f) self.new
-            ≡ (if same_field step f then Some node_index else lookup (same_field f) self.old)) }
+        ensures added { OnOk result (LeadsTo (node_by self.old) step node_index (node_by self.new)) }
         ensures errors { IfErr result (λ e. (e ≡ OutOfMemory) × (self.new ≡ self.old)) }
     {
         self.node_indices.insert(step, node_index)?;
@@ -120,7 +113,7 @@ impl ChildMap {
     pub(crate) fn filled(mut self, alloc: Global, mut left: ChildIter<'_>) -> VortexResult<Self>
         requires none { self ≡ [] }
         requires once { IsDistinct same_field (keys_of (entries_left left)) }
-        ensures { Makes result (λ m. (f : Field) → lookup (same_field f) m ≡ lookup (same_field f) (entries_left left.entry)) }
+        ensures { Makes result (λ m. (f : Field) → node_by m f ≡ node_by (entries_left left.entry) f) }
     {
         while let Some((step, node_index)) = left.next() {
             self.put(step.try_clone(alloc)?, node_index)?;
@@ -130,7 +123,7 @@ impl ChildMap {
 
     // A copy: the same steps lead to the same nodes.
     pub(crate) fn try_clone(&self, alloc: Global) -> VortexResult<Self>
-        ensures { Makes result (λ c. (f : Field) → lookup (same_field f) c ≡ lookup (same_field f) self.now) }
+        ensures { Makes result (λ c. (f : Field) → node_by c f ≡ node_by self.now f) }
     {
         let mut copy = ChildMap::with_capacity(alloc, self.node_indices.len())?;
         copy.loads = self.loads.try_clone(alloc)?;
@@ -139,7 +132,7 @@ impl ChildMap {
 
     // A tree of the same children.
     pub(crate) fn to_tree(&self, alloc: Global) -> VortexResult<ChildTree>
-        ensures { Makes result (λ t. (f : Field) → lookup (same_field f) t ≡ lookup (same_field f) self.now) }
+        ensures { Makes result (λ t. (f : Field) → node_by t f ≡ node_by self.now f) }
     {
         Ok(ChildTree::of(alloc, ChildIter::Map(self.iter()))?)
     }

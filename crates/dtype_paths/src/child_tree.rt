@@ -5,21 +5,20 @@ ghost use Rattle.std.specs.Prelude.{◌≡◌, ◌^◌, ◌<◌, ℕ, [], length
 ghost use Rattle.std.specs.BTreeMap.{is_at, IsOrdered};
 ghost use Rattle.std.specs.Iterator.{YieldsFirstBy};
 ghost use Rattle.std.specs.List.{IsDistinct};
-ghost use Rattle.std.specs.Map.{keys_of, lookup};
+ghost use Rattle.std.specs.Map.{keys_of};
 ghost use Rattle.std.specs.Ordering.{nat_cmp};
 ghost use Rattle.dtype_base.specs.Errors.{Makes};
 ghost use Rattle.dtype_base.specs.declared.vortex_error.VortexError.TheVariants.{OutOfMemory};
 ghost use Rattle.dtype_paths.specs.private.ChildIters.{entries_left};
 ghost use Rattle.dtype_paths.specs.private.ChildTrees.{at_key, led_by, IsFirst, IsTaken};
-ghost use Rattle.dtype_paths.specs.private.Children.{borrowed_entry, entry_node, HasKnownKey};
+ghost use Rattle.dtype_paths.specs.private.Children.{borrowed_entry, node_by, LeadsTo};
 ghost use Rattle.dtype_paths.specs.Equality.{same_field};
-ghost use Rattle.dtype_paths.specs.private.StepKeys.{step_key, IsKnownKey};
+ghost use Rattle.dtype_paths.specs.private.StepKeys.{step_key};
 ghost use Rattle.dtype_paths.specs.declared.field.Field.{Field};
 
 use crate::Field;
 use crate::child_iter::ChildIter;
-use crate::entry::Entry;
-use crate::step_key::{known_key, step_key_of};
+use crate::step_key::step_key_of;
 use dtype_base::VortexResult;
 use std::alloc::Global;
 use std::collections::{BTreeMap, btree_map};
@@ -59,29 +58,25 @@ impl ChildTree {
     // A tree of copies of these children.
     pub(crate) fn of(alloc: Global, mut left: ChildIter<'_>) -> VortexResult<Self>
         requires { IsDistinct same_field (keys_of (entries_left left)) }
-        ensures { Makes result (λ t. (f : Field) → lookup (same_field f) t ≡ lookup (same_field f) (entries_left left.entry)) }
+        ensures { Makes result (λ t. (f : Field) → node_by t f ≡ node_by (entries_left left.entry) f) }
     {
         let mut tree = ChildTree::new(alloc);
         while let Some((step, node_index)) = left.next() {
-            tree.insert(step.try_clone(alloc)?, None, node_index)?;
+            tree.insert(step.try_clone(alloc)?, node_index)?;
         }
         Ok(tree)
     }
 
-    // The entry of the step.
+    // The node that the step leads to.
     #[tactic(auto, using(crate::proofs::ChildTrees::looked_up_first, crate::proofs::ChildTrees::looked_up_later))]
-    pub(crate) fn entry(&self, step: &Field) -> Entry
-        ensures node { entry_node result ≡ lookup (same_field step.now) self.now }
-        ensures key { HasKnownKey result step.now }
+    pub(crate) fn child(&self, step: &Field) -> Option<usize>
+        ensures { result ≡ node_by self.now step.now }
     {
         let key = step_key_of(step);
         if let Some(node_index) = found_at_key(&self.by_key, key, step) {
-            return Entry::Occupied(node_index);
+            return Some(node_index);
         }
-        match self.by_step.get(step) {
-            Some(node_index) => Entry::Occupied(*node_index),
-            None => Entry::Vacant(Some(key)),
-        }
+        self.by_step.get(step).copied()
     }
 
     // How many children there are.
@@ -93,20 +88,13 @@ impl ChildTree {
         self.by_key.len() + self.by_step.len()
     }
 
-    // Lets the step lead to a node. Its key is made if it isn't known. After an error the children are unchanged.
+    // Lets the step lead to a node. After an error the children are unchanged.
     #[tactic(auto, using(crate::proofs::ChildTrees::led_more_by_step, crate::proofs::ChildTrees::led_more_by_key))]
-    pub(crate) fn insert(
-        &mut self,
-        step: Field,
-        key: Option<u64>,
-        node_index: usize,
-    ) -> VortexResult<()>
-        requires { IsKnownKey key step }
-        ensures added { OnOk result ((f : Field) → lookup (same_field f) self.new
-            ≡ (if same_field step f then Some node_index else lookup (same_field f) self.old)) }
+    pub(crate) fn insert(&mut self, step: Field, node_index: usize) -> VortexResult<()>
+        ensures added { OnOk result (LeadsTo (node_by self.old) step node_index (node_by self.new)) }
         ensures errors { IfErr result (λ e. (e ≡ OutOfMemory) × (self.new ≡ self.old)) }
     {
-        let key = known_key(key, &step);
+        let key = step_key_of(&step);
         if is_taken(&self.by_key, key, &step) {
             self.by_step.insert(step, node_index)?;
         } else {
@@ -130,7 +118,7 @@ impl ChildTree {
 
     // A copy: the same steps lead to the same nodes.
     pub(crate) fn try_clone(&self, alloc: Global) -> VortexResult<Self>
-        ensures { Makes result (λ t. (f : Field) → lookup (same_field f) t ≡ lookup (same_field f) self.now) }
+        ensures { Makes result (λ t. (f : Field) → node_by t f ≡ node_by self.now f) }
     {
         Ok(ChildTree::of(alloc, ChildIter::Tree(self.iter()))?)
     }

@@ -7,7 +7,6 @@ ghost use Rattle.dtype_base.specs.Errors.{Makes};
 ghost use Rattle.dtype_base.specs.declared.vortex_error.VortexError.TheVariants.{OutOfMemory};
 ghost use Rattle.dtype_paths.specs.private.Children.{child};
 ghost use Rattle.dtype_paths.specs.private.Lending.{LendsNode};
-ghost use Rattle.dtype_paths.specs.private.StepKeys.{IsKnownKey};
 ghost use Rattle.dtype_paths.specs.Equality.{same_field};
 ghost use Rattle.dtype_paths.specs.private.Trie.{chain, child_at, terminal_at, terminals, IsAlike, HasBranch, IsPrefixMatch};
 ghost use Rattle.dtype_paths.specs.declared.field.Field.{Field};
@@ -137,7 +136,7 @@ impl Nodes {
         let step = path.parts()[prefix.len].try_clone(alloc)?;
         let first = self.len();
         self.push_chain(alloc, path, prefix.len + 1)?;
-        self.add_child(alloc, prefix.here, step, prefix.key, first)
+        self.add_child(alloc, prefix.here, step, first)
     }
 
     // Appends the chain of nodes that leads along the steps of the path from the step `at` on, and ends in its
@@ -159,18 +158,15 @@ impl Nodes {
         Ok(())
     }
 
-    // Adds a child to the node `here`, by a step that it has none for, and its key where it is known. After an error the
-    // children are unchanged.
+    // Adds a child to the node `here`, by a step that it has none for. After an error the children are unchanged.
     fn add_child(
         &mut self,
         alloc: Global,
         here: usize,
         step: Field,
-        key: Option<u64>,
         node_index: usize,
     ) -> VortexResult<()>
         requires node_index { here < length self.old }
-        requires key { IsKnownKey key step }
         requires none { child_at self.old here step ≡ None }
         ensures long { length self.new ≡ length self.old }
         ensures terminals { (i : ℕ) → terminal_at self.new i ≡ terminal_at self.old i }
@@ -179,7 +175,7 @@ impl Nodes {
         ensures err { OnErr result (self.new ≡ self.old) }
         ensures errors { IsOkUnless result OutOfMemory }
     {
-        self.at_mut(here).add_child(alloc, step, key, node_index)
+        self.at_mut(here).add_child(alloc, step, node_index)
     }
 
     // Keeps the first nodes, this many, and drops the others.

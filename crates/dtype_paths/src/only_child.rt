@@ -1,16 +1,13 @@
 // SPDX-License-Identifier: Apache-2.0
 // SPDX-FileCopyrightText: Copyright the Vortex contributors
 
-ghost use Rattle.std.specs.Prelude.{◌≡◌, ◌∷◌, [], None, Some, if◌then◌else◌};
+ghost use Rattle.std.specs.Prelude.{◌≡◌, ◌∷◌, []};
 ghost use Rattle.dtype_base.specs.Errors.{Makes};
-ghost use Rattle.dtype_paths.specs.private.Children.{entry_node, HasKnownKey};
-ghost use Rattle.dtype_paths.specs.private.StepKeys.{IsKnownKey};
-ghost use Rattle.dtype_paths.specs.Equality.{same_field};
+ghost use Rattle.dtype_paths.specs.private.Children.{node_by};
 
 use crate::Field;
 use crate::child_list::ChildList;
-use crate::entry::Entry;
-use crate::step_key::{key_is_exact, known_key, step_key_of};
+use crate::step_key::{key_is_exact, step_key_of};
 use dtype_base::VortexResult;
 use std::alloc::Global;
 use std::marker::Model;
@@ -37,13 +34,12 @@ impl Model for OnlyChild {
 }
 
 impl OnlyChild {
-    // The child of the step, whose key is made if it isn't known.
-    pub(crate) fn new(step: Field, key: Option<u64>, node_index: usize) -> Self
-        requires { IsKnownKey key step }
+    // The child of the step.
+    pub(crate) fn new(step: Field, node_index: usize) -> Self
         ensures { result ≡ (step, node_index) }
     {
         OnlyChild {
-            key: known_key(key, &step),
+            key: step_key_of(&step),
             step,
             node_index,
         }
@@ -61,16 +57,15 @@ impl OnlyChild {
         self.node_index
     }
 
-    // The entry of the step.
-    pub(crate) fn entry(&self, step: &Field) -> Entry
-        ensures node { entry_node result ≡ (if same_field step.now self.now.0 then Some self.now.1 else None) }
-        ensures key { HasKnownKey result step.now }
+    // The node that the step leads to.
+    pub(crate) fn child(&self, step: &Field) -> Option<usize>
+        ensures { result ≡ node_by (self.now ∷ []) step.now }
     {
         let key = step_key_of(step);
         if self.key == key && (key_is_exact(step) || *step == self.step) {
-            Entry::Occupied(self.node_index)
+            Some(self.node_index)
         } else {
-            Entry::Vacant(Some(key))
+            None
         }
     }
 
@@ -79,7 +74,7 @@ impl OnlyChild {
         ensures { Makes result (λ l. l ≡ self.now ∷ []) }
     {
         let mut list = ChildList::with_room(alloc)?;
-        list.push(self.step.try_clone(alloc)?, Some(self.key), self.node_index)?;
+        list.push(self.step.try_clone(alloc)?, self.node_index)?;
         Ok(list)
     }
 

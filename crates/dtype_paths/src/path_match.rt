@@ -15,6 +15,4 @@ pub(crate) enum PathMatch {
 pub(crate) struct PrefixMatch {
     pub(crate) here: usize,
     pub(crate) len: usize,
-    /// The key of the next step, where the search for it made it.
-    pub(crate) key: Option<u64>,
 }

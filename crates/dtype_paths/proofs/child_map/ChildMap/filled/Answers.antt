@@ -8,4 +8,4 @@ use Rattle.dtype_paths.proofs.child_map.ChildMap.filled.Goals as goal
 pub loop-step-preserved : goal.loop-step-preserved
 loop-step-preserved c =
     copied_more _ (entries_left c.next.new.self) c.loop-step.self c.put.new.self (entries_left c.args.left) c.in-Some.step.now _ c.in-Some.node_index c.in-Some.ensures c.loop-step.invariant
-    c.in_ok-try_clone.ensures c.in_ok-put.ensures.leads
+    c.in_ok-try_clone.ensures c.in_ok-put.ensures.added

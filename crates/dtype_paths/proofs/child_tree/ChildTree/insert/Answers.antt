@@ -12,5 +12,5 @@ invariant_of-self c =
 pub invariant_of-self-in-Continue-branch-2 : goal.invariant_of-self-in-Continue-branch-2
 invariant_of-self-in-Continue-branch-2 c =
     let t = c.self.inside in
-    more_by_key t.by_key.entries t.by_step.entries c.self.invariant c.args.step c.args.node_index c.put_at_key.new.by_key.entries c.known_key-key.result c.known_key-key.ensures.key
+    more_by_key t.by_key.entries t.by_step.entries c.self.invariant c.args.step c.args.node_index c.put_at_key.new.by_key.entries c.step_key_of-key.result c.step_key_of-key.ensures.key
     (c.is_taken.ensures.free c.if-is_taken.false) c.put_at_key.ensures.ordered c.in_ok-put_at_key.ensures.added

@@ -9,12 +9,6 @@ use Rattle.dtype_paths.specs.private.Trie.{chain}
 use Rattle.dtype_paths.proofs.NodeIndices.{next-step, read-left}
 use Rattle.dtype_paths.proofs.nodes.Nodes.append_branch.Goals as goal
 
-pub add_child-requires-clause-key : goal.add_child-requires-clause-key
-add_child-requires-clause-key c =
-    let next = next-step c.args.self.now c.args.path c.args.prefix c.requires c.index-parts-prefix.result c.in_ok-step.step
-    (rw c.parts.ensures at c.index-parts-prefix.is) c.in_ok-step.ensures in
-    rw next.1 at c.requires.key
-
 pub add_child-requires-clause-none : goal.add_child-requires-clause-none
 add_child-requires-clause-none c =
     let old = c.args.self.now in let path = c.args.path in let m = c.args.prefix in

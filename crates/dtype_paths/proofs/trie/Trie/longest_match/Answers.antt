@@ -14,25 +14,24 @@ loop-step-init c = record { same = refl; inside = c.self.invariant.inside [] 0 r
 pub loop-step-preserved : goal.loop-step-preserved
 loop-step-preserved c =
     let i = c.loop-step.invariant in let n = c.loop-step.step-index in let path = c.args.path.now in let x = c.step-item.result in let nodes = c.self.inside.nodes in
-    let next : child_at nodes c.loop-step.here x ≡ Some c.in-Occupied.node_index = rw c.at.ensures (sym c.in-Occupied.ensures.node) in
-    let more : walk (child_at nodes) 0 (take (n + 1) path) ≡ Some c.in-Occupied.node_index =
-    rw (take-step path n x (omega arith) c.step-item.is) (walk-snoc (child_at nodes) c.loop-step.here c.in-Occupied.node_index (take n path) x i.walked next) in
+    let next : child_at nodes c.loop-step.here x ≡ Some c.in-Some.node_index = rw c.at.ensures (sym c.in-Some.ensures) in
+    let more : walk (child_at nodes) 0 (take (n + 1) path) ≡ Some c.in-Some.node_index =
+    rw (take-step path n x (omega arith) c.step-item.is) (walk-snoc (child_at nodes) c.loop-step.here c.in-Some.node_index (take n path) x i.walked next) in
     record {
       same = omega (arith, i.same);
-      inside = c.self.invariant.inside (take (n + 1) path) c.in-Occupied.node_index more;
+      inside = c.self.invariant.inside (take (n + 1) path) c.in-Some.node_index more;
       walked = more;
     }
 
-pub returns-in-Vacant : goal.returns-in-Vacant
-returns-in-Vacant c =
+pub returns-in-None : goal.returns-in-None
+returns-in-None c =
     let i = c.loop-step.invariant in let path = c.args.path.now in let x = c.step-item.result in let nodes = c.self.inside.nodes in
     let there : c.loop-step.step-index ≡ c.loop-step.len = sym i.same in
-    subst (λ ns. IsPrefixMatch ns path (record { here = c.loop-step.here; len = c.loop-step.len; key = c.in-Vacant.key })) c.self.view_is
+    subst (λ ns. IsPrefixMatch ns path (record { here = c.loop-step.here; len = c.loop-step.len })) c.self.view_is
     (record {
       inside = i.inside;
       walked = rw there at i.walked;
       step = x;
       next = slice_get_read path (length path) c.loop-step.len x refl (omega (arith, i.same)) (rw there at c.step-item.is);
-      none = rw c.at.ensures (sym c.in-Vacant.ensures.node);
-      key = c.in-Vacant.ensures.key;
+      none = rw c.at.ensures (sym c.in-None.ensures);
     })

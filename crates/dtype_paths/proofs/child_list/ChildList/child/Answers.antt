@@ -7,10 +7,10 @@ use Rattle.std.specs.Map.{lookup}
 use Rattle.std.proofs.lemmas.Option.{slice_get_past, slice_get_read}
 use Rattle.dtype_paths.specs.Equality.{same_field}
 use Rattle.dtype_paths.proofs.ChildLists.{leads-by_key, leads-nowhere}
-use Rattle.dtype_paths.proofs.child_list.ChildList.entry.Goals as goal
+use Rattle.dtype_paths.proofs.child_list.ChildList.child.Goals as goal
 
-pub returns-in-Some-clause-node : goal.returns-in-Some-clause-node
-returns-in-Some-clause-node c =
+pub returns-in-Some : goal.returns-in-Some
+returns-in-Some c =
     let cs = c.self.inside.children.items in let f = c.args.step.now in let key = c.step_key_of-key.result in let i = c.position_of_key.result in let x = c.in-Some.child.now in
     let g = c.in-Some.ensures in
     let lt : i < length cs = rw c.deref.ensures.value at g.lookup.3.0 in
@@ -19,8 +19,8 @@ returns-in-Some-clause-node c =
     sym (leads-by_key cs f key c.self.invariant.0 c.step_key_of-key.ensures c.self.invariant.1 (c.key_is_exact.ensures.0 c.if-not-key_is_exact.false) i x there same)
     ∙ ap (lookup (same_field f)) c.self.view_is
 
-pub returns-in-None-clause-node : goal.returns-in-None-clause-node
-returns-in-None-clause-node c =
+pub returns-in-None : goal.returns-in-None
+returns-in-None c =
     let cs = c.self.inside.children.items in let f = c.args.step.now in let i = c.position_of_key.result in
     let past : length cs ≤ i = rw c.deref.ensures.value at c.in-None.ensures.lookup.3 in
     let none = rw c.deref-2.ensures.value at c.position_of_key.ensures.none in

@@ -233,7 +233,7 @@ pub fn a_set_is_stepped_into()
 /// first `None`. For example, of two names that are left the first call returns the first, the second call the second,
 /// and the third call `None`. So a `for` loop over `FieldPathCursor::names` visits every name once and ends.
 ///
-/// About [`FieldPathCursor::names`].
+/// About [`FieldPathCursor::names`] and [`CursorNames`].
 pub fn names_are_given_in_order()
     ensures { GivesInOrder ⟦<CursorNames<'static> as Iterator>⟧.next_gives
         ⟦<CursorNames<'static> as Iterator>⟧.remaining borrowed_below names_left }
@@ -242,7 +242,7 @@ pub fn names_are_given_in_order()
 /// For each cursor `a` and each copy `b` that `clone` makes of it, `b` is the same cursor as `a`. For example, a copy of
 /// the cursor after the step `a` contains the same paths. So a reader may keep a copy and go on with the original.
 ///
-/// About [`FieldPathCursor`] and [`CursorNames`].
+/// About [`FieldPathCursor`].
 pub fn copies_of_cursors_are_the_same()
     ensures { (a b : FieldPathCursor) → ⟦<crate::FieldPathCursor<'static> as Clone>⟧.is_clone a b → b ≡ a }
 {}

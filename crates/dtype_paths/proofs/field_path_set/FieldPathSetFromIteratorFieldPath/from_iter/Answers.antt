@@ -14,4 +14,4 @@ returns-in-Ok g c =
     let made = c.in-Ok.ensures in
     let run = made.2 in
     let ran = run.0.gave.0 in
-    (made.0, run.0.items, made.1, subst (λ s. DrainsIf g.I.IntoIter.Iterator.next_gives ⊤ s run.0.items) run.1 (ran.0, ran.1, λ _. ran.2 run.2), run.3)
+    record { ran = (made.0, run.0.items, made.1, subst (λ s. DrainsIf g.I.IntoIter.Iterator.next_gives ⊤ s run.0.items) run.1 (ran.0, ran.1, λ _. ran.2 run.2), run.3) }

@@ -1,0 +1,24 @@
+// SPDX-License-Identifier: Apache-2.0
+// SPDX-FileCopyrightText: Copyright the Vortex contributors
+
+// The values that a slot may have.
+use dtype_messages::pb;
+use dtype_paths::{FieldMask, FieldPath, FieldPathSet};
+use dtype_types::DType;
+
+/// A value that a [`Slot`](crate::Slot) may have, for example `Object::Path` of the path `a.[]`.
+#[derive(Drop)]
+pub enum Object {
+    /// A logical type.
+    DType(DType),
+    /// A field path.
+    Path(FieldPath),
+    /// A set of field paths.
+    Set(FieldPathSet),
+    /// A list of field paths.
+    Paths(Vec<FieldPath>),
+    /// A mask over field paths.
+    Mask(FieldMask),
+    /// The message of a logical type.
+    Message(pb::DType),
+}

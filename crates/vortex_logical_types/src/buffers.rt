@@ -1,0 +1,20 @@
+// SPDX-License-Identifier: Apache-2.0
+// SPDX-FileCopyrightText: Copyright the Vortex contributors
+
+// What exports write into buffers.
+ghost use Rattle.vortex_logical_types.specs.Answers.{WritesBytes};
+
+use crate::errors::{OK, TOO_SMALL};
+
+/// Writes bytes to the front of a buffer and their number beside it. If they don't fit, it writes the number alone.
+pub fn write_bytes(bytes: &[u8], buffer: &mut [u8], length: &mut usize) -> u32
+    ensures { WritesBytes bytes.now result (buffer.old, length.old) (buffer.new, length.new) }
+{
+    let size = bytes.len();
+    *length = size;
+    if size > buffer.len() {
+        return TOO_SMALL;
+    }
+    buffer[..size].copy_from_slice(bytes);
+    OK
+}

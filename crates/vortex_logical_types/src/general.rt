@@ -1,0 +1,51 @@
+// SPDX-License-Identifier: Apache-2.0
+// SPDX-FileCopyrightText: Copyright the Vortex contributors
+
+// What is the same for all objects.
+ghost use Rattle.std.specs.Prelude.{◌≡◌};
+ghost use Rattle.std.specs.declared.option.Option.TheVariants.{None};
+ghost use Rattle.vortex_logical_types.specs.Answers.{object_kind};
+
+use crate::errors::OK;
+use c_objects::{Object, Slot};
+use std::alloc::Global;
+
+/// Returns the version of this interface: 1.
+#[unsafe(no_mangle)]
+pub extern "C" fn vlt_abi_version() -> u32
+    ensures { result ≡ 1 }
+{
+    1
+}
+
+/// Drops the object in the slot, if there is one, and leaves the slot empty.
+#[unsafe(no_mangle)]
+pub extern "C" fn vlt_free(alloc: Global, slot: &mut Slot)
+    ensures { slot.new.value ≡ None }
+{
+    if let Some(object) = slot.take(alloc) {
+        drop(object);
+    }
+}
+
+/// Returns the kind of the object in the slot: 0 none, 1 a type, 2 a path, 3 a set of paths, 4 a list of paths, 5 a mask,
+/// 6 the message of a type.
+#[unsafe(no_mangle)]
+pub extern "C" fn vlt_kind(alloc: Global, slot: &mut Slot) -> u32
+    ensures kind { result ≡ object_kind slot.old.value }
+    ensures kept { slot.new.value ≡ slot.old.value }
+{
+    let Some(object) = slot.take(alloc) else {
+        return OK;
+    };
+    let kind = match &*object {
+        Object::DType(_) => 1,
+        Object::Path(_) => 2,
+        Object::Set(_) => 3,
+        Object::Paths(_) => 4,
+        Object::Mask(_) => 5,
+        Object::Message(_) => 6,
+    };
+    slot.put(object);
+    kind
+}

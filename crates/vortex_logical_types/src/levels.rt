@@ -1,0 +1,42 @@
+// SPDX-License-Identifier: Apache-2.0
+// SPDX-FileCopyrightText: Copyright the Vortex contributors
+
+// How deep a type is.
+use dtype_types::{DType, DTypeIter};
+
+/// The most levels below a type that is made through these exports. Dropping one of these can't exhaust the stack.
+pub const MAX_LEVELS: u32 = 128;
+
+/// Returns whether the type has at most this many levels below it, for example 1 for `list(i32)`.
+#[cycle(levels)]
+pub fn fits(dtype: &DType, levels: u32) -> bool {
+    match dtype {
+        DType::List(element, _) => part_fits(element, levels),
+        DType::FixedSizeList(element, _, _) => part_fits(element, levels),
+        DType::Map(map, _) => {
+            part_fits(map.key_dtype(), levels) && part_fits(map.value_dtype(), levels)
+        }
+        DType::Struct(fields, _) => parts_fit(fields.fields(), levels),
+        DType::Union(variants, _) => parts_fit(variants.variants(), levels),
+        DType::Extension(extension) => part_fits(extension.storage_dtype(), levels),
+        _ => true,
+    }
+}
+
+#[cycle(levels)]
+fn part_fits(dtype: &DType, levels: u32) -> bool {
+    match levels.checked_sub(1) {
+        Some(levels) => fits(dtype, levels),
+        None => false,
+    }
+}
+
+#[cycle(levels)]
+fn parts_fit(dtypes: DTypeIter<'_>, levels: u32) -> bool {
+    for dtype in dtypes {
+        if !part_fits(dtype, levels) {
+            return false;
+        }
+    }
+    true
+}

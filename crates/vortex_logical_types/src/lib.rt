@@ -1,0 +1,30 @@
+// SPDX-License-Identifier: Apache-2.0
+// SPDX-FileCopyrightText: Copyright the Vortex contributors
+
+//! The calls of the library as functions for C, which `rt lib` builds into `out/libvortex_logical_types.a`.
+//!
+//! Each export takes its objects in slots (`c_objects`), and returns what happened as a number: 0 to 9 as in `errors`, or
+//! 100 and the number of the library's error. A slot that an export only reads keeps its object. A slot `out` has a new
+//! object exactly if the export returns 0, and what it had before is dropped then.
+//!
+//! What is proved of each export is what its contract says of the values of its slots (`specs/Answers`): which code it
+//! returns in each case, and what it leaves. No export requires anything of its caller, except what C has to meet for the
+//! types of the parameters: valid pointers, slots that are distinct, and one thread at a time.
+#![tactic(auto)]
+
+mod buffers;
+mod changes;
+mod constructors;
+mod error_texts;
+mod errors;
+mod general;
+mod holders;
+mod levels;
+mod names;
+mod nullability;
+mod objects;
+mod parts;
+mod structs;
+mod types;
+mod unions;
+mod wide;

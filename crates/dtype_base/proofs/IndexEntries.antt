@@ -29,19 +29,24 @@ tied_then : (r s : Ordering) → (r ≡ Equal → s ≡ Equal) → r ≡ orderin
 tied_then Equal s tie = sym (tie refl)
 tied_then _ s tie = refl
 
-cmp_equal : (a b : ℕ) → nat_cmp a b ≡ Equal → a ≡ b
-cmp_equal a b e = elim (cases_order a b) [
+-- ---- numbers by how they compare
+
+equal_numbers : (a b : ℕ) → nat_cmp a b ≡ Equal → a ≡ b
+equal_numbers a b e = elim (cases_order a b) [
   | inl same ↦ same
   | inr (inl less) ↦ absurd (false≢true (ap is_eq (nat_cmp_is a b Less less ∙ e)))
   | inr (inr more) ↦ absurd (false≢true (ap is_eq (nat_cmp_is a b Greater more ∙ e)))
 ]
 
-not_after : (a b : ℕ) (o : Ordering) → is_lt (ordering_then (nat_cmp b a) o) ≡ false → a ≤ b
-not_after a b o e = elim (cases_order b a) [
+-- a number isn't above one that doesn't come before it, however ties are decided
+at_most_unless_before : (a b : ℕ) (o : Ordering) → is_lt (ordering_then (nat_cmp b a) o) ≡ false → a ≤ b
+at_most_unless_before a b o e = elim (cases_order b a) [
   | inl same ↦ omega (arith, same)
   | inr (inl less) ↦ absurd (false≢true (sym e ∙ ap (λ r. is_lt (ordering_then r o)) (sym (nat_cmp_is b a Less less))))
   | inr (inr more) ↦ omega (arith, more)
 ]
+
+-- ---- entries
 
 module _ (bits : ℕ) (names : List (List ℕ)) where
   -- the order of entries is total
@@ -91,7 +96,7 @@ module _ (bits : ℕ) (names : List (List ℕ)) where
 
   -- the keys of sorted entries don't fall
   pub keys_rise : (entries : List ℕ) → IsSorted (entry_cmp bits names) entries → IsNonDecreasingBy (key_in bits) entries
-  keys_rise entries up = IsNonDecreasingBy-from_all_adjacent (key_in bits) entries (λ k d high. not_after _ _ _ (up k d (omega arith) high))
+  keys_rise entries up = IsNonDecreasingBy-from_all_adjacent (key_in bits) entries (λ k d high. at_most_unless_before _ _ _ (up k d (omega arith) high))
 
   -- one entry more
   pub positions_push : (entries : List ℕ) (e n : ℕ) → position_in bits e ≡ n → positions bits entries ≡ range_with_len 0 n → positions bits (entries ++ e ∷ []) ≡ range_with_len 0 (n + 1)
@@ -117,7 +122,7 @@ module _ (bits : ℕ) (names : List (List ℕ)) where
         let e = get_or entries k d in
         let there : slice_get names (position_in bits (get_or entries s.0 0)) ≡ Some n = ap (slice_get names) s.2 ∙ t.1 in
         let key_s : key_in bits (get_or entries s.0 0) ≡ key = entry_key (get_or entries s.0 0) (h.keyed s.0 0 s.1) ∙ ap (key_or bits) there ∙ sym is in
-        let names_tie : nat_cmp (key_in bits e) key ≡ Equal → bytes_cmp (slice_get names (position_in bits e)) (Some n) ≡ Equal = λ same. let key_e = cmp_equal (key_in bits e) key same in elim (cases_order k s.0) [
+        let names_tie : nat_cmp (key_in bits e) key ≡ Equal → bytes_cmp (slice_get names (position_in bits e)) (Some n) ≡ Equal = λ same. let key_e = equal_numbers (key_in bits e) key same in elim (cases_order k s.0) [
           | inl at ↦ second_equal _ _ (ap (λ f. name_cmp bits names n (position_in bits f)) (get_or_default entries k d 0 within ∙ ap (λ j. get_or entries j 0) at) ∙ itself bits names _ h.rising h.apart n _ there)
           | inr (inl before) ↦ absurd (omega (arith, far entries increase k s.0 0 before s.1, key_s, key_e, ap (key_in bits) (get_or_default entries k d 0 within)))
           | inr (inr after) ↦ absurd (omega (arith, far entries increase s.0 k 0 after within, key_s, key_e, ap (key_in bits) (get_or_default entries k d 0 within)))

@@ -135,7 +135,7 @@ impl PType {
 
     /// Returns the narrowest unsigned integer type that the value fits. For 256 it is `u16`.
     pub fn min_unsigned_ptype_for_value(value: u64) -> PType
-        ensures { narrowest_unsigned value ≡ Some result }
+        ensures { Some result ≡ narrowest_unsigned value }
     {
         if value <= u64::from(u8::MAX) {
             PType::U8
@@ -150,7 +150,7 @@ impl PType {
 
     /// Returns the narrowest signed integer type that the value fits. For -129 it is `i16`.
     pub fn min_signed_ptype_for_value(value: i64) -> PType
-        ensures { narrowest_signed value ≡ Some result }
+        ensures { Some result ≡ narrowest_signed value }
     {
         if i64::from(i8::MIN) <= value && value <= i64::from(i8::MAX) {
             PType::I8

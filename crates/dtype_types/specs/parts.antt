@@ -6,4 +6,5 @@ pub mod Lists
 pub mod Lookups
 pub mod Unions
 pub mod Maps
+pub mod Extensions
 pub mod FieldTypes

@@ -10,15 +10,15 @@ pub(crate) mod equality;
 pub(crate) mod hash;
 pub(crate) mod indented_text;
 mod kinds;
-pub(crate) mod lattice;
 mod nullability;
+pub(crate) mod nullability_bounds;
 mod text;
 pub(crate) mod width;
 
 use crate::{ExtDTypeRef, MapDType, StructFields, UnionVariants};
 use dtype_base::{DecimalDType, Nullability, PType};
 pub use kinds::Kind;
-pub use lattice::{intersect_nullability, merge_nullability};
+pub use nullability_bounds::{intersect_nullability, merge_nullability};
 
 /// A logical type: it says which values a column may contain, and nothing about how they are stored.
 ///

@@ -9,7 +9,7 @@ ghost use Rattle.dtype_base.specs.Errors.{Makes};
 use crate::DType;
 use crate::dtype::equality::{NullabilityRule, equal_under};
 use crate::dtype::hash::{HashMode, hash_into};
-use crate::dtype::lattice::{MergeRule, merge_under};
+use crate::dtype::nullability_bounds::{MergeRule, merge_under};
 use crate::dtype::width::Width;
 use dtype_base::laws::slices_hold_bytes;
 use dtype_base::{Nullability, VortexResult};

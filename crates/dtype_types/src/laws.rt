@@ -46,6 +46,13 @@ pub fn kinds_are_equal_where_the_same()
     ensures { (a b : Kind) → Decides (⟦<Kind as PartialEq>⟧.eq a b) (a ≡ b) }
 {}
 
+/// For all kinds `a` and `b`, if `b` is a clone of `a`, then `b` is the same kind as `a`.
+///
+/// About [`Kind`].
+pub fn clones_of_kinds_are_the_same()
+    ensures { (a b : Kind) → ⟦<Kind as Clone>⟧.is_clone a b → b ≡ a }
+{}
+
 /// For all ids `a` and `b`, `a == b` is true exactly if their texts have the same bytes. For example, `x.tag` isn't
 /// equal to `X.tag`.
 ///

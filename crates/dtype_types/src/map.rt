@@ -9,7 +9,7 @@ ghost use Rattle.dtype_base.specs.Errors.{Makes};
 
 use crate::dtype::equality::{NullabilityRule, equal_under};
 use crate::dtype::hash::{HashMode, hash_into};
-use crate::dtype::lattice::{MergeRule, merge_under};
+use crate::dtype::nullability_bounds::{MergeRule, merge_under};
 use crate::{DType, StructFields};
 use dtype_base::{FieldNames, Nullability, VortexError, VortexResult};
 use std::alloc::Global;
@@ -38,7 +38,7 @@ impl MapDType {
     ghost use Rattle.dtype_types.specs.equality.Hashes.{inner_writes};
     ghost use Rattle.dtype_types.specs.nullability.Merged.{merge, rule_of};
     ghost use Rattle.dtype_types.specs.tree.Erase.{erase};
-    ghost use Rattle.dtype_types.specs.parts.Maps.{entries_of};
+    ghost use Rattle.dtype_types.specs.parts.Maps.{entries_of, key_tree, value_tree};
     ghost use Rattle.dtype_types.specs.nullability.Nullable.{nullability, IsNullable};
     ghost use Rattle.dtype_types.specs.tree.TreeOf.{tree, map_shown, map_tree};
 
@@ -72,14 +72,14 @@ impl MapDType {
 
     /// Returns the type of the keys.
     pub fn key_dtype(&self) -> &DType
-        ensures { tree result.now ≡ (map_shown self.now).0 }
+        ensures { tree result.now ≡ key_tree self.now }
     {
         &self.shared.key
     }
 
     /// Returns the type of the values.
     pub fn value_dtype(&self) -> &DType
-        ensures { tree result.now ≡ (map_shown self.now).1 }
+        ensures { tree result.now ≡ value_tree self.now }
     {
         &self.shared.value
     }
@@ -97,7 +97,7 @@ impl MapDType {
     ///
     /// - `OutOfMemory` (0): an allocation fails.
     pub fn entries_dtype(&self, alloc: Global) -> VortexResult<DType>
-        ensures { Makes result (λ d. tree d ≡ entries_of (map_shown self.now).0 (map_shown self.now).1) }
+        ensures { Makes result (λ d. tree d ≡ entries_of (key_tree self.now) (value_tree self.now)) }
     {
         let names = FieldNames::from_texts(alloc, &["key", "value"])?;
         let key = self.key_dtype().try_clone(alloc)?;

@@ -16,7 +16,7 @@ ghost use Rattle.dtype_types.specs.tree.TreeOf.{tree};
 use crate::dtype::equality::{NullabilityRule, equal_dtypes};
 use crate::dtype::hash::{HashMode, hash_into};
 use crate::dtype::indented_text::start_field;
-use crate::dtype::lattice::{MergeRule, merge_dtypes};
+use crate::dtype::nullability_bounds::{MergeRule, merge_dtypes};
 use crate::dtype::width::Width;
 use crate::field_dtype::into_dtypes;
 use crate::field_list::FieldList;

@@ -11,7 +11,7 @@ ghost use Rattle.dtype_types.specs.parts.Unions.{AreConsecutive, HasUnionLengths
 
 use crate::dtype::equality::{NullabilityRule, equal_dtypes};
 use crate::dtype::hash::{HashMode, hash_into};
-use crate::dtype::lattice::{MergeRule, merge_dtypes};
+use crate::dtype::nullability_bounds::{MergeRule, merge_dtypes};
 use crate::tagged::Tagged;
 use crate::{DType, DTypeIter, VariantIter};
 use dtype_base::{FieldNames, VortexError, VortexResult};

@@ -36,6 +36,7 @@ pub use Rattle.dtype_types.specs.tree.Erase
 pub use Rattle.dtype_types.specs.tree.Kinds
 pub use Rattle.dtype_types.specs.parts.Lookups
 pub use Rattle.dtype_types.specs.parts.Maps
+pub use Rattle.dtype_types.specs.parts.Extensions
 pub use Rattle.dtype_types.specs.parts.Unions
 pub use Rattle.dtype_types.specs.nullability.Nullable
 pub use Rattle.dtype_types.specs.values.Sample

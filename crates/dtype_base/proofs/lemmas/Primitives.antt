@@ -68,7 +68,7 @@ one_signed z = one_narrowest Signed (HoldsSigned z)
 
 -- ---- the first type by width that holds a number is a narrowest
 
-pub narrowest_unsigned_is : (n : ℕ) (p : PType) → narrowest_unsigned n ≡ Some p → IsNarrowest Unsigned (HoldsUnsigned n) p
+pub narrowest_unsigned_is : (n : ℕ) (p : PType) → Some p ≡ narrowest_unsigned n → IsNarrowest Unsigned (HoldsUnsigned n) p
 narrowest_unsigned_is n U8 e = grind (arith, nat_tests)
 narrowest_unsigned_is n _ e = grind (arith, nat_tests)
 
@@ -87,7 +87,7 @@ lt_tells a b = go (int_lt a b) refl
     go true e = inl (refl, record { lt = rw e tt })
     go false e = inr (refl, λ h. rw e at h.lt)
 
-pub narrowest_signed_is : (z : ℤ) (p : PType) → narrowest_signed z ≡ Some p → IsNarrowest Signed (HoldsSigned z) p
+pub narrowest_signed_is : (z : ℤ) (p : PType) → Some p ≡ narrowest_signed z → IsNarrowest Signed (HoldsSigned z) p
 narrowest_signed_is z U8 e = grind (arith, le_tells, lt_tells)
 narrowest_signed_is z _ e = grind (arith, le_tells, lt_tells)
 

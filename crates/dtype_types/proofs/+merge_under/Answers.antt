@@ -16,8 +16,8 @@ use Rattle.dtype_types.specs.declared.dtype.DType.{the_lemmas}
 use Rattle.dtype_types.proofs.MergedParts.{as_many, erased_fields, erased_variants, merged_all, merged_variants}
 use Rattle.dtype_types.proofs.+merge_under.Goals as goal
 
-pub dtype::lattice::merge_dtypes-returns : goal.dtype::lattice::merge_dtypes-returns
-dtype::lattice::merge_dtypes-returns t c =
+pub dtype::nullability_bounds::merge_dtypes-returns : goal.dtype::nullability_bounds::merge_dtypes-returns
+dtype::nullability_bounds::merge_dtypes-returns t c =
     let it = c.loop-dtype.dtype-iterator in
     let none = either_empty_from_Zip it c.next.new.self c.next.result c.in-None.is c.next.ensures.steps in
     let made = merged_all (rule_of c.args.rule) (iter_rest (zip_first it)) (iter_rest (zip_second it)) c.loop-dtype.dtypes.items _ none c.loop-dtype.invariant.whole in

@@ -12,8 +12,8 @@ use Rattle.dtype_types.specs.declared.dtype.DType.{size-DType}
 use Rattle.dtype_types.proofs.+merge_under.Given as goal
 
 -- what is merged, with what is left, is all; what is left is equal but for nullabilities, and no deeper
-abbrev pub invariant-dtype::lattice::merge_dtypes-loop-dtype : goal.invariant-dtype::lattice::merge_dtypes-loop-dtype
-invariant-dtype::lattice::merge_dtypes-loop-dtype l = record {
+abbrev pub invariant-dtype::nullability_bounds::merge_dtypes-loop-dtype : goal.invariant-dtype::nullability_bounds::merge_dtypes-loop-dtype
+invariant-dtype::nullability_bounds::merge_dtypes-loop-dtype l = record {
   whole : map tree l.dtypes.items ++ merge_types (rule_of l.rule) (map tree (iter_rest (zip_first l.dtype-iterator))) (map tree (iter_rest (zip_second l.dtype-iterator)))
       ≡ merge_types (rule_of l.rule) (map tree l.a) (map tree l.b);
   alike : map erase (map tree (iter_rest (zip_first l.dtype-iterator))) ≡ map erase (map tree (iter_rest (zip_second l.dtype-iterator)));

@@ -13,8 +13,8 @@ use Rattle.dtype_base.specs.declared.nullability.Nullability.{Nullability}
 use Rattle.dtype_base.specs.declared.nullability.Nullability.TheVariants.{NonNullable, Nullable}
 use Rattle.dtype_types.specs.declared.dtype.DType.{DType}
 use Rattle.dtype_types.specs.declared.dtype.equality.NullabilityRule.TheVariants.{Ignored}
-use Rattle.dtype_types.specs.declared.dtype.lattice.MergeRule.{MergeRule}
-use Rattle.dtype_types.specs.declared.dtype.lattice.MergeRule.TheVariants.{Either, Both}
+use Rattle.dtype_types.specs.declared.dtype.nullability_bounds.MergeRule.{MergeRule}
+use Rattle.dtype_types.specs.declared.dtype.nullability_bounds.MergeRule.TheVariants.{Either, Both}
 use Rattle.dtype_types.specs.equality.Equality.{equal_under}
 use Rattle.dtype_types.specs.equality.EqualityLaws.{equal_erased-Decides}
 use Rattle.dtype_types.specs.nullability.Merged.{Rule, both, merge, merge_items, merged_under, merged, intersected, IsLeastAbove, IsGreatestBelow, rule_of}

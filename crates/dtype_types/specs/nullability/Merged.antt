@@ -10,8 +10,8 @@ use Rattle.dtype_base.specs.Nullability.{either}
 use Rattle.dtype_base.specs.declared.nullability.Nullability.{Nullability}
 use Rattle.dtype_base.specs.declared.nullability.Nullability.TheVariants.{NonNullable, Nullable}
 use Rattle.dtype_types.specs.declared.dtype.equality.NullabilityRule.TheVariants.{Ignored}
-use Rattle.dtype_types.specs.declared.dtype.lattice.MergeRule.{MergeRule}
-use Rattle.dtype_types.specs.declared.dtype.lattice.MergeRule.TheVariants.{Either, Both}
+use Rattle.dtype_types.specs.declared.dtype.nullability_bounds.MergeRule.{MergeRule}
+use Rattle.dtype_types.specs.declared.dtype.nullability_bounds.MergeRule.TheVariants.{Either, Both}
 use Rattle.dtype_types.specs.equality.Equality.{equal_under}
 use Rattle.dtype_types.specs.nullability.Sub.{Sub}
 use Rattle.dtype_types.specs.tree.Tree.{Tree, no_items, item, null, bool, primitive, decimal, utf8, binary, list, fixed_size_list, map_of, struct, union, variant, extension, Items, Holder}

@@ -1,10 +1,20 @@
 -- SPDX-License-Identifier: Apache-2.0
 -- SPDX-FileCopyrightText: Copyright the Vortex contributors
 
--- The type of a map's entries. From the documentation of `MapDType::entries_dtype`.
+-- The types that a map holds, and the type of its entries. From the documentation of `MapDType`.
 use Rattle.std.specs.Prelude.{codes}
 use Rattle.dtype_base.specs.declared.nullability.Nullability.TheVariants.{NonNullable}
+use Rattle.dtype_types.specs.declared.map.MapDType.{MapDType}
 use Rattle.dtype_types.specs.tree.Tree.{Tree, struct, field, no_items}
+use Rattle.dtype_types.specs.tree.TreeOf.{map_shown}
+
+-- the tree of a map's key
+abbrev pub key_tree : MapDType → Tree
+key_tree m = (map_shown m).0
+
+-- the tree of a map's value
+abbrev pub value_tree : MapDType → Tree
+value_tree m = (map_shown m).1
 
 -- the non-nullable struct of a key and a value
 abbrev pub entries_of : Tree → Tree → Tree

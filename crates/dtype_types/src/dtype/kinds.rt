@@ -8,7 +8,8 @@ ghost use Rattle.std.specs.Prelude.{◌≡◌, ◌↔◌, IsTrue, IsSomeAnd, Som
 ghost use Rattle.std.specs.Option.{option_copied, option_map};
 ghost use Rattle.dtype_base.specs.Primitives.{IsUnsigned, IsSigned, IsInteger, IsFloat};
 ghost use Rattle.dtype_types.specs.tree.Kinds.{kind, kind_number, primitive_name, decimal_of, struct_fields, union_variants, map_parts, extension_parts, list_element, fixed_size_list_element, any_size_list_element, is_nested};
-ghost use Rattle.dtype_types.specs.tree.TreeOf.{tree, children, variant_list, map_shown, shown, extension_id, extension_metadata, extension_tree, storage_tree};
+ghost use Rattle.dtype_types.specs.tree.TreeOf.{tree, children, variant_list, map_shown, shown, extension_tree};
+ghost use Rattle.dtype_types.specs.parts.Extensions.{extension_shown};
 
 use crate::{DType, ExtDTypeRef, MapDType, StructFields, UnionVariants};
 use dtype_base::{DecimalDType, PType};
@@ -295,8 +296,7 @@ impl DType {
     /// Returns the id, the metadata and the storage type of an `Extension` as an `ExtDTypeRef`, or `None` if the type
     /// is of another kind.
     pub fn as_extension_opt(&self) -> Option<&ExtDTypeRef>
-        ensures { shown (λ e. (extension_id e, extension_metadata e, storage_tree e)) result
-            ≡ extension_parts (tree self.now) }
+        ensures { shown extension_shown result ≡ extension_parts (tree self.now) }
     {
         match self {
             DType::Extension(extension) => Some(extension),

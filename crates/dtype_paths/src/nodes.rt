@@ -19,6 +19,7 @@ use crate::{Field, FieldPath};
 use dtype_base::VortexResult;
 use std::alloc::Global;
 use std::marker::Model;
+use std::mem;
 
 /// The nodes of a trie in an arena, referred to by their indices. The root has index 0. It is stored beside the
 /// vector of the others, so that a trie of the root alone doesn't allocate.
@@ -186,8 +187,8 @@ impl Nodes {
         self.rest.truncate(len - 1);
     }
 
-    // Takes the node apart, which is one visit, and leaves an empty node in its stead. There are no more nodes than a
-    // `u64` counts.
+    // Gives the node up, with an empty one in its stead, and takes it apart, which is one visit. There are no more nodes
+    // than a `u64` counts.
     pub(crate) fn open(
         &mut self,
         node_index: usize,
@@ -201,7 +202,7 @@ impl Nodes {
         ensures visited { visits.new ≡ min (visits.old + 1) u64.MAX }
         ensures fits { length self.old ≤ u64.MAX }
     {
-        self.at_mut(node_index).open(visits)
+        mem::replace(self.at_mut(node_index), Node::empty()).open(visits)
     }
 
     // References to the paths that end in nodes.

@@ -132,6 +132,8 @@ pub(crate) fn boxed_deserialize(
 
 /// Every plugin is lawful: it writes metadata that it wrote back before unchanged, and the outer nullability of the
 /// storage type makes no difference. A caller names this law when a theorem requires lawful plugins.
+///
+/// About [`ExtDTypePlugin`].
 pub fn plugin_laws(plugin: &dyn ExtDTypePlugin)
     ensures { Lawful (rewrites plugin.now) }
 {}

@@ -171,6 +171,8 @@ impl fmt::Debug for DTypeSession {
 /// In every session all plugins are lawful: each writes metadata that it wrote back before unchanged, and the outer
 /// nullability of the storage type makes no difference. A caller names this law when a theorem requires a lawful
 /// session, for example to write a type and read it back.
+///
+/// About [`DTypeSession::deserialize`].
 pub fn session_laws(session: &DTypeSession)
     ensures { LawfulSession (meaning rewrites session.now) }
 {}

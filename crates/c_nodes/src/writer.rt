@@ -1,0 +1,261 @@
+// SPDX-License-Identifier: Apache-2.0
+// SPDX-FileCopyrightText: Copyright the Vortex contributors
+
+// Nodes and texts from messages.
+ghost use Rattle.std.specs.Prelude.{◌≡◌, ◌∷◌, ◌++◌, [], length, map, IfOk, string_bytes};
+ghost use Rattle.std.specs.List.{flat_map};
+ghost use Rattle.dtype_messages.specs.Message.{extension, messages, struct, union};
+ghost use Rattle.dtype_messages.specs.MessageOf.{message, kind_message, child_message, bytes_of};
+ghost use Rattle.c_nodes.specs.Flat.{flat_nodes, flat_texts, part_nodes, part_texts, all_nodes, all_texts, bytes_nodes, bytes_texts, text_node, tag_node};
+
+use crate::reader::MAX_LEVELS;
+use crate::{Node, NodeFault, node};
+use dtype_messages::pb;
+use std::alloc::Global;
+use std::string::String;
+
+// What has been written.
+#[derive(Drop)]
+struct Flat {
+    nodes: Vec<Node>,
+    texts: Vec<u8>,
+}
+
+/// Returns the nodes and the texts of the message.
+///
+/// # Errors
+///
+/// - `TooDeep`: a message is nested in more than 128 others.
+/// - `OutOfRange`: a number of names, tags, types or bytes doesn't fit 32 bits.
+/// - `OutOfMemory`: an allocation fails.
+pub fn nodes_of(alloc: Global, proto: &pb::DType) -> Result<(Vec<Node>, Vec<u8>), NodeFault>
+    ensures nodes { IfOk result (λ r. r.0.items ≡ flat_nodes (message proto.now)) }
+    ensures texts { IfOk result (λ r. r.1.items ≡ flat_texts (message proto.now)) }
+{
+    let mut flat = Flat {
+        nodes: Vec::new(alloc),
+        texts: Vec::new(alloc),
+    };
+    flat.message(proto, MAX_LEVELS)?;
+    Ok((flat.nodes, flat.texts))
+}
+
+impl Flat {
+    // Adds a node.
+    fn node(&mut self, node: Node) -> Result<(), NodeFault>
+        ensures nodes { IfOk result (λ _. self.new.nodes.items ≡ self.old.nodes.items ++ (node ∷ [])) }
+        ensures texts { self.new.texts.items ≡ self.old.texts.items }
+    {
+        self.nodes.push(node)?;
+        Ok(())
+    }
+
+    // Adds a text with its node.
+    fn text(&mut self, text: &[u8]) -> Result<(), NodeFault>
+        ensures nodes { IfOk result (λ _. self.new.nodes.items ≡ self.old.nodes.items ++ (text_node text.now ∷ [])) }
+        ensures texts { IfOk result (λ _. self.new.texts.items ≡ self.old.texts.items ++ text.now) }
+    {
+        self.node(node::sized_node(number_of(text.len())?))?;
+        self.texts.extend_from_slice(text)?;
+        Ok(())
+    }
+
+    // Adds names with their nodes.
+    fn names(&mut self, names: &[String]) -> Result<(), NodeFault>
+        ensures nodes { IfOk result (λ _. self.new.nodes.items ≡ self.old.nodes.items ++ map text_node (map string_bytes names.now)) }
+        ensures texts { IfOk result (λ _. self.new.texts.items ≡ self.old.texts.items ++ flat_map (λ n. n) (map string_bytes names.now)) }
+    {
+        for name in names {
+            self.text(name.as_bytes())?;
+        }
+        Ok(())
+    }
+
+    // Adds tags.
+    fn tags(&mut self, tags: &[i32]) -> Result<(), NodeFault>
+        ensures nodes { IfOk result (λ _. self.new.nodes.items ≡ self.old.nodes.items ++ map tag_node tags.now) }
+        ensures texts { IfOk result (λ _. self.new.texts.items ≡ self.old.texts.items) }
+    {
+        for tag in tags {
+            self.node(node::tag_node(*tag))?;
+        }
+        Ok(())
+    }
+
+    // Adds the metadata of an extension, if there is any.
+    fn metadata(&mut self, metadata: &Option<Vec<u8>>) -> Result<(), NodeFault>
+        ensures nodes { IfOk result (λ _. self.new.nodes.items ≡ self.old.nodes.items ++ bytes_nodes (bytes_of metadata.now)) }
+        ensures texts { IfOk result (λ _. self.new.texts.items ≡ self.old.texts.items ++ bytes_texts (bytes_of metadata.now)) }
+    {
+        match metadata {
+            Some(bytes) => self.text(bytes),
+            None => Ok(()),
+        }
+    }
+
+    // Adds a message, with at most so many levels below it.
+    #[cycle(writing)]
+    fn message(&mut self, proto: &pb::DType, levels: u32) -> Result<(), NodeFault>
+        ensures nodes { IfOk result (λ _. self.new.nodes.items ≡ self.old.nodes.items ++ flat_nodes (message proto.now)) }
+        ensures texts { IfOk result (λ _. self.new.texts.items ≡ self.old.texts.items ++ flat_texts (message proto.now)) }
+    {
+        match &proto.dtype_type {
+            Some(kind) => self.kind(kind, levels),
+            None => self.node(node::plain(0)),
+        }
+    }
+
+    // Adds the message of a kind.
+    #[cycle(writing)]
+    fn kind(&mut self, kind: &pb::DtypeType, levels: u32) -> Result<(), NodeFault>
+        ensures nodes { IfOk result (λ _. self.new.nodes.items ≡ self.old.nodes.items ++ flat_nodes (kind_message kind.now)) }
+        ensures texts { IfOk result (λ _. self.new.texts.items ≡ self.old.texts.items ++ flat_texts (kind_message kind.now)) }
+    {
+        match kind {
+            pb::DtypeType::Null(_) => self.node(node::plain(1)),
+            pb::DtypeType::Bool(it) => self.node(node::flagged(2, it.nullable)),
+            pb::DtypeType::Primitive(it) => {
+                self.node(node::primitive_node(it.ptype, it.nullable))
+            }
+            pb::DtypeType::Decimal(it) => {
+                self.node(node::decimal_node(it.precision, it.scale, it.nullable))
+            }
+            pb::DtypeType::Utf8(it) => self.node(node::flagged(5, it.nullable)),
+            pb::DtypeType::Binary(it) => self.node(node::flagged(6, it.nullable)),
+            pb::DtypeType::List(it) => {
+                self.node(node::part_node(7, it.element_type.is_some(), 0, it.nullable))?;
+                self.child(&it.element_type, levels)
+            }
+            pb::DtypeType::FixedSizeList(it) => {
+                self.node(node::part_node(8, it.element_type.is_some(), it.size, it.nullable))?;
+                self.child(&it.element_type, levels)
+            }
+            pb::DtypeType::Map(it) => {
+                let (has_key, has_value) = (it.key_type.is_some(), it.value_type.is_some());
+                self.node(node::map_node(has_key, has_value, it.keys_sorted, it.nullable))?;
+                self.child(&it.key_type, levels)?;
+                self.child(&it.value_type, levels)
+            }
+            pb::DtypeType::Struct(it) => self.fields(&it.names, &it.dtypes, it.nullable, levels),
+            pb::DtypeType::Union(it) => self.variants(
+                &it.names,
+                &it.type_ids,
+                &it.dtypes,
+                it.nullable,
+                levels,
+            ),
+            pb::DtypeType::Variant(it) => self.node(node::flagged(12, it.nullable)),
+            pb::DtypeType::Extension(it) => self.extension(
+                &it.id,
+                &it.metadata,
+                &it.storage_dtype,
+                levels,
+            ),
+        }
+    }
+
+    // Adds a struct.
+    #[cycle(writing)]
+    #[tactic(auto, using(std::proofs::lemmas::Grind::common_steps, crate::proofs::Lists::all_nodes_is, crate::proofs::Lists::all_texts_is, crate::proofs::Lists::count_is))]
+    fn fields(
+        &mut self,
+        names: &[String],
+        dtypes: &[pb::DType],
+        nullable: bool,
+        levels: u32,
+    ) -> Result<(), NodeFault>
+        ensures nodes { IfOk result (λ _. self.new.nodes.items ≡ self.old.nodes.items ++ flat_nodes (struct (map string_bytes names.now) (messages (map message dtypes.now)) nullable)) }
+        ensures texts { IfOk result (λ _. self.new.texts.items ≡ self.old.texts.items ++ flat_texts (struct (map string_bytes names.now) (messages (map message dtypes.now)) nullable)) }
+    {
+        let (name_count, types) = (number_of(names.len())?, number_of(dtypes.len())?);
+        self.node(node::fields_node(10, name_count, 0, types, nullable))?;
+        self.names(names)?;
+        self.all(dtypes, levels)?;
+        Ok(())
+    }
+
+    // Adds a union.
+    #[cycle(writing)]
+    #[tactic(auto, using(std::proofs::lemmas::Grind::common_steps, crate::proofs::Lists::all_nodes_is, crate::proofs::Lists::all_texts_is, crate::proofs::Lists::count_is))]
+    fn variants(
+        &mut self,
+        names: &[String],
+        type_ids: &[i32],
+        dtypes: &[pb::DType],
+        nullable: bool,
+        levels: u32,
+    ) -> Result<(), NodeFault>
+        ensures nodes { IfOk result (λ _. self.new.nodes.items ≡ self.old.nodes.items ++ flat_nodes (union (map string_bytes names.now) (messages (map message dtypes.now)) type_ids.now nullable)) }
+        ensures texts { IfOk result (λ _. self.new.texts.items ≡ self.old.texts.items ++ flat_texts (union (map string_bytes names.now) (messages (map message dtypes.now)) type_ids.now nullable)) }
+    {
+        let (name_count, types) = (number_of(names.len())?, number_of(dtypes.len())?);
+        let tags = number_of(type_ids.len())?;
+        self.node(node::fields_node(11, name_count, tags, types, nullable))?;
+        self.names(names)?;
+        self.tags(type_ids)?;
+        self.all(dtypes, levels)?;
+        Ok(())
+    }
+
+    // Adds an extension.
+    #[cycle(writing)]
+    #[tactic(auto, using(std::proofs::lemmas::Grind::common_steps, crate::proofs::Lists::all_nodes_is, crate::proofs::Lists::all_texts_is, crate::proofs::Lists::count_is))]
+    fn extension(
+        &mut self,
+        id: &String,
+        metadata: &Option<Vec<u8>>,
+        storage: &Option<Box<pb::DType>>,
+        levels: u32,
+    ) -> Result<(), NodeFault>
+        ensures nodes { IfOk result (λ _. self.new.nodes.items ≡ self.old.nodes.items ++ flat_nodes (extension (string_bytes id.now) (child_message storage.now) (bytes_of metadata.now))) }
+        ensures texts { IfOk result (λ _. self.new.texts.items ≡ self.old.texts.items ++ flat_texts (extension (string_bytes id.now) (child_message storage.now) (bytes_of metadata.now))) }
+    {
+        let (has_storage, has_metadata) = (storage.is_some(), metadata.is_some());
+        self.node(node::extension_node(has_storage, has_metadata))?;
+        self.text(id.as_bytes())?;
+        self.metadata(metadata)?;
+        self.child(storage, levels)?;
+        Ok(())
+    }
+
+    // Adds a part, if there is one, a level deeper.
+    #[cycle(writing)]
+    fn child(&mut self, child: &Option<Box<pb::DType>>, levels: u32) -> Result<(), NodeFault>
+        ensures nodes { IfOk result (λ _. self.new.nodes.items ≡ self.old.nodes.items ++ part_nodes (child_message child.now)) }
+        ensures texts { IfOk result (λ _. self.new.texts.items ≡ self.old.texts.items ++ part_texts (child_message child.now)) }
+    {
+        let Some(proto) = child else {
+            return Ok(());
+        };
+        match levels.checked_sub(1) {
+            Some(levels) => self.message(proto, levels),
+            None => Err(NodeFault::TooDeep),
+        }
+    }
+
+    // Adds messages, a level deeper.
+    #[cycle(writing)]
+    #[tactic(auto, using(std::proofs::lemmas::Grind::common_steps, crate::proofs::Lists::all_nodes_is, crate::proofs::Lists::all_texts_is, crate::proofs::Lists::count_is))]
+    fn all(&mut self, protos: &[pb::DType], levels: u32) -> Result<(), NodeFault>
+        ensures nodes { IfOk result (λ _. self.new.nodes.items ≡ self.old.nodes.items ++ all_nodes (messages (map message protos.now))) }
+        ensures texts { IfOk result (λ _. self.new.texts.items ≡ self.old.texts.items ++ all_texts (messages (map message protos.now))) }
+    {
+        let Some(levels) = levels.checked_sub(1) else {
+            return Err(NodeFault::TooDeep);
+        };
+        for proto in protos {
+            self.message(proto, levels)?;
+        }
+        Ok(())
+    }
+}
+
+// Returns the number, if it fits 32 bits.
+fn number_of(number: usize) -> Result<u32, NodeFault>
+    ensures { IfOk result (λ n. n ≡ number) }
+{
+    match u32::try_from(number) {
+        Ok(number) => Ok(number),
+        Err(_) => Err(NodeFault::OutOfRange),
+    }
+}

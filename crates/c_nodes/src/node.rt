@@ -2,7 +2,7 @@
 // SPDX-FileCopyrightText: Copyright the Vortex contributors
 
 // The nodes of each kind.
-ghost use Rattle.std.specs.Prelude.{◌≡◌, pos};
+ghost use Rattle.std.specs.Prelude.{◌≡◌};
 ghost use Rattle.c_nodes.specs.Flat.{plain, flagged, primitive_node, decimal_node, part_node, map_node, fields_node, extension_node, sized_node, tag_node};
 
 /// A message, a text or a tag in the flat form. A message is followed by its texts, its tags and then its parts, each

@@ -47,7 +47,8 @@ class Planted(unittest.TestCase):
 
     def run_tool(self, tool, *arguments, **settings):
         """The status of a tool, and what it writes."""
-        settings |= {"PATH": f"{self.top}/bin:{os.environ['PATH']}", "PYTHONDONTWRITEBYTECODE": "1"}
+        settings |= {"PATH": f"{self.top}/bin:{os.environ['PATH']}", "PYTHONDONTWRITEBYTECODE": "1",
+                     "XDG_CACHE_HOME": f"{self.top}/cache"}
         ran = subprocess.run([f"{self.top}/tools/{tool}", *arguments], cwd=self.top, env={**os.environ, **settings},
                              stdin=subprocess.DEVNULL, stdout=subprocess.PIPE, stderr=subprocess.STDOUT, text=True,
                              check=False, timeout=300)

@@ -2,9 +2,10 @@
 // SPDX-FileCopyrightText: Copyright the Vortex contributors
 
 // The answer to a line.
-use crate::help::{list_topics, show_errors, show_row, show_topic};
+use crate::help::{end_line, list_topics, show_errors, show_forms_called, show_row, show_topics};
 use console_core::{
-    Call, Command, ConsoleError, ConsoleResult, Row, expected_at, find, find_topic, unknown_command,
+    Call, Command, ConsoleError, ConsoleResult, Row, expected_at, find, find_topics,
+    unknown_command, unknown_topic,
 };
 use console_native::{integers, native_decimals, native_dtypes, visitors};
 use console_paths::{Sets, masks, merging, paths, projections, sets};
@@ -12,6 +13,7 @@ use console_sessions::{Sessions, messages, path_messages, typed};
 use console_types::{
     comparisons, decimals, extensions, maps, names, parts, primitives, structs, types, unions,
 };
+use dtype_base::VortexError;
 use std::alloc::Global;
 use std::str;
 
@@ -62,62 +64,33 @@ impl Console {
         call.line.skip_blanks();
         let row = read_command(&mut call)?;
         match row.command() {
-            Command::Help => self.help(&mut call)?,
+            Command::Help => help(&mut call)?,
             Command::Exit => {
                 call.end()?;
                 return Ok(Answer::End);
             }
-            _ => self.command(&mut call, row)?,
+            _ => self.answer_command(&mut call, row)?,
         }
         Ok(Answer::Text(call.answer))
     }
 
-    // Answers `help`, of all, of a topic, or of a command.
-    fn help(&mut self, call: &mut Call<'_>) -> ConsoleResult<()> {
-        if call.line.is_at_end() {
-            return list_topics(call);
-        }
-        call.line.separate()?;
-        let position = call.line.position();
-        let word = call.line.word("a topic or a command")?;
-        call.end()?;
-        match (find(word), find_topic(word)) {
-            (Some(row), None) => self.show_command(call, row),
-            (None, Some(topic)) => show_topic(call, topic),
-            (Some(row), Some(topic)) => {
-                show_topic(call, topic)?;
-                call.answer.push('\n')?;
-                self.show_command(call, row)
+    // Answers a line with a command, as `help` does of an example.
+    fn answer_example(&mut self, line: &str) -> ConsoleResult<String> {
+        let mut call = Call::new(self.alloc, line);
+        let row = read_command(&mut call)?;
+        self.command(&mut call, row)?;
+        Ok(call.answer)
+    }
+
+    // Answers a command, whose arguments come next. Where the first of them isn't one, the error says what they are.
+    fn answer_command(&mut self, call: &mut Call<'_>, row: &Row) -> ConsoleResult<()> {
+        let first = call.line.position_behind_blanks();
+        match self.command(call, row) {
+            Err(ConsoleError::Misread { position, expected }) if position == first => {
+                Err(with_arguments(position, expected, row))
             }
-            (None, None) => Err(unknown_command(call.alloc, position, word)),
+            answered => answered,
         }
-    }
-
-    // Answers by a command's arguments, what it answers, an example with its answer, and its errors.
-    fn show_command(&mut self, call: &mut Call<'_>, row: &Row) -> ConsoleResult<()> {
-        show_row(call, row)?;
-        if let Command::Help | Command::Exit = row.command() {
-            return Ok(());
-        }
-        let mut example = String::from_str(call.alloc, row.name())?;
-        if !row.example().is_empty() {
-            example.push(' ')?;
-            example.push_str(row.example())?;
-        }
-        write!(call.answer, "\nexample: {example}\nanswer: ")?;
-        self.show_answer(call, row, example.as_str())?;
-        show_errors(call, row)
-    }
-
-    // Answers by the answer to a line with this command.
-    fn show_answer(&mut self, call: &mut Call<'_>, row: &Row, line: &str) -> ConsoleResult<()> {
-        let mut example = Call::new(self.alloc, line);
-        let _ = example.line.word("a command")?;
-        match self.command(&mut example, row) {
-            Ok(()) => call.answer.push_str(example.answer.as_str())?,
-            Err(error) => write!(call.answer, "{error}")?,
-        }
-        Ok(())
     }
 
     // Answers a command, whose arguments come next.
@@ -147,9 +120,11 @@ impl Console {
             Command::Paths(command) => paths::answer(call, command),
             Command::Sets(command) => sets::answer(call, command),
             Command::NamedSet => self.sets.answer(call),
+            Command::ListedSets => self.sets.list(call),
             Command::ProjectPaths => projections::answer(call),
             Command::Masks(command) => masks::answer(call, command),
             Command::NamedSession => self.sessions.change(call),
+            Command::ListedSessions => self.sessions.list(call),
             Command::Sessions(command) => self.sessions.ask(call, command),
             Command::Messages(command) => messages::answer(call, command),
             Command::PathMessages(command) => path_messages::answer(call, command),
@@ -158,12 +133,110 @@ impl Console {
     }
 }
 
+// Returns the error that a command's first argument isn't one, with all of its arguments.
+fn with_arguments(position: usize, mut expected: String, row: &Row) -> ConsoleError {
+    match write!(expected, "; {} {}", row.name(), row.arguments()) {
+        Ok(()) => ConsoleError::Misread { position, expected },
+        Err(_) => ConsoleError::from(VortexError::OutOfMemory),
+    }
+}
+
 // Reads the word of a command, and returns its row.
 fn read_command(call: &mut Call<'_>) -> ConsoleResult<&'static Row> {
     let position = call.line.position();
+    let begins = call.line.begins_word();
+    if !begins {
+        return Err(
+            call.line
+                .expected("a command; help lists all, # begins a comment"),
+        );
+    }
     let word = call.line.word("a command")?;
     match find(word) {
         Some(row) => Ok(row),
         None => Err(unknown_command(call.alloc, position, word)),
     }
 }
+
+// Answers `help`: of all, or of what is named.
+fn help(call: &mut Call<'_>) -> ConsoleResult<()> {
+    if call.line.is_at_end() {
+        return list_topics(call);
+    }
+    call.line.separate()?;
+    let position = call.line.position();
+    let text = call.line.rest_of_line("a topic or a command")?;
+    show_topics(call, find_topics(text))?;
+    if let Some(row) = find(text) {
+        end_line(call)?;
+        show_command(call, row)?;
+    }
+    if call.answer.is_empty() {
+        show_forms_called(call, text)?;
+    }
+    if call.answer.is_empty() {
+        return Err(unknown_topic(call.alloc, position, text));
+    }
+    Ok(())
+}
+
+// Adds a command's arguments, what it answers, examples with their answers, and its errors to the answer.
+fn show_command(call: &mut Call<'_>, row: &Row) -> ConsoleResult<()> {
+    show_row(call, row)?;
+    match row.command() {
+        Command::Help | Command::Exit => return Ok(()),
+        Command::NamedSet | Command::ListedSets => show_examples(call, &SET_EXAMPLES)?,
+        Command::NamedSession | Command::ListedSessions => show_examples(call, &SESSION_EXAMPLES)?,
+        _ => show_example_of(call, row)?,
+    }
+    show_errors(call, row)
+}
+
+// Adds the example of a command to the answer, with its answer.
+fn show_example_of(call: &mut Call<'_>, row: &Row) -> ConsoleResult<()> {
+    let mut example = String::from_str(call.alloc, row.name())?;
+    if !row.example().is_empty() {
+        example.push(' ')?;
+        example.push_str(row.example())?;
+    }
+    show_examples(call, &[example.as_str()])
+}
+
+// Adds lines to the answer, each with its answer, in a console of their own: none of the user's sets and sessions changes.
+fn show_examples(call: &mut Call<'_>, lines: &[&str]) -> ConsoleResult<()> {
+    let mut own = Console::new(call.alloc);
+    for line in lines {
+        write!(call.answer, "\nexample: {line}\nanswer: ")?;
+        match own.answer_example(line) {
+            Ok(answer) => call.answer.push_str(answer.as_str())?,
+            Err(error) => write!(call.answer, "{error}")?,
+        }
+    }
+    Ok(())
+}
+
+const SET_EXAMPLES: [&str; 12] = [
+    "set s new",
+    "set s insert a.c",
+    "set s extend b.[].x b",
+    "set s contains a.c",
+    "set s below b",
+    "set s missing {a={c=i32}}",
+    "set s iter",
+    "set s cover",
+    "set s drain",
+    "sets",
+    "set s drop",
+    "sets",
+];
+
+const SESSION_EXAMPLES: [&str; 8] = [
+    "session s new",
+    "session s register x.tag",
+    "registry @s x.tag",
+    "session s allow_unknown",
+    "allows_unknown @s",
+    "sessions",
+    "session s drop",
+    "sessions",
+];

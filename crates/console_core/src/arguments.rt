@@ -3,7 +3,7 @@
 
 // The arguments of commands, each of a type that says how it is read.
 use crate::line::expected_at;
-use crate::reader::{MAX_LEVELS, ptype_of, read_dtype};
+use crate::reader::{A_TAG, AN_INDEX, MAX_LEVELS, ptype_of, read_dtype};
 use crate::unknown::unknown_ptype;
 use crate::{ConsoleResult, Line};
 use dtype_base::{DecimalDType, DecimalType, FieldName, FieldNames, Nullability, PType};
@@ -123,7 +123,7 @@ impl Argument for Nullability {
 impl Argument for PType {
     fn read(alloc: Global, line: &mut Line<'_>) -> ConsoleResult<PType> {
         let position = line.position();
-        let word = line.word("a primitive name")?;
+        let word = line.word("a primitive type")?;
         match ptype_of(word) {
             Some(ptype) => Ok(ptype),
             None => Err(unknown_ptype(alloc, position, word)),
@@ -176,7 +176,7 @@ impl Argument for bool {
 /// A position.
 impl Argument for usize {
     fn read(_alloc: Global, line: &mut Line<'_>) -> ConsoleResult<usize> {
-        line.number("an index")
+        line.number(AN_INDEX)
     }
 }
 
@@ -197,7 +197,7 @@ impl Argument for FieldNames {
 /// A tag.
 impl Argument for u8 {
     fn read(_alloc: Global, line: &mut Line<'_>) -> ConsoleResult<u8> {
-        line.number("a tag")
+        line.number(A_TAG)
     }
 }
 
@@ -228,7 +228,7 @@ impl Argument for ExtId {
             let text = line.quoted_text(alloc)?;
             Ok(ExtId::new(alloc, text.as_str())?)
         } else {
-            Ok(ExtId::new(alloc, line.dotted_word("an id")?)?)
+            Ok(ExtId::new(alloc, line.bare_text("an id", true)?)?)
         }
     }
 }

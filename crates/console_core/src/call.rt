@@ -25,7 +25,7 @@ impl<'a> Call<'a> {
     pub fn new(alloc: Global, text: &'a str) -> Self {
         Call {
             alloc,
-            line: Line::new(text),
+            line: Line::new(alloc, text),
             answer: String::new(alloc),
         }
     }

@@ -35,11 +35,15 @@ pub enum Command {
     Sets(SetCommand),
     /// `set`.
     NamedSet,
+    /// `sets`.
+    ListedSets,
     /// `project_paths`.
     ProjectPaths,
     Masks(MaskCommand),
     /// `session`.
     NamedSession,
+    /// `sessions`.
+    ListedSessions,
     Sessions(SessionCommand),
     Messages(MessageCommand),
     PathMessages(PathMessageCommand),

@@ -32,7 +32,7 @@ const ROWS: [Row; 9] = [
     Row("superset", "T T", "list(i32) list(i32?)", "whether the first type is nullable wherever the second is, and they are equal but for nullability", "", Comparisons(Comparison::Superset)),
     Row("hash_eq", "T T", "i32 i32?", "whether std's hasher ends equally after each type", "", Comparisons(Comparison::HashEq)),
     Row("hash_ignore_nullability_eq", "T T", "i32 i32?", "whether std's hasher ends equally after each type, nullability ignored", "", Comparisons(Comparison::HashIgnoreNullabilityEq)),
-    Row("inner_eq", "T T", "{a=i32} {a=i32}?", "whether the insides of two structs, unions, maps or extensions are equal", "condition: two types of one such kind", Comparisons(Comparison::InnerEq)),
-    Row("inner_hash_eq", "T T", "{a=i32} {a=i32}?", "whether std's hasher ends equally after those insides", "condition: two types of one such kind", Comparisons(Comparison::InnerHashEq)),
-    Row("inner_eq_ignore_nullability", "T T", "{a=i32} {a=i32?}", "whether the insides of two structs, unions or extensions are equal but for nullability", "condition: two types of one such kind", Comparisons(Comparison::InnerEqIgnoreNullability)),
+    Row("inner_eq", "T T", "{a=i32} {a=i32}?", "whether the insides of two structs, unions, maps or extensions are equal", "condition: needs two types of one such kind", Comparisons(Comparison::InnerEq)),
+    Row("inner_hash_eq", "T T", "{a=i32} {a=i32}?", "whether std's hasher ends equally after those insides", "condition: needs two types of one such kind", Comparisons(Comparison::InnerHashEq)),
+    Row("inner_eq_ignore_nullability", "T T", "{a=i32} {a=i32?}", "whether the insides of two structs, unions or extensions are equal but for nullability", "condition: needs two types of one such kind", Comparisons(Comparison::InnerEqIgnoreNullability)),
 ];

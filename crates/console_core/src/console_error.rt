@@ -14,6 +14,13 @@ pub enum ConsoleError {
         number: u8,
         error: VortexError,
     },
+    /// The library returned an error about a column, whose name follows its text.
+    #[error("refused {number}: {error}: {name}")]
+    Column {
+        number: u8,
+        error: VortexError,
+        name: String,
+    },
     /// A condition of the call doesn't hold, so it wasn't made.
     #[error("condition: {0}")]
     Condition(&'static str),
@@ -22,6 +29,12 @@ pub enum ConsoleError {
     Unreadable {
         position: usize,
         expected: &'static str,
+    },
+    /// The same: what was expected, with what was found there, and what may help.
+    #[error("unreadable at {position}: expected {expected}")]
+    Misread {
+        position: usize,
+        expected: String,
     },
     /// A word of the line, at this byte, isn't one of those that are known there.
     #[error("unreadable at {position}: expected {expected}")]

@@ -67,7 +67,7 @@ pub fn rows() -> &'static [Row] {
 #[rattlefmt::skip]
 const ROWS: [Row; 20] = [
     Row("decimal", "P S", "10 11", "the decimal of this precision and scale", "PrecisionZero (1), PrecisionTooLarge (2), ScaleTooLarge (3), ScaleAbovePrecision (4)", Decimals(DecimalCommand::Make(DecimalConstructor::Decimal))),
-    Row("decimal_new", "P S", "0 0", "the decimal of this precision and scale", "condition: a valid precision and scale", Decimals(DecimalCommand::Make(DecimalConstructor::DecimalNew))),
+    Row("decimal_new", "P S", "0 0", "the decimal of this precision and scale", "condition: needs a valid precision and scale", Decimals(DecimalCommand::Make(DecimalConstructor::DecimalNew))),
     Row("precision", "D", "decimal(10,-2)", "the precision of the decimal", "", Decimals(DecimalCommand::Query(DecimalQuery::Precision))),
     Row("scale", "D", "decimal(10,-2)", "the scale of the decimal", "", Decimals(DecimalCommand::Query(DecimalQuery::Scale))),
     Row("required_bit_width", "D", "decimal(10,2)", "how many bits a value needs", "", Decimals(DecimalCommand::Query(DecimalQuery::RequiredBitWidth))),
@@ -84,6 +84,6 @@ const ROWS: [Row; 20] = [
     Row("precision_scale_from", "DI D", "i8 decimal(2,1)", "the precision and scale in a native type, of a decimal", "PrecisionZero (1), PrecisionTooLarge (2), ScaleTooLarge (3), ScaleAbovePrecision (4)", NativeDecimals(NativeDecimalCommand::PrecisionScaleFrom)),
     Row("precision_scale_to", "DI P S", "i16 4 -1", "the decimal of a precision and scale in a native type", "PrecisionZero (1), PrecisionTooLarge (2), ScaleTooLarge (3), ScaleAbovePrecision (4)", NativeDecimals(NativeDecimalCommand::Make(PrecisionScaleForm::PrecisionScaleTo))),
     Row("precision_scale_is_valid", "DI P S V", "i8 2 1 -100", "whether a value fits the precision", "PrecisionZero (1), PrecisionTooLarge (2), ScaleTooLarge (3), ScaleAbovePrecision (4)", NativeDecimals(NativeDecimalCommand::PrecisionScaleIsValid)),
-    Row("by_precision", "DI P", "i16 4", "the least and the greatest value of a precision in a native type", "condition: at most the greatest precision", NativeDecimals(NativeDecimalCommand::ByPrecision)),
+    Row("by_precision", "DI P", "i16 4", "the least and the greatest value of a precision in a native type", "condition: needs a precision up to the greatest of the type", NativeDecimals(NativeDecimalCommand::ByPrecision)),
     Row("native_decimal", "DI", "i128", "the storage type, greatest precision, greatest scale and name of a native type", "", NativeDecimals(NativeDecimalCommand::NativeDecimal)),
 ];

@@ -56,7 +56,7 @@ const ROWS: [Row; 19] = [
     Row("extension_parts", "E", "x.tag[0x6162](utf8?)", "the id, the metadata and the storage of the extension, which is consumed", "", Extensions(ExtensionCommand::ExtensionParts)),
     Row("extension_nullability", "E", "x.tag[0x](utf8?)", "the nullability of the extension, its storage's", "", Extensions(ExtensionCommand::Query(ExtensionQuery::ExtensionNullability))),
     Row("extension_is_nullable", "E", "x.tag[0x](utf8?)", "whether the extension's storage is nullable", "", Extensions(ExtensionCommand::Query(ExtensionQuery::ExtensionIsNullable))),
-    Row("extension_with_nullability", "N E", "NonNullable x.tag[0x](utf8?)", "the extension over the storage with this nullability", "condition: a type that can be non-nullable", Extensions(ExtensionCommand::ExtensionWithNullability)),
+    Row("extension_with_nullability", "N E", "NonNullable x.tag[0x](utf8?)", "the extension over the storage with this nullability", "condition: needs a type that can be non-nullable", Extensions(ExtensionCommand::ExtensionWithNullability)),
     Row("metadata_text", "E", "x.tag[0x6162](utf8)", "the text that the library prints of the metadata", "", Extensions(ExtensionCommand::Query(ExtensionQuery::MetadataText))),
     Row("extension_text", "E", "x.tag[0x6162](utf8)", "the text that the library prints of the extension", "", Extensions(ExtensionCommand::Query(ExtensionQuery::ExtensionText))),
     Row("extension_copy", "E", "x.tag[0x6162](utf8)", "a copy of the extension", "", Extensions(ExtensionCommand::Query(ExtensionQuery::ExtensionCopy))),
@@ -64,6 +64,6 @@ const ROWS: [Row; 19] = [
     Row("word_new", "HEX T", "0x61 i32", "the extension x.word of this metadata and storage", "MetadataRefused (22)", Typed(TypedCommand::WordNew)),
     Row("tag_downcast", "E", "x.tag[0x4142](utf8)", "the metadata and the storage of the typed extension x.tag", "MetadataRefused (22), ExtensionIdDiffers (23)", Typed(TypedCommand::TagDowncast)),
     Row("word_downcast", "E", "x.tag[0x61](utf8)", "the metadata and the storage of the typed extension x.word", "MetadataRefused (22), ExtensionIdDiffers (23)", Typed(TypedCommand::WordDowncast)),
-    Row("tag_with_nullability", "N E", "Nullable x.tag[0x61](utf8)", "the typed extension x.tag over the storage with this nullability", "MetadataRefused (22), ExtensionIdDiffers (23); condition: a type that can be non-nullable", Typed(TypedCommand::TagWithNullability)),
-    Row("word_with_nullability", "N E", "Nullable x.word[0x61](utf8)", "the typed extension x.word over the storage with this nullability", "MetadataRefused (22), ExtensionIdDiffers (23); condition: a type that can be non-nullable", Typed(TypedCommand::WordWithNullability)),
+    Row("tag_with_nullability", "N E", "Nullable x.tag[0x61](utf8)", "the typed extension x.tag over the storage with this nullability", "MetadataRefused (22), ExtensionIdDiffers (23); condition: needs a type that can be non-nullable", Typed(TypedCommand::TagWithNullability)),
+    Row("word_with_nullability", "N E", "Nullable x.word[0x61](utf8)", "the typed extension x.word over the storage with this nullability", "MetadataRefused (22), ExtensionIdDiffers (23); condition: needs a type that can be non-nullable", Typed(TypedCommand::WordWithNullability)),
 ];

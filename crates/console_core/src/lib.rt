@@ -16,6 +16,7 @@ mod console_error;
 mod decimals;
 mod extensions;
 mod forms;
+mod found;
 mod line;
 mod maps;
 mod masks;
@@ -63,16 +64,16 @@ pub use paths::{
 pub use primitives::{
     MatchEach, MatchSmallest, PTypePair, PTypeQuery, PrimitiveCommand, VisitorCommand,
 };
-pub use reader::MAX_LEVELS;
+pub use reader::{A_PRECISION, A_SCALE, A_SIZE, MAX_LEVELS};
 pub use sessions::{MessageForm, SessionCommand};
 pub use sets::SetCommand;
 pub use structs::{StructByIndex, StructByName, StructCommand, StructQuery};
-pub use table::{Row, TOPICS, Topic, find, find_topic};
+pub use table::{Row, TOPICS, Topic, find, find_topics};
 pub use types::{
     BorrowedElement, BorrowedPart, NullabilityChange, NullabilityText, OwnedElement, OwnedPart,
     PartCommand, RequiredPart, TypeChange, TypeCommand, TypeConversion, TypeQuery,
 };
 pub use unions::{UnionByIndex, UnionByName, UnionCommand, UnionQuery};
-pub use unknown::{unknown_command, unknown_name};
+pub use unknown::{column_error, unknown_command, unknown_name, unknown_topic};
 pub use writer::{MAX_WRITTEN_LEVELS, put, write_name, write_quoted};
 pub use written::Written;

@@ -2,6 +2,7 @@
 // SPDX-FileCopyrightText: Copyright the Vortex contributors
 
 // The rest of a line, and the words, quotes and numbers in it.
+use crate::found::{QUOTE_NAMES, has_special, is_special, misread, text_of_found, text_of_next};
 use crate::{ConsoleError, ConsoleResult};
 use dtype_base::FieldName;
 use std::alloc::Global;
@@ -10,14 +11,16 @@ use std::str::{self, FromStr};
 /// The rest of a line: what hasn't been read.
 #[derive(Drop)]
 pub struct Line<'a> {
+    alloc: Global,
     rest: &'a [u8],
     length: usize,
 }
 
 impl<'a> Line<'a> {
     /// Returns the whole line.
-    pub fn new(text: &'a str) -> Self {
+    pub fn new(alloc: Global, text: &'a str) -> Self {
         Line {
+            alloc,
             rest: text.as_bytes(),
             length: text.len(),
         }
@@ -30,6 +33,17 @@ impl<'a> Line<'a> {
             .saturating_add(1)
     }
 
+    /// Returns the position of the next byte that isn't a blank.
+    pub fn position_behind_blanks(&self) -> usize {
+        let blanks = self.rest.iter().position(|byte| !is_blank(*byte));
+        self.position().saturating_add(blanks.unwrap_or(0))
+    }
+
+    /// Returns whether a word is next.
+    pub fn begins_word(&self) -> bool {
+        self.peek().is_some_and(is_bare)
+    }
+
     /// Returns how many items are looked for at most: each has a byte, and one more is looked for after the last.
     pub fn max_items(&self) -> usize {
         self.rest.len().saturating_add(1)
@@ -38,6 +52,26 @@ impl<'a> Line<'a> {
     /// Returns the error that this was expected here.
     pub fn expected(&self, expected: &'static str) -> ConsoleError {
         expected_at(self.position(), expected)
+    }
+
+    /// Returns the error that this was expected here, with what is here, and with what may help. It tells the next
+    /// character.
+    pub fn expected_found(&self, expected: &str, hint: &str) -> ConsoleError {
+        let text = text_of_next(self.alloc, expected, self.next_character(), hint);
+        misread(self.position(), text)
+    }
+
+    // Returns the error that this was expected where a word is that was read.
+    fn expected_word(&self, position: usize, expected: &str, found: &str) -> ConsoleError {
+        misread(position, text_of_found(self.alloc, expected, found, ""))
+    }
+
+    // Returns the next character, if there is one, and doesn't read it.
+    fn next_character(&self) -> Option<char> {
+        match str::from_utf8(self.rest) {
+            Ok(text) => text.chars().next(),
+            Err(_) => None,
+        }
     }
 
     /// Returns the next byte, if there is one, and doesn't read it.
@@ -58,7 +92,27 @@ impl<'a> Line<'a> {
 
     /// Reads this text, or returns the error that it was expected.
     pub fn take(&mut self, text: &'static str) -> ConsoleResult<()> {
-        self.take_or(text, text)
+        if self.accepts(text) {
+            Ok(())
+        } else {
+            Err(self.not_taken(text))
+        }
+    }
+
+    // Returns the error that this text was expected here.
+    fn not_taken(&self, text: &str) -> ConsoleError {
+        match self.in_quotes(text) {
+            Ok(quoted) => self.expected_found(quoted.as_str(), ""),
+            Err(error) => error,
+        }
+    }
+
+    // Returns a text between backquotes.
+    fn in_quotes(&self, text: &str) -> ConsoleResult<String> {
+        let mut quoted = String::from_str(self.alloc, "`")?;
+        quoted.push_str(text)?;
+        quoted.push('`')?;
+        Ok(quoted)
     }
 
     /// Reads this text, or returns the error that `expected` was.
@@ -85,10 +139,19 @@ impl<'a> Line<'a> {
     pub fn separate(&mut self) -> ConsoleResult<()> {
         let blanks = self.take_while(is_blank);
         if blanks.is_empty() && !self.is_at_end() {
-            Err(self.expected("a blank"))
+            Err(self.not_separate())
         } else {
             Ok(())
         }
+    }
+
+    // Returns the error that a blank was expected here.
+    fn not_separate(&self) -> ConsoleError {
+        let hint = match self.peek() {
+            Some(b',') => "; arguments are separated by blanks",
+            _ => "",
+        };
+        self.expected_found("a blank", hint)
     }
 
     /// Reads the end of the line, or returns an error where there is more.
@@ -151,6 +214,14 @@ impl<'a> Line<'a> {
         self.text_of(bytes, position, expected)
     }
 
+    /// Reads the rest of the line up to a comment, and returns it without the blanks at its end.
+    pub fn rest_of_line(&mut self, expected: &'static str) -> ConsoleResult<&'a str> {
+        let position = self.position();
+        let bytes = self.take_while(|byte| byte != b'#');
+        let text = self.text_of(bytes, position, expected)?;
+        Ok(text.trim_end_matches(|character| character == ' ' || character == '\t'))
+    }
+
     /// Reads a number of this type, and returns it.
     pub fn number<T: FromStr>(&mut self, expected: &'static str) -> ConsoleResult<T>
     where
@@ -158,19 +229,68 @@ impl<'a> Line<'a> {
     {
         let position = self.position();
         let bytes = self.take_while(|byte| byte == b'-' || is_bare(byte));
+        if bytes.is_empty() {
+            return Err(self.expected_here(expected, ""));
+        }
         let text = self.text_of(bytes, position, expected)?;
         match text.parse() {
             Ok(number) => Ok(number),
-            Err(_) => Err(expected_at(position, expected)),
+            Err(_) => Err(self.expected_word(position, expected, text)),
         }
     }
 
-    /// Reads what is in quotes, after the opening one, and returns its bytes.
+    /// Returns the error that this was expected here, with what is here unless it is a blank or the line's end.
+    pub fn expected_here(&self, expected: &'static str, hint: &str) -> ConsoleError {
+        match self.peek() {
+            None | Some(b' ' | b'\t') => self.expected(expected),
+            _ => self.expected_found(expected, hint),
+        }
+    }
+
+    /// Reads what is in double quotes, after the opening one, and returns its bytes.
     pub fn quoted(&mut self, alloc: Global) -> ConsoleResult<Vec<u8>> {
         let mut bytes = Vec::new(alloc);
+        self.add_quoted(&mut bytes, "\"")?;
+        Ok(bytes)
+    }
+
+    /// Reads texts in double or single quotes, one or more with blanks between them, and returns the bytes of all.
+    pub fn joined_texts(&mut self, alloc: Global) -> ConsoleResult<Vec<u8>> {
+        let mut bytes = Vec::new(alloc);
+        let Some(mark) = self.accepts_quote() else {
+            return Err(self.expected_here("a text in quotes", ""));
+        };
+        self.add_quoted(&mut bytes, mark)?;
+        for _ in 0..self.max_items() {
+            let before = self.rest;
+            self.skip_blanks();
+            match self.accepts_quote() {
+                Some(mark) => self.add_quoted(&mut bytes, mark)?,
+                None => {
+                    self.rest = before;
+                    break;
+                }
+            }
+        }
+        Ok(bytes)
+    }
+
+    // Reads a double or a single quote if it is next, and returns it.
+    fn accepts_quote(&mut self) -> Option<&'static str> {
+        if self.accepts("\"") {
+            Some("\"")
+        } else if self.accepts("'") {
+            Some("'")
+        } else {
+            None
+        }
+    }
+
+    // Reads what is in quotes, after the opening one, and adds its bytes to these.
+    fn add_quoted(&mut self, bytes: &mut Vec<u8>, mark: &str) -> ConsoleResult<()> {
         for _ in 0..self.rest.len() {
-            if self.accepts("\"") {
-                return Ok(bytes);
+            if self.accepts(mark) {
+                return Ok(());
             }
             bytes.push(self.quoted_byte()?)?;
         }
@@ -201,6 +321,7 @@ impl<'a> Line<'a> {
         for (mark, byte) in [
             ("\\", b'\\'),
             ("\"", b'"'),
+            ("'", b'\''),
             ("t", b'\t'),
             ("n", b'\n'),
             ("r", b'\r'),
@@ -228,7 +349,9 @@ impl<'a> Line<'a> {
 
     /// Reads `0x` and bytes in hexadecimal, and returns the bytes.
     pub fn hexadecimals(&mut self, alloc: Global) -> ConsoleResult<Vec<u8>> {
-        self.take("0x")?;
+        if !self.accepts("0x") {
+            return Err(self.expected_here("0x and two hexadecimal digits for each byte", ""));
+        }
         let mut bytes = Vec::new(alloc);
         for _ in 0..self.rest.len() {
             if !self.peek().is_some_and(|byte| byte.is_ascii_hexdigit()) {
@@ -252,10 +375,70 @@ impl<'a> Line<'a> {
     pub fn name(&mut self, alloc: Global) -> ConsoleResult<FieldName> {
         if self.accepts("\"") {
             let text = self.quoted_text(alloc)?;
-            Ok(FieldName::new(alloc, text.as_str())?)
-        } else {
-            Ok(FieldName::new(alloc, self.word("a name")?)?)
+            return Ok(FieldName::new(alloc, text.as_str())?);
         }
+        let text = self.bare_text("a name", false)?;
+        if self.peek() == Some(b'.') {
+            return Err(self.expected_found("the end of the name", QUOTE_NAMES));
+        }
+        Ok(FieldName::new(alloc, text)?)
+    }
+
+    /// Reads the name of a step, bare or in quotes, which a dot may follow, and returns it.
+    pub fn step_name(&mut self, alloc: Global) -> ConsoleResult<FieldName> {
+        if self.accepts("\"") {
+            let text = self.quoted_text(alloc)?;
+            return Ok(FieldName::new(alloc, text.as_str())?);
+        }
+        let text = self.bare_text("a name", false)?;
+        Ok(FieldName::new(alloc, text)?)
+    }
+
+    /// Reads a name, or where it may have dots an id, that is bare, and returns its text.
+    pub fn bare_text(&mut self, expected: &'static str, dots: bool) -> ConsoleResult<&'a str> {
+        let position = self.position();
+        let bytes = self.take_while(|byte| is_bare(byte) || dots && byte == b'.');
+        if bytes.is_empty() {
+            return Err(self.not_bare(expected));
+        }
+        let text = self.text_of(bytes, position, expected)?;
+        self.check_bare(text, position, expected)?;
+        match self.peek() {
+            Some(b'-' | b'+' | b'#') => {
+                Err(self.expected_found("the end of the name", QUOTE_NAMES))
+            }
+            _ => Ok(text),
+        }
+    }
+
+    // Returns the error that a bare name was expected here.
+    fn not_bare(&self, expected: &'static str) -> ConsoleError {
+        let hint = match self.peek() {
+            Some(b'{' | b'}' | b'[' | b']' | b'(' | b')' | b',' | b'=' | b'@' | b':') => "",
+            _ => QUOTE_NAMES,
+        };
+        self.expected_here(expected, hint)
+    }
+
+    /// Returns an error where a text that was read at this position has a character that no bare name has.
+    pub fn check_bare(
+        &self,
+        text: &str,
+        position: usize,
+        expected: &'static str,
+    ) -> ConsoleResult<()> {
+        if !has_special(text) {
+            return Ok(());
+        }
+        let mut at = position;
+        for character in text.chars() {
+            if is_special(character) {
+                let text = text_of_next(self.alloc, expected, Some(character), QUOTE_NAMES);
+                return Err(misread(at, text));
+            }
+            at = at.saturating_add(character.len_utf8());
+        }
+        Ok(())
     }
 
     /// Reads the start of a list or of another part in brackets, and the blanks after it.
@@ -272,10 +455,20 @@ impl<'a> Line<'a> {
             return Ok(true);
         }
         if !self.accepts(",") {
-            return Err(self.expected(close));
+            return Err(self.not_closed(close));
         }
         self.skip_blanks();
         Ok(false)
+    }
+
+    // Returns the error that the end of a list, or a comma, was expected here.
+    fn not_closed(&self, close: &'static str) -> ConsoleError {
+        let expected = match close {
+            "}" => "`,` or `}`",
+            "]" => "`,` or `]`",
+            _ => "`,` or `)`",
+        };
+        self.expected_found(expected, "")
     }
 
     /// Reads a comma with the blanks around it, if it is next after blanks, and returns whether it was.

@@ -76,7 +76,7 @@ const ROWS: [Row; 19] = [
     Row("names_len", "NAMES", "a,b", "how many names there are", "", Names(NameCommand::Query(NamesQuery::NamesLen))),
     Row("names_is_empty", "NAMES", "-", "whether there is no name", "", Names(NameCommand::Query(NamesQuery::NamesIsEmpty))),
     Row("names_get", "I NAMES", "2 a,b", "the name at this index, or none", "", Names(NameCommand::ByIndex(NamesByIndex::NamesGet))),
-    Row("names_at", "I NAMES", "1 a,b", "the name at this index", "condition: an index in range", Names(NameCommand::ByIndex(NamesByIndex::NamesAt))),
+    Row("names_at", "I NAMES", "1 a,b", "the name at this index", "condition: needs an index in range", Names(NameCommand::ByIndex(NamesByIndex::NamesAt))),
     Row("names_find", "NAME NAMES", "b a,b", "the index of the first such name, or none", "", Names(NameCommand::NamesFind)),
     Row("names_eq", "NAMES NAMES", "a,b b,a", "whether the two lists of names are equal", "", Names(NameCommand::EqualLists(NamesEquality::NamesEq))),
     Row("names_hash_eq", "NAMES NAMES", "a,b a,b", "whether std's hasher ends equally after each list of names", "", Names(NameCommand::EqualLists(NamesEquality::NamesHashEq))),

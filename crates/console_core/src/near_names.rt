@@ -15,18 +15,59 @@ pub struct NearNames {
     distance: usize,
 }
 
-/// Returns the names of the commands that are nearest to this word, in the order of the tables.
+/// Returns the command that this word of another tool means, else the names of the commands that are nearest to it, in the
+/// order of the tables.
 ///
 /// # Errors
 ///
 /// `AllocError`.
 pub fn nearest_command(alloc: Global, word: &str) -> Result<Vec<&'static str>, AllocError> {
     let mut nearest = NearNames::new(alloc, word);
+    let meant = MEANT
+        .iter()
+        .find(|(name, _)| name.eq_ignore_ascii_case(word));
+    if let Some((_, name)) = meant {
+        nearest.names.push(*name)?;
+        return Ok(nearest.names);
+    }
     for topic in TOPICS {
         nearest.add_rows(alloc, topic.rows(), word)?;
     }
     Ok(nearest.names)
 }
+
+/// Returns the names of the topics and the commands that are nearest to this text, topics first.
+///
+/// # Errors
+///
+/// `AllocError`.
+pub fn nearest_topic(alloc: Global, text: &str) -> Result<Vec<&'static str>, AllocError> {
+    let mut nearest = NearNames::new(alloc, text);
+    for topic in TOPICS {
+        nearest.add(alloc, topic.name(), text)?;
+    }
+    for topic in TOPICS {
+        nearest.add_rows(alloc, topic.rows(), text)?;
+    }
+    Ok(nearest.names)
+}
+
+// What words of other tools mean here.
+#[rattlefmt::skip]
+const MEANT: [(&str, &str); 12] = [
+    ("select", "project"),
+    ("get", "field"),
+    ("column", "field"),
+    ("columns", "names"),
+    ("drop", "without_field"),
+    ("remove", "without_field"),
+    ("count", "nfields"),
+    ("len", "nfields"),
+    ("parse", "type"),
+    ("print", "text"),
+    ("equals", "eq"),
+    ("man", "help"),
+];
 
 impl NearNames {
     /// Returns no name.
@@ -63,7 +104,7 @@ impl NearNames {
             self.names.clear();
             self.distance = distance;
         }
-        if distance == self.distance {
+        if distance == self.distance && !self.names.iter().any(|it| *it == name) {
             self.names.push(name)?;
         }
         Ok(())

@@ -58,6 +58,15 @@ impl NearNames {
     }
 }
 
+/// Returns what to write in place of a type that this library hasn't and Arrow, Parquet or SQL call by this word, whatever
+/// its case, or `None`.
+pub fn in_place_of(word: &str) -> Option<&'static str> {
+    let found = ABSENT
+        .iter()
+        .find(|(name, _)| name.eq_ignore_ascii_case(word));
+    found.map(|(_, text)| *text)
+}
+
 // Returns the type that Arrow or SQL call by this word, whatever its case, or `None`.
 fn known_elsewhere(word: &str) -> Option<&'static str> {
     let found = ELSEWHERE
@@ -84,7 +93,7 @@ const PRIMITIVE: [&str; 11] = [
 ];
 
 #[rattlefmt::skip]
-const ELSEWHERE: [(&str, &str); 64] = [
+const ELSEWHERE: [(&str, &str); 67] = [
     ("int8", "i8"),
     ("tinyint", "i8"),
     ("byte", "i8"),
@@ -141,12 +150,42 @@ const ELSEWHERE: [(&str, &str); 64] = [
     ("enum", "union(NAME=T)"),
     ("any", "variant"),
     ("json", "variant"),
-    ("extension", "ID[HEX](T)"),
-    ("date", "ID[HEX](T)"),
-    ("time", "ID[HEX](T)"),
-    ("timestamp", "ID[HEX](T)"),
-    ("datetime", "ID[HEX](T)"),
-    ("interval", "ID[HEX](T)"),
-    ("duration", "ID[HEX](T)"),
-    ("uuid", "ID[HEX](T)"),
+    ("utf8view", "utf8"),
+    ("utf8_view", "utf8"),
+    ("string_view", "utf8"),
+    ("stringview", "utf8"),
+    ("binaryview", "binary"),
+    ("binary_view", "binary"),
+    ("listview", "list(T)"),
+    ("list_view", "list(T)"),
+    ("large_list_view", "list(T)"),
+    ("decimal32", "decimal(P,S)"),
+    ("decimal64", "decimal(P,S)"),
+];
+
+// What Arrow, Parquet or SQL have and this library hasn't: what to write in its place, as is said behind `write `.
+#[rattlefmt::skip]
+const ABSENT: [(&str, &str); 22] = [
+    ("date", "an extension of an id of yours, as x.date[0x](i32)"),
+    ("date32", "an extension of an id of yours, as x.date[0x](i32)"),
+    ("date64", "an extension of an id of yours, as x.date[0x](i64)"),
+    ("time", "an extension of an id of yours, as x.time[0x](i64)"),
+    ("time32", "an extension of an id of yours, as x.time[0x](i32)"),
+    ("time64", "an extension of an id of yours, as x.time[0x](i64)"),
+    ("timestamp", "an extension of an id of yours, as x.timestamp[0x](i64)"),
+    ("timestamptz", "an extension of an id of yours, as x.timestamp[0x](i64)"),
+    ("timestamp_tz", "an extension of an id of yours, as x.timestamp[0x](i64)"),
+    ("datetime", "an extension of an id of yours, as x.timestamp[0x](i64)"),
+    ("interval", "an extension of an id of yours, as x.interval[0x](i64)"),
+    ("duration", "an extension of an id of yours, as x.duration[0x](i64)"),
+    ("uuid", "an extension of an id of yours, as x.uuid[0x](fixed_size_list(u8)[16])"),
+    ("int128", "an extension of an id of yours, as x.int128[0x](fixed_size_list(u8)[16])"),
+    ("uint128", "an extension of an id of yours, as x.uint128[0x](fixed_size_list(u8)[16])"),
+    ("i128", "an extension of an id of yours, as x.int128[0x](fixed_size_list(u8)[16])"),
+    ("u128", "an extension of an id of yours, as x.uint128[0x](fixed_size_list(u8)[16])"),
+    ("extension", "its id, its metadata and its storage, as x.tag[0x](utf8)"),
+    ("dictionary", "the type of its values"),
+    ("dict", "the type of its values"),
+    ("run_end_encoded", "the type of its values"),
+    ("ree", "the type of its values"),
 ];

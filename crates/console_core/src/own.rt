@@ -12,7 +12,7 @@ pub fn rows() -> &'static [Row] {
 
 #[rattlefmt::skip]
 const ROWS: [Row; 3] = [
-    Row("help", "[TOPIC|COMMAND]", "", "the topics; the commands and the forms of one; or what a command answers, with an example", "", Help),
+    Row("help", "[TOPIC|COMMAND|FORM|N]", "", "the topics; the commands and the forms of one; what a command answers, with examples; how a form is written, as T; or the error of a number", "", Help),
     Row("exit", "", "", "nothing: the console ends", "", Exit),
     Row("quit", "", "", "nothing: the console ends", "", Exit),
 ];

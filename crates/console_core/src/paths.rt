@@ -87,7 +87,7 @@ const ROWS: [Row; 22] = [
     Row("is_root", "PATH", ".", "whether the path has no step", "", Paths(PathCommand::Query(PathQuery::IsRoot))),
     Row("push", "PATH STEP", "a.b []", "the path with one more step", "", Paths(PathCommand::WithStep(PathWithStep::Push))),
     Row("step_into", "PATH", "a.b", "the path without its first step, or none at the root", "", Paths(PathCommand::Query(PathQuery::StepInto))),
-    Row("starts_with_field", "PATH STEP", "a.b a", "whether the path's first step is this one", "condition: names", Paths(PathCommand::WithStep(PathWithStep::StartsWithField))),
+    Row("starts_with_field", "PATH STEP", "a.b a", "whether the path's first step is this one", "condition: needs a path whose first step is a name, and a name", Paths(PathCommand::WithStep(PathWithStep::StartsWithField))),
     Row("as_name", "STEP", "[]", "the name of the step, or none", "", Paths(PathCommand::QueryStep(StepQuery::AsName))),
     Row("is_named", "STEP", "a", "whether the step is a name", "", Paths(PathCommand::QueryStep(StepQuery::IsNamed))),
     Row("step_text", "STEP", "a", "the text that the library prints of the step", "", Paths(PathCommand::QueryStep(StepQuery::StepText))),

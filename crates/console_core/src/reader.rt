@@ -2,12 +2,23 @@
 // SPDX-FileCopyrightText: Copyright the Vortex contributors
 
 // The reader of types. It bounds how deep they are.
-use crate::line::expected_at;
+use crate::line::{expected_at, is_bare};
 use crate::unknown::unknown_type;
 use crate::{ConsoleResult, Line};
 use dtype_base::{DecimalDType, FieldName, FieldNames, Nullability, PType};
 use dtype_types::{DType, ExtDTypeRef, ExtId, FieldDType, StructFields, UnionVariants};
 use std::alloc::Global;
+
+/// What is expected of numbers, each with its range.
+pub const A_PRECISION: &str = "a precision from 0 to 255";
+
+pub const A_SCALE: &str = "a scale from -128 to 127";
+
+pub const A_SIZE: &str = "a size from 0 to 4294967295";
+
+pub const A_TAG: &str = "a tag from 0 to 255";
+
+pub const AN_INDEX: &str = "an index from 0 to 18446744073709551615";
 
 /// How deep types and messages may be within one another.
 pub const MAX_LEVELS: u32 = 128;
@@ -24,17 +35,37 @@ pub fn read_dtype(alloc: Global, line: &mut Line<'_>, levels: u32) -> ConsoleRes
         return read_extension(alloc, line, id.as_str(), levels);
     }
     let position = line.position();
-    let word = line.dotted_word("a type")?;
+    let word = type_word(line)?;
     if line.peek() == Some(b'[') {
+        line.check_bare(word, position, "an id")?;
         return read_extension(alloc, line, word, levels);
     }
     match word {
-        "null" => Ok(DType::Null),
+        "null" => null(line),
         "decimal" => read_decimal(line),
         "list" | "fixed_size_list" => read_list(alloc, line, word, levels),
         "map" => read_map(alloc, line, levels),
         "union" => read_union(alloc, line, levels),
         _ => read_plain(alloc, line, position, word),
+    }
+}
+
+// Reads the word of a type, or the id of an extension, and returns it.
+fn type_word<'a>(line: &mut Line<'a>) -> ConsoleResult<&'a str> {
+    let is_word = |byte| byte == b'.' || is_bare(byte);
+    if line.peek().is_some_and(is_word) {
+        line.dotted_word("a type")
+    } else {
+        Err(line.expected_here("a type", ""))
+    }
+}
+
+// Returns null, which no mark of nullability may follow.
+fn null(line: &Line<'_>) -> ConsoleResult<DType> {
+    if line.peek() == Some(b'?') {
+        Err(line.expected("no ? after null, which is nullable already"))
+    } else {
+        Ok(DType::Null)
     }
 }
 
@@ -123,7 +154,7 @@ fn read_extension(
     id: &str,
     levels: u32,
 ) -> ConsoleResult<DType> {
-    let metadata = line.bracketed_bytes(alloc)?;
+    let metadata = line.bracketed_bytes(alloc, id)?;
     let storage = read_wrapped(alloc, line, levels)?;
     extension_of(alloc, id, metadata, storage)
 }
@@ -209,7 +240,7 @@ fn read_variant_name(
 ) -> ConsoleResult<()> {
     variants.names.push(line.name(alloc)?)?;
     if line.accepts("@") {
-        variants.tags.push(line.number("a tag")?)?;
+        variants.tags.push(line.number(A_TAG)?)?;
     }
     line.equals()
 }
@@ -310,6 +341,19 @@ pub fn ptype_of(word: &str) -> Option<PType> {
     }
 }
 
+// Returns how a type of this word is written, where it isn't an extension's id.
+fn written_as(word: &str) -> &'static str {
+    match word {
+        "list" | "array" => "; a list is written list(T)",
+        "fixed_size_list" => "; a list of fixed size is written fixed_size_list(T)[COUNT]",
+        "map" => "; a map is written map(T, T, keys_sorted=BOOL)",
+        "struct" => "; a struct is written {NAME=T}",
+        "union" => "; a union is written union(NAME=T)",
+        "decimal" => "; a decimal is written decimal(P,S)",
+        _ => "",
+    }
+}
+
 impl Line<'_> {
     /// Reads `?` if it is next, and returns the nullability.
     pub fn nullability(&mut self) -> Nullability {
@@ -340,6 +384,10 @@ impl Line<'_> {
 
     // Reads what is after the types of a map, and returns whether its keys are sorted.
     fn keys_sorted(&mut self) -> ConsoleResult<bool> {
+        self.skip_blanks();
+        if self.peek() != Some(b',') {
+            return Err(self.expected_found("`, keys_sorted=true` or `, keys_sorted=false`", ""));
+        }
         self.comma()?;
         self.take("keys_sorted")?;
         self.equals()?;
@@ -348,8 +396,11 @@ impl Line<'_> {
     }
 
     // Reads the metadata of an extension, and returns it.
-    fn bracketed_bytes(&mut self, alloc: Global) -> ConsoleResult<Vec<u8>> {
+    fn bracketed_bytes(&mut self, alloc: Global, id: &str) -> ConsoleResult<Vec<u8>> {
         self.open("[")?;
+        if self.peek() != Some(b'0') {
+            return Err(self.expected_here("0x and the metadata of an extension", written_as(id)));
+        }
         let bytes = self.hexadecimals(alloc)?;
         self.then(bytes, "]")
     }
@@ -357,21 +408,21 @@ impl Line<'_> {
     // Reads the size of a fixed-size list, and returns it.
     fn bracketed_size(&mut self) -> ConsoleResult<u32> {
         self.open("[")?;
-        let size = self.number("a size")?;
+        let size = self.number(A_SIZE)?;
         self.then(size, "]")
     }
 
     /// Reads the precision and the scale after `decimal`, and returns them.
     pub fn decimal_parts(&mut self) -> ConsoleResult<(u8, i8)> {
         self.open("(")?;
-        let precision = self.number("a precision")?;
+        let precision = self.number(A_PRECISION)?;
         self.comma()?;
         Ok((precision, self.closed_scale()?))
     }
 
     // Reads a scale and the parenthesis after it, and returns the scale.
     fn closed_scale(&mut self) -> ConsoleResult<i8> {
-        let scale = self.number("a scale")?;
+        let scale = self.number(A_SCALE)?;
         self.then(scale, ")")
     }
 }

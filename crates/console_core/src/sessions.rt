@@ -2,7 +2,7 @@
 // SPDX-FileCopyrightText: Copyright the Vortex contributors
 
 // The commands on sessions.
-use crate::Command::{NamedSession, Sessions};
+use crate::Command::{ListedSessions, NamedSession, Sessions};
 use crate::Row;
 
 /// A command that asks a session.
@@ -29,8 +29,9 @@ pub fn rows() -> &'static [Row] {
 }
 
 #[rattlefmt::skip]
-const ROWS: [Row; 4] = [
-    Row("session", "NAME new|register PLUGIN|allow_unknown", "s register x.tag", "changes the session of this name, which it begins", "condition: at most 16 sessions", NamedSession),
+const ROWS: [Row; 5] = [
+    Row("session", "NAME new|register PLUGIN|allow_unknown|drop", "s register x.tag", "changes the session of this name, which new, register and allow_unknown begin and drop removes", "condition: at most 16 sessions; unknown: the session", NamedSession),
+    Row("sessions", "", "", "the names of the sessions, in the order in which they began", "", ListedSessions),
     Row("allows_unknown", "SESSION", "unknown,x.tag", "whether the session keeps extensions of unknown ids", "unknown: the session", Sessions(SessionCommand::AllowsUnknown)),
     Row("registry", "SESSION ID", "x.tag,x.text x.text", "whether the session has a plugin under this id", "unknown: the session", Sessions(SessionCommand::Registry)),
     Row("deserialize", "SESSION ID HEX T", "x.tag x.tag 0x4142 utf8", "the extension with the metadata that the session keeps", "MetadataRefused (22), ExtensionUnregistered (35); unknown: the session", Sessions(SessionCommand::Deserialize)),

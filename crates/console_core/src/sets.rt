@@ -2,7 +2,7 @@
 // SPDX-FileCopyrightText: Copyright the Vortex contributors
 
 // The commands on sets of paths.
-use crate::Command::{NamedSet, ProjectPaths, Sets};
+use crate::Command::{ListedSets, NamedSet, ProjectPaths, Sets};
 use crate::Row;
 
 /// A command on the set of the paths in its line.
@@ -20,11 +20,12 @@ pub fn rows() -> &'static [Row] {
 }
 
 #[rattlefmt::skip]
-const ROWS: [Row; 6] = [
+const ROWS: [Row; 7] = [
     Row("cover", "PATH..", "a.b x a a.c", "the paths that no other path begins", "", Sets(SetCommand::Cover)),
     Row("cover_counted", "PATH..", "a.b x a a.c", "the paths that no other path begins, and how many nodes were visited", "", Sets(SetCommand::CoverCounted)),
     Row("members", "PATH..", "a.b a x", "the distinct paths", "", Sets(SetCommand::Members)),
     Row("contains", "PATH PATH..", "a a.b x", "whether the first path is one of the others", "", Sets(SetCommand::Contains)),
-    Row("set", "NAME new|insert PATH|extend PATH..|contains PATH|below PATH|missing T|iter|cover|drain", "s insert a.c", "changes or asks the set of this name, which new, insert and extend begin", "condition: at most 16 sets; unknown: the set", NamedSet),
+    Row("set", "NAME new|insert PATH|extend PATH PATH..|contains PATH|below PATH|missing T|iter|cover|drain|drop", "s insert a.c", "changes or asks the set of this name, which new, insert and extend begin and drop removes", "condition: at most 16 sets; unknown: the set", NamedSet),
+    Row("sets", "", "", "the names of the sets, in the order in which they began", "", ListedSets),
     Row("project_paths", "T PATH..", "{a=list({b=u32, c=utf8})?, d=bool} a.[].b", "the part of the type that the paths need, or none", "", ProjectPaths),
 ];

@@ -69,8 +69,8 @@ const ROWS: [Row; 19] = [
     Row("fields_text", "S", "{a=i32}?", "the text that the library prints of the fields", "", Structs(StructCommand::Query(StructQuery::FieldsText))),
     Row("indented", "S", "{a={b=i32}}", "the text of the fields on lines of their own, indented", "", Structs(StructCommand::Query(StructQuery::Indented))),
     Row("fields_copy", "S", "{a=i32}", "a copy of the fields", "", Structs(StructCommand::Query(StructQuery::FieldsCopy))),
-    Row("struct_new", "NAMES T..", "a,b i32 utf8", "the struct of these names and types", "condition: as many names as types", Structs(StructCommand::StructNew)),
-    Row("struct_from_fields", "NAMES T..", "a,b i32 utf8", "the struct of these names and field types", "condition: as many names as types", Structs(StructCommand::StructFromFields)),
-    Row("struct_from_iter", "NAMES T..", "a,b i32", "the struct of an iterator over these names and field types", "condition: as many names as types", Structs(StructCommand::StructFromIter)),
+    Row("struct_new", "NAMES T..", "a,b i32 utf8", "the struct of these names and types", "condition: needs as many names as types", Structs(StructCommand::StructNew)),
+    Row("struct_from_fields", "NAMES T..", "a,b i32 utf8", "the struct of these names and field types", "condition: needs as many names as types", Structs(StructCommand::StructFromFields)),
+    Row("struct_from_iter", "NAMES T..", "a,b i32", "the struct of an iterator over these names and field types", "condition: needs as many names as types", Structs(StructCommand::StructFromIter)),
     Row("struct_empty", "", "", "the struct without fields", "", Structs(StructCommand::StructEmpty)),
 ];

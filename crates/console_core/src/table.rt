@@ -80,11 +80,14 @@ pub enum Topic {
     Sessions,
     Messages,
     Arguments,
+    Answers,
+    Errors,
+    Comments,
     Console,
 }
 
 /// The topics, as `help` lists them.
-pub const TOPICS: [Topic; 17] = [
+pub const TOPICS: [Topic; 20] = [
     Topic::Types,
     Topic::Comparisons,
     Topic::Structs,
@@ -101,6 +104,9 @@ pub const TOPICS: [Topic; 17] = [
     Topic::Sessions,
     Topic::Messages,
     Topic::Arguments,
+    Topic::Answers,
+    Topic::Errors,
+    Topic::Comments,
     Topic::Console,
 ];
 
@@ -124,6 +130,9 @@ impl Topic {
             Topic::Sessions => "sessions",
             Topic::Messages => "messages",
             Topic::Arguments => "arguments",
+            Topic::Answers => "answers",
+            Topic::Errors => "errors",
+            Topic::Comments => "comments",
             Topic::Console => "console",
         }
     }
@@ -149,6 +158,9 @@ impl Topic {
             Topic::Sessions => "sessions of plugins, and what they make of extensions",
             Topic::Messages => "messages of types and of paths; how a message is written",
             Topic::Arguments => "how every other argument is written",
+            Topic::Answers => "the forms of answers",
+            Topic::Errors => "the errors of the library by their numbers",
+            Topic::Comments => "what of a line isn't read",
             Topic::Console => "help, and the end",
         }
     }
@@ -171,16 +183,51 @@ impl Topic {
             Topic::Masks => masks::rows(),
             Topic::Sessions => sessions::rows(),
             Topic::Messages => messages::rows(),
-            Topic::Arguments => &[],
+            Topic::Arguments | Topic::Answers | Topic::Errors | Topic::Comments => &[],
             Topic::Console => own::rows(),
         }
     }
 }
 
-/// Returns the topic of this name.
-pub fn find_topic(name: &str) -> Option<Topic> {
-    TOPICS.iter().copied().find(|topic| topic.name() == name)
+/// Returns the topics of this name, or of this heading of `docs/CONSOLE.md`, in any case: none where there is no such.
+pub fn find_topics(name: &str) -> &'static [Topic] {
+    for (heading, topics) in &HEADINGS {
+        if heading.eq_ignore_ascii_case(name) {
+            return topics;
+        }
+    }
+    &[]
 }
+
+#[rattlefmt::skip]
+const HEADINGS: [(&str, &[Topic]); 26] = [
+    ("types", &[Topic::Types]),
+    ("comparisons", &[Topic::Comparisons]),
+    ("structs", &[Topic::Structs]),
+    ("unions", &[Topic::Unions]),
+    ("maps", &[Topic::Maps]),
+    ("unions and maps", &[Topic::Unions, Topic::Maps]),
+    ("extensions", &[Topic::Extensions]),
+    ("names", &[Topic::Names]),
+    ("decimals", &[Topic::Decimals]),
+    ("primitives", &[Topic::Primitives]),
+    ("native", &[Topic::Native]),
+    ("primitive and native types", &[Topic::Primitives, Topic::Native]),
+    ("paths", &[Topic::Paths]),
+    ("masks", &[Topic::Masks]),
+    ("paths and masks", &[Topic::Paths, Topic::Masks]),
+    ("sets", &[Topic::Sets]),
+    ("path sets", &[Topic::Sets]),
+    ("sessions", &[Topic::Sessions]),
+    ("messages", &[Topic::Messages]),
+    ("sessions and messages", &[Topic::Sessions, Topic::Messages]),
+    ("arguments", &[Topic::Arguments]),
+    ("forms", &[Topic::Arguments]),
+    ("answers", &[Topic::Answers]),
+    ("errors", &[Topic::Errors]),
+    ("comments", &[Topic::Comments]),
+    ("console", &[Topic::Console]),
+];
 
 /// Returns the row of the command with this name.
 pub fn find(name: &str) -> Option<&'static Row> {

@@ -60,7 +60,7 @@ const ROWS: [Row; 15] = [
     Row("variant_by_index", "I U", "1 union(a=i32, b=utf8)", "the type of the variant at this index, or none", "", Unions(UnionCommand::ByIndex(UnionByIndex::VariantByIndex))),
     Row("variants", "U", "union(a=i32, b=utf8)", "the types of the variants, in order", "", Unions(UnionCommand::Query(UnionQuery::Variants))),
     Row("tag_to_child_index", "TAG U", "9 union(a@5=i32, b@9=utf8)", "the index of the variant with this tag, or none", "", Unions(UnionCommand::TagToChildIndex)),
-    Row("child_index_to_tag", "I U", "1 union(a@5=i32, b@9=utf8)", "the tag of the variant at this index", "condition: an index in range", Unions(UnionCommand::ByIndex(UnionByIndex::ChildIndexToTag))),
+    Row("child_index_to_tag", "I U", "1 union(a@5=i32, b@9=utf8)", "the tag of the variant at this index", "condition: needs an index in range", Unions(UnionCommand::ByIndex(UnionByIndex::ChildIndexToTag))),
     Row("variants_text", "U", "union(a@5=i32, b@9=utf8)?", "the text that the library prints of the variants", "", Unions(UnionCommand::Query(UnionQuery::VariantsText))),
     Row("variants_copy", "U", "union(a=i32)", "a copy of the variants", "", Unions(UnionCommand::Query(UnionQuery::VariantsCopy))),
     Row("union_new", "NAMES T..", "a,b i32 utf8", "the union of these names and types, with the tags 0, 1, 2 and so on", "UnionTypesLength (10), UnionEmpty (12), UnionTooMany (14), UnionNamesRepeat (15)", Unions(UnionCommand::UnionNew)),

@@ -4,6 +4,7 @@
 // The writer of types. It writes them as the library prints them, except that the metadata of extensions is in
 // hexadecimal, and that names and ids that can't be bare are in quotes. It bounds how deep they are: no type that was
 // read is so deep.
+use crate::found::has_special;
 use crate::line::is_bare;
 use dtype_base::{FieldName, FieldNames, Nullability, VortexResult};
 use dtype_types::{DType, ExtDTypeRef, ExtId, MapDType, StructFields, UnionVariants};
@@ -170,7 +171,7 @@ fn write_nullability(out: &mut String, n: Nullability) -> VortexResult<()> {
 /// Writes a name: bare where it can be, else in quotes with the library's escapes.
 pub fn write_name(out: &mut String, name: &FieldName) -> VortexResult<()> {
     let text = name.as_str();
-    if !text.is_empty() && text.bytes().all(is_bare) {
+    if !text.is_empty() && text.bytes().all(is_bare) && !has_special(text) {
         put(out, text)
     } else {
         write_quoted(out, text)
@@ -196,7 +197,8 @@ pub fn write_names(out: &mut String, names: &FieldNames) -> VortexResult<()> {
 /// Writes an id as a name is written, except that dots may be bare.
 pub fn write_id(out: &mut String, id: &ExtId) -> VortexResult<()> {
     let text = id.as_str();
-    if !text.is_empty() && text.bytes().all(|byte| byte == b'.' || is_bare(byte)) {
+    let is_bare_id = text.bytes().all(|byte| byte == b'.' || is_bare(byte));
+    if !text.is_empty() && is_bare_id && !has_special(text) {
         put(out, text)
     } else {
         write_quoted(out, text)

@@ -22,7 +22,10 @@ pub fn answer(call: &mut Call<'_>, command: IntegerCommand) -> ConsoleResult<()>
         PType::I16 => of::<i16>(call, command),
         PType::I32 => of::<i32>(call, command),
         PType::I64 => of::<i64>(call, command),
-        PType::F16 | PType::F32 | PType::F64 => Err(expected_at(position, "an integer's name")),
+        PType::F16 | PType::F32 | PType::F64 => Err(expected_at(
+            position,
+            "an integer type (u8 to u64, i8 to i64)",
+        )),
     }
 }
 
@@ -47,7 +50,7 @@ where
     T::Err: Drop,
     T::Bytes: Drop,
 {
-    let value: T = call.last_number("a number of this type")?;
+    let value: T = call.last_number(range_of(T::PTYPE))?;
     let bytes = value.to_le_bytes();
     call.say_hexadecimals(T::bytes_of(&bytes))
 }
@@ -62,8 +65,8 @@ where
     T: NativePType + FromStr,
     T::Err: Drop,
 {
-    let value: T = call.number("a number of this type")?;
-    let other: T = call.last_number("a number of this type")?;
+    let value: T = call.number(range_of(T::PTYPE))?;
+    let other: T = call.last_number(range_of(T::PTYPE))?;
     match command {
         IntegerComparison::TotalCompare => call.say_ordering(value.total_compare(other)),
         IntegerComparison::NativeCompare => call.say_words(&[
@@ -81,11 +84,26 @@ where
     T: NativePType + FromStr,
     T::Err: Drop,
 {
-    let value: T = call.last_number("a number of this type")?;
+    let value: T = call.last_number(range_of(T::PTYPE))?;
     call.say_words(&[
         ("is_nan", value.is_nan()),
         ("is_infinite", value.is_infinite()),
     ])
+}
+
+// Returns what is expected of a number of this type, with its range.
+fn range_of(ptype: PType) -> &'static str {
+    match ptype {
+        PType::U8 => "a number from 0 to 255",
+        PType::U16 => "a number from 0 to 65535",
+        PType::U32 => "a number from 0 to 4294967295",
+        PType::U64 => "a number from 0 to 18446744073709551615",
+        PType::I8 => "a number from -128 to 127",
+        PType::I16 => "a number from -32768 to 32767",
+        PType::I32 => "a number from -2147483648 to 2147483647",
+        PType::I64 => "a number from -9223372036854775808 to 9223372036854775807",
+        PType::F16 | PType::F32 | PType::F64 => "a number of this type",
+    }
 }
 
 fn native_integer<T: IntegerPType + PhysicalPType>(call: &mut Call<'_>) -> ConsoleResult<()> {

@@ -3,9 +3,10 @@
 
 // Commands on decimals in a native integer type.
 use console_core::{
-    Call, ConsoleResult, Decimal, NativeDecimalCommand, PrecisionScaleForm, expected_at, unless,
+    A_PRECISION, A_SCALE, Call, ConsoleResult, Decimal, NativeDecimalCommand, PrecisionScaleForm,
+    expected_at, unless,
 };
-use dtype_base::DecimalDType;
+use dtype_base::{DecimalDType, DecimalType};
 use dtype_native::{NativeDecimalType, PrecisionScale};
 use std::fmt::Display;
 use std::str::FromStr;
@@ -42,10 +43,10 @@ fn make<D: NativeDecimalType>(
     call: &mut Call<'_>,
     command: PrecisionScaleForm,
 ) -> ConsoleResult<()> {
-    let precision = call.number("a precision")?;
-    let scale = call.number("a scale")?;
-    let kept = PrecisionScale::<D>::try_new(precision, scale)?;
+    let precision = call.number(A_PRECISION)?;
+    let scale = call.number(A_SCALE)?;
     call.end()?;
+    let kept = PrecisionScale::<D>::try_new(precision, scale)?;
     match command {
         PrecisionScaleForm::PrecisionScale => call.say(&kept),
         PrecisionScaleForm::PrecisionScaleTo => call.say(DecimalDType::from(kept)),
@@ -64,11 +65,10 @@ where
     D: NativeDecimalType + FromStr + Drop,
     D::Err: Drop,
 {
-    let precision = call.number("a precision")?;
-    let scale = call.number("a scale")?;
+    let precision = call.number(A_PRECISION)?;
+    let scale = call.number(A_SCALE)?;
+    let value: D = call.last_number(range_of(D::DECIMAL_TYPE))?;
     let kept = PrecisionScale::<D>::try_new(precision, scale)?;
-    let value: D = call.number("a number of this type")?;
-    call.end()?;
     call.say(kept.is_valid(value))
 }
 
@@ -76,10 +76,10 @@ fn by_precision<D>(call: &mut Call<'_>) -> ConsoleResult<()>
 where
     D: NativeDecimalType + Display + Drop,
 {
-    let precision: u8 = call.last_number("a precision")?;
+    let precision: u8 = call.last_number(A_PRECISION)?;
     unless(
         precision <= D::MAX_PRECISION,
-        "at most the greatest precision",
+        "needs a precision up to the greatest of the type",
     )?;
     call.say(D::min_by_precision(precision))?;
     call.say(D::max_by_precision(precision))
@@ -91,4 +91,16 @@ fn facts<D: NativeDecimalType>(call: &mut Call<'_>) -> ConsoleResult<()> {
     call.say(D::MAX_PRECISION)?;
     call.say(D::MAX_SCALE)?;
     call.say(D::NAME)
+}
+
+// Returns what is expected of a number that is stored so, with its range.
+fn range_of(stored: DecimalType) -> &'static str {
+    match stored {
+        DecimalType::I8 => "a number from -128 to 127",
+        DecimalType::I16 => "a number from -32768 to 32767",
+        DecimalType::I32 => "a number from -2147483648 to 2147483647",
+        DecimalType::I64 => "a number from -9223372036854775808 to 9223372036854775807",
+        DecimalType::I128 => "a number from -2^127 to 2^127 - 1",
+        DecimalType::I256 => "a number of this type",
+    }
 }

@@ -2,7 +2,7 @@
 // SPDX-FileCopyrightText: Copyright the Vortex contributors
 
 // The command on the types of native types.
-use console_core::{Call, ConsoleResult, Line};
+use console_core::{Call, ConsoleResult, Line, expected_at};
 use dtype_native::NativeDType;
 use dtype_types::DType;
 use std::alloc::Global;
@@ -48,6 +48,7 @@ fn native_dtype(call: &mut Call<'_>, first: Owner, second: Owner) -> ConsoleResu
     if call.line.accepts("&[u8]") {
         return of::<&[u8]>(call.alloc, first, second);
     }
+    let position = call.line.position();
     match call.line.word("a native type")? {
         "u8" => of::<u8>(call.alloc, first, second),
         "u16" => of::<u16>(call.alloc, first, second),
@@ -59,7 +60,7 @@ fn native_dtype(call: &mut Call<'_>, first: Owner, second: Owner) -> ConsoleResu
         "i64" => of::<i64>(call.alloc, first, second),
         "bool" => of::<bool>(call.alloc, first, second),
         "String" => of::<String>(call.alloc, first, second),
-        _ => Err(call.line.expected("a native type")),
+        _ => Err(expected_at(position, "a native type")),
     }
 }
 

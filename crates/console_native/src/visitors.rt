@@ -68,7 +68,7 @@ fn match_each(call: &mut Call<'_>, command: MatchEach) -> ConsoleResult<()> {
 }
 
 fn match_smallest(call: &mut Call<'_>, command: MatchSmallest) -> ConsoleResult<()> {
-    let count = call.last_number("a count")?;
+    let count = call.last_number("a count from 0 to 18446744073709551615")?;
     call.say(match command {
         MatchSmallest::MatchSmallestOffsetType => match_smallest_offset_type(count, NameOfCall),
         MatchSmallest::MatchSmallestListOffsetType => match_smallest_list_offset_type(
@@ -82,23 +82,23 @@ fn visited(command: MatchEach, ptype: PType) -> ConsoleResult<PType> {
     match command {
         MatchEach::MatchEach => Ok(match_each_native_ptype(ptype, NameOfCall)),
         MatchEach::MatchEachSimd => {
-            unless(ptype != PType::F16, "not f16")?;
+            unless(ptype != PType::F16, "needs a primitive type other than f16")?;
             Ok(match_each_native_simd_ptype(ptype, NameOfCall))
         }
         MatchEach::MatchEachInteger => {
-            unless(ptype.is_int(), "an integer")?;
+            unless(ptype.is_int(), "needs an integer type")?;
             Ok(match_each_integer_ptype(ptype, NameOfCall))
         }
         MatchEach::MatchEachUnsigned => {
-            unless(ptype.is_unsigned_int(), "an unsigned integer")?;
+            unless(ptype.is_unsigned_int(), "needs an unsigned integer type")?;
             Ok(match_each_unsigned_integer_ptype(ptype, NameOfCall))
         }
         MatchEach::MatchEachSigned => {
-            unless(ptype.is_signed_int(), "a signed integer")?;
+            unless(ptype.is_signed_int(), "needs a signed integer type")?;
             Ok(match_each_signed_integer_ptype(ptype, NameOfCall))
         }
         MatchEach::MatchEachFloat => {
-            unless(ptype.is_float(), "a float")?;
+            unless(ptype.is_float(), "needs a float type")?;
             Ok(match_each_float_ptype(ptype, NameOfCall))
         }
     }

@@ -69,12 +69,13 @@ fn read_step(alloc: Global, line: &mut Line<'_>) -> ConsoleResult<Field> {
         return Ok(Field::ElementType);
     }
     let _ = line.accepts("$");
-    Ok(Field::Name(line.name(alloc)?))
+    Ok(Field::Name(line.step_name(alloc)?))
 }
 
 /// Reads a path, its steps or a dot where it has none, and returns it.
 pub fn read_path(alloc: Global, line: &mut Line<'_>) -> ConsoleResult<FieldPath> {
     if line.accepts(".") {
+        end_root(line)?;
         return Ok(FieldPath::root(alloc));
     }
     let mut steps = Vec::new(alloc);
@@ -84,7 +85,34 @@ pub fn read_path(alloc: Global, line: &mut Line<'_>) -> ConsoleResult<FieldPath>
             break;
         }
     }
+    end_path(line)?;
     Ok(FieldPath::from_vec(steps))
+}
+
+// Returns an error where a step follows the dot of the root.
+fn end_root(line: &Line<'_>) -> ConsoleResult<()> {
+    match line.peek() {
+        None | Some(b' ' | b'\t' | b'#') => Ok(()),
+        _ => Err(line.expected_found(
+            "a blank",
+            "; the root is . alone, any other path begins with a step",
+        )),
+    }
+}
+
+// Returns an error where a path goes on without a dot.
+fn end_path(line: &Line<'_>) -> ConsoleResult<()> {
+    match line.peek() {
+        Some(b'[') => Err(line.expected_found(
+            "a blank or a dot",
+            "; [] is a step of its own, as a.[].b",
+        )),
+        Some(b'/') => Err(line.expected_found(
+            "a blank or a dot",
+            "; steps are joined by dots, as a.[].b",
+        )),
+        _ => Ok(()),
+    }
 }
 
 fn write_step(out: &mut String, step: &Field) -> VortexResult<()> {

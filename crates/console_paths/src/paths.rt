@@ -81,12 +81,14 @@ fn with_step(call: &mut Call<'_>, command: PathWithStep) -> ConsoleResult<()> {
 
 fn starts_with_field(call: &mut Call<'_>, path: &FieldPath, step: &Field) -> ConsoleResult<()> {
     if !step.is_named() {
-        return Err(ConsoleError::Condition("names"));
+        return Err(ConsoleError::Condition("needs a path whose first step is a name, and a name"));
     }
     match path.parts().first() {
         None => call.say(path.starts_with_field(step)),
         Some(first) if first.is_named() => call.say(path.starts_with_field(step)),
-        Some(_) => Err(ConsoleError::Condition("names")),
+        Some(_) => Err(ConsoleError::Condition(
+            "needs a path whose first step is a name, and a name",
+        )),
     }
 }
 

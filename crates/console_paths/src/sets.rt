@@ -85,6 +85,9 @@ impl Sets {
     pub fn answer(&mut self, call: &mut Call<'_>) -> ConsoleResult<()> {
         let name: FieldName = call.read()?;
         let command = read_change(call)?;
+        if let SetChange::Drop = command {
+            return self.drop(call, &name);
+        }
         for it in &mut self.named {
             if it.name == name {
                 return change(call, command, &mut it.set);
@@ -96,6 +99,27 @@ impl Sets {
         }
     }
 
+    /// Answers `sets`, by the names that there are.
+    pub fn list(&self, call: &mut Call<'_>) -> ConsoleResult<()> {
+        call.end()?;
+        for it in &self.named {
+            call.write(&it.name)?;
+        }
+        call.end_list()
+    }
+
+    // Removes the set of this name.
+    fn drop(&mut self, call: &mut Call<'_>, name: &FieldName) -> ConsoleResult<()> {
+        let Some(at) = self.named.iter().position(|it| it.name == *name) else {
+            return Err(self.unknown(name));
+        };
+        call.end()?;
+        if at < self.named.len() {
+            let _ = self.named.remove(at);
+        }
+        call.say("ok")
+    }
+
     // Answers a command that begins a new set of this name, which is there where the command was answered.
     fn add(
         &mut self,
@@ -103,9 +127,9 @@ impl Sets {
         command: SetChange,
         name: FieldName,
     ) -> ConsoleResult<()> {
-        unless(self.named.len() < MAX_SETS, "at most 16 sets")?;
         let mut set = FieldPathSet::new(self.alloc);
         change(call, command, &mut set)?;
+        unless(self.named.len() < MAX_SETS, "at most 16 sets")?;
         Ok(self.named.push(NamedSet { name, set })?)
     }
 
@@ -139,11 +163,13 @@ enum SetChange {
     Iter,
     Cover,
     Drain,
+    Drop,
 }
 
 // Reads a command on a set.
 fn read_change(call: &mut Call<'_>) -> ConsoleResult<SetChange> {
-    const EXPECTED: &str = "new, insert, extend, contains, below, missing, iter, cover or drain";
+    const EXPECTED: &str =
+        "new, insert, extend, contains, below, missing, iter, cover, drain or drop";
     call.line.separate()?;
     let position = call.line.position();
     match call.line.word(EXPECTED)? {
@@ -156,6 +182,7 @@ fn read_change(call: &mut Call<'_>) -> ConsoleResult<SetChange> {
         "iter" => Ok(SetChange::Iter),
         "cover" => Ok(SetChange::Cover),
         "drain" => Ok(SetChange::Drain),
+        "drop" => Ok(SetChange::Drop),
         _ => Err(expected_at(position, EXPECTED)),
     }
 }
@@ -172,6 +199,7 @@ fn change(call: &mut Call<'_>, command: SetChange, set: &mut FieldPathSet) -> Co
         SetChange::Iter => iter(call, set),
         SetChange::Cover => cover_copy(call, set),
         SetChange::Drain => drain(call, set),
+        SetChange::Drop => call.end(),
     }
 }
 
@@ -182,11 +210,22 @@ fn renew(call: &mut Call<'_>, set: &mut FieldPathSet) -> ConsoleResult<()> {
 }
 
 fn insert(call: &mut Call<'_>, set: &mut FieldPathSet) -> ConsoleResult<()> {
+    need_path(call)?;
     let Path(path) = call.last()?;
     call.say_ok(set.insert(path))
 }
 
+// Returns an error where the line ends without a path.
+fn need_path(call: &mut Call<'_>) -> ConsoleResult<()> {
+    if call.line.is_at_end() {
+        call.line.skip_blanks();
+        return Err(call.line.expected("a path"));
+    }
+    Ok(())
+}
+
 fn extend(call: &mut Call<'_>, set: &mut FieldPathSet) -> ConsoleResult<()> {
+    need_path(call)?;
     let Paths(paths) = call.last()?;
     call.say_ok(set.extend(paths))
 }

@@ -40,6 +40,6 @@ fn number(call: &mut Call<'_>) -> ConsoleResult<()> {
 }
 
 fn from_number(call: &mut Call<'_>) -> ConsoleResult<()> {
-    let number = call.last_number("a signed number of 32 bits")?;
+    let number = call.last_number("a number from -2147483648 to 2147483647")?;
     call.say_option(pb::PType::from_number(number).map(|known| PType::from(known)))
 }

@@ -2,6 +2,7 @@
 // SPDX-FileCopyrightText: Copyright the Vortex contributors
 
 // Commands on the messages of paths.
+use crate::reader::{accept_colon, end_field, open_message, read_text};
 use console_core::{Call, ConsoleResult, Line, PathMessageCommand, put, write_quoted};
 use console_paths::say_path;
 use std::alloc::Global;
@@ -47,10 +48,11 @@ fn read_argument(call: &mut Call<'_>) -> ConsoleResult<pb::FieldPath> {
 fn read_part(alloc: Global, line: &mut Line<'_>) -> ConsoleResult<pb::Field> {
     line.take("path")?;
     line.skip_blanks();
-    line.take("{")?;
+    accept_colon(line);
+    let close = open_message(line)?;
     line.skip_blanks();
     let field_type = read_field_type(alloc, line)?;
-    line.then(pb::Field { field_type }, "}")
+    line.then(pb::Field { field_type }, close)
 }
 
 // Reads a name, if there is one, and the blanks after it.
@@ -61,9 +63,8 @@ fn read_field_type(alloc: Global, line: &mut Line<'_>) -> ConsoleResult<Option<p
     line.skip_blanks();
     line.take(":")?;
     line.skip_blanks();
-    line.take("\"")?;
-    let name = line.quoted_text(alloc)?;
-    line.skip_blanks();
+    let name = read_text(alloc, line)?;
+    end_field(line);
     Ok(Some(pb::FieldType::Name(name)))
 }
 

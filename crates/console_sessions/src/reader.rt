@@ -61,6 +61,15 @@ impl Parts {
     }
 }
 
+// Returns whether there is a kind of this name.
+fn is_kind(name: &str) -> bool {
+    match name {
+        "null" | "bool" | "utf8" | "binary" | "variant" | "primitive" | "decimal" => true,
+        "list" | "fixed_size_list" | "map" | "struct" | "union" | "extension" => true,
+        _ => false,
+    }
+}
+
 // Returns whether a kind has the field.
 fn has_field(kind: &str, field: &str) -> bool {
     match field {
@@ -82,12 +91,16 @@ fn has_field(kind: &str, field: &str) -> bool {
 fn read_kind(alloc: Global, line: &mut Line<'_>, levels: u32) -> ConsoleResult<pb::DtypeType> {
     let position = line.position();
     let kind = line.word("a kind of type")?;
+    if !is_kind(kind) {
+        return Err(expected_at(position, "a kind of type"));
+    }
     line.skip_blanks();
-    line.take("{")?;
+    accept_colon(line);
+    let close = open_message(line)?;
     let mut parts = Parts::new(alloc);
     for _ in 0..line.max_items() {
         line.skip_blanks();
-        if line.accepts("}") {
+        if line.accepts(close) {
             break;
         }
         read_field(alloc, line, kind, &mut parts, levels)?;
@@ -111,20 +124,76 @@ fn read_field(
     }
     line.skip_blanks();
     match field {
-        "element_type" | "key_type" | "storage_dtype" | "value_type" | "dtypes" => {
-            let part = read_part(alloc, line, levels)?;
-            keep_part(alloc, field, part, parts)
+        "dtypes" => {
+            accept_colon(line);
+            read_parts(alloc, line, parts, levels)?;
         }
-        _ => read_value(alloc, line, field, parts),
+        "element_type" | "key_type" | "storage_dtype" | "value_type" => {
+            accept_colon(line);
+            let part = read_part(alloc, line, levels)?;
+            keep_part(alloc, field, part, parts)?;
+        }
+        _ => read_value(alloc, line, field, parts)?,
+    }
+    end_field(line);
+    Ok(())
+}
+
+/// Reads a colon and the blanks after it, if it is next. Before a message it may be left out.
+pub fn accept_colon(line: &mut Line<'_>) {
+    if line.accepts(":") {
+        line.skip_blanks();
+    }
+}
+
+/// Reads the opening bracket of a message, and returns the closing one.
+pub fn open_message(line: &mut Line<'_>) -> ConsoleResult<&'static str> {
+    if line.accepts("{") {
+        Ok("}")
+    } else if line.accepts("<") {
+        Ok(">")
+    } else {
+        Err(line.expected_found("`{`", ""))
+    }
+}
+
+/// Reads the comma or the semicolon that may follow a field, with the blanks before it.
+pub fn end_field(line: &mut Line<'_>) {
+    line.skip_blanks();
+    if !line.accepts(",") {
+        let _ = line.accepts(";");
     }
 }
 
 // Keeps the message of this field.
 fn keep_part(alloc: Global, field: &str, part: pb::DType, parts: &mut Parts) -> ConsoleResult<()> {
     match field {
-        "dtypes" => parts.dtypes.push(part)?,
         "value_type" => parts.second = Some(Box::new(alloc, part)?),
         _ => parts.first = Some(Box::new(alloc, part)?),
+    }
+    Ok(())
+}
+
+// Reads the messages of the types of a struct or a union: one, or a list of them in square brackets.
+#[cycle(messages)]
+fn read_parts(
+    alloc: Global,
+    line: &mut Line<'_>,
+    parts: &mut Parts,
+    levels: u32,
+) -> ConsoleResult<()> {
+    if !line.accepts("[") {
+        parts.dtypes.push(read_part(alloc, line, levels)?)?;
+        return Ok(());
+    }
+    line.skip_blanks();
+    let mut is_closed = line.accepts("]");
+    for _ in 0..line.max_items() {
+        if is_closed {
+            break;
+        }
+        parts.dtypes.push(read_part(alloc, line, levels)?)?;
+        is_closed = line.closes("]")?;
     }
     Ok(())
 }
@@ -135,17 +204,17 @@ fn read_part(alloc: Global, line: &mut Line<'_>, levels: u32) -> ConsoleResult<p
     let Some(levels) = levels.checked_sub(1) else {
         return Err(line.expected("at most 128 levels"));
     };
-    line.take("{")?;
+    let close = open_message(line)?;
     line.skip_blanks();
-    if line.accepts("}") {
+    if line.accepts(close) {
         return Ok(pb::DType { dtype_type: None });
     }
     let kind = read_kind(alloc, line, levels)?;
-    line.skip_blanks();
+    end_field(line);
     let part = pb::DType {
         dtype_type: Some(kind),
     };
-    line.then(part, "}")
+    line.then(part, close)
 }
 
 // Reads a colon, and the value of a field after it.
@@ -158,7 +227,8 @@ fn read_value(
     line.take(":")?;
     line.skip_blanks();
     match field {
-        "names" => Ok(parts.names.push(read_text(alloc, line)?)?),
+        "names" => read_names(alloc, line, parts),
+        "type_ids" => read_type_ids(line, parts),
         "id" => read_id(alloc, line, parts),
         "metadata" => read_metadata(alloc, line, parts),
         "nullable" | "keys_sorted" => read_flag(line, field, parts),
@@ -166,19 +236,61 @@ fn read_value(
     }
 }
 
+// Reads a name, or a list of names in square brackets.
+fn read_names(alloc: Global, line: &mut Line<'_>, parts: &mut Parts) -> ConsoleResult<()> {
+    if !line.accepts("[") {
+        return Ok(parts.names.push(read_text(alloc, line)?)?);
+    }
+    line.skip_blanks();
+    let mut is_closed = line.accepts("]");
+    for _ in 0..line.max_items() {
+        if is_closed {
+            break;
+        }
+        parts.names.push(read_text(alloc, line)?)?;
+        is_closed = line.closes("]")?;
+    }
+    Ok(())
+}
+
+// Reads a tag, or a list of tags in square brackets.
+fn read_type_ids(line: &mut Line<'_>, parts: &mut Parts) -> ConsoleResult<()> {
+    if !line.accepts("[") {
+        return Ok(parts.type_ids.push(line.number(SIGNED)?)?);
+    }
+    line.skip_blanks();
+    let mut is_closed = line.accepts("]");
+    for _ in 0..line.max_items() {
+        if is_closed {
+            break;
+        }
+        parts.type_ids.push(line.number(SIGNED)?)?;
+        is_closed = line.closes("]")?;
+    }
+    Ok(())
+}
+
+const SIGNED: &str = "a number from -2147483648 to 2147483647";
+
+const UNSIGNED: &str = "a number from 0 to 4294967295";
+
 fn read_id(alloc: Global, line: &mut Line<'_>, parts: &mut Parts) -> ConsoleResult<()> {
     parts.id = read_text(alloc, line)?;
     Ok(())
 }
 
 fn read_metadata(alloc: Global, line: &mut Line<'_>, parts: &mut Parts) -> ConsoleResult<()> {
-    line.take("\"")?;
-    parts.metadata = Some(line.quoted(alloc)?);
+    parts.metadata = Some(line.joined_texts(alloc)?);
     Ok(())
 }
 
 fn read_flag(line: &mut Line<'_>, field: &str, parts: &mut Parts) -> ConsoleResult<()> {
-    let flag = line.boolean()?;
+    let position = line.position();
+    let flag = match line.word("true or false")? {
+        "true" | "True" | "t" | "1" => true,
+        "false" | "False" | "f" | "0" => false,
+        _ => return Err(expected_at(position, "true or false")),
+    };
     match field {
         "nullable" => parts.nullable = flag,
         _ => parts.keys_sorted = flag,
@@ -189,19 +301,20 @@ fn read_flag(line: &mut Line<'_>, field: &str, parts: &mut Parts) -> ConsoleResu
 fn read_number(line: &mut Line<'_>, field: &str, parts: &mut Parts) -> ConsoleResult<()> {
     match field {
         "type" => parts.ptype = read_number_of_ptype(line)?,
-        "precision" => parts.precision = line.number("a number of 32 bits")?,
-        "scale" => parts.scale = line.number("a signed number of 32 bits")?,
-        "size" => parts.size = line.number("a number of 32 bits")?,
-        _ => parts
-            .type_ids
-            .push(line.number("a signed number of 32 bits")?)?,
+        "precision" => parts.precision = line.number(UNSIGNED)?,
+        "scale" => parts.scale = line.number(SIGNED)?,
+        _ => parts.size = line.number(UNSIGNED)?,
     }
     Ok(())
 }
 
-fn read_text(alloc: Global, line: &mut Line<'_>) -> ConsoleResult<String> {
-    line.take("\"")?;
-    line.quoted_text(alloc)
+/// Reads a text in quotes, or several that follow one another, and returns it.
+pub fn read_text(alloc: Global, line: &mut Line<'_>) -> ConsoleResult<String> {
+    let position = line.position().saturating_add(1);
+    match String::from_utf8(line.joined_texts(alloc)?) {
+        Ok(text) => Ok(text),
+        Err(_) => Err(expected_at(position, "a text in UTF-8")),
+    }
 }
 
 // Reads a primitive type's number, or its name.

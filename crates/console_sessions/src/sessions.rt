@@ -51,13 +51,13 @@ impl SessionState {
             self.unknown = true;
             return Ok(());
         }
-        self.plugins.push(read_plugin(line)?)?;
+        self.plugins.push(read_plugin(line, A_WORD)?)?;
         Ok(())
     }
 }
 
 // Reads a plugin.
-fn read_plugin(line: &mut Line<'_>) -> ConsoleResult<Plugin> {
+fn read_plugin(line: &mut Line<'_>, expected: &'static str) -> ConsoleResult<Plugin> {
     if line.accepts("x.tag") {
         Ok(Plugin::Tag)
     } else if line.accepts("x.text") {
@@ -67,9 +67,14 @@ fn read_plugin(line: &mut Line<'_>) -> ConsoleResult<Plugin> {
     } else if line.accepts("kept") {
         Ok(Plugin::AllKept)
     } else {
-        Err(line.expected("strict, unknown, x.tag, x.text, x.word or kept"))
+        Err(line.expected(expected))
     }
 }
+
+const A_PLUGIN: &str = "x.tag, x.text, x.word or kept";
+
+const A_WORD: &str =
+    "strict, unknown, x.tag, x.text, x.word or kept, or @ and the name of a session";
 
 // A session with a name.
 #[derive(Drop)]
@@ -97,15 +102,40 @@ impl Sessions {
     /// Answers `session`, which changes the session whose name is the next argument.
     pub fn change(&mut self, call: &mut Call<'_>) -> ConsoleResult<()> {
         let name: FieldName = call.read()?;
+        let command = read_change(call)?;
+        if let SessionChange::Drop = command {
+            return self.drop(call, &name);
+        }
         for it in &mut self.named {
             if it.name == name {
-                return change(call, &mut it.state);
+                return change(call, command, &mut it.state);
             }
         }
-        unless(self.named.len() < MAX_SESSIONS, "at most 16 sessions")?;
         let mut state = SessionState::new(self.alloc);
-        change(call, &mut state)?;
+        change(call, command, &mut state)?;
+        unless(self.named.len() < MAX_SESSIONS, "at most 16 sessions")?;
         Ok(self.named.push(NamedSession { name, state })?)
+    }
+
+    /// Answers `sessions`, by the names that there are.
+    pub fn list(&self, call: &mut Call<'_>) -> ConsoleResult<()> {
+        call.end()?;
+        for it in &self.named {
+            call.write(&it.name)?;
+        }
+        call.end_list()
+    }
+
+    // Removes the session of this name.
+    fn drop(&mut self, call: &mut Call<'_>, name: &FieldName) -> ConsoleResult<()> {
+        let Some(at) = self.named.iter().position(|it| it.name == *name) else {
+            return Err(self.unknown(name));
+        };
+        call.end()?;
+        if at < self.named.len() {
+            let _ = self.named.remove(at);
+        }
+        call.say("ok")
     }
 
     /// Answers this command on the session that is the next argument: words, or the name of one.
@@ -160,22 +190,47 @@ fn read_words(call: &mut Call<'_>) -> ConsoleResult<SessionState> {
     Ok(state)
 }
 
-// Answers a command that changes a session with a name.
-fn change(call: &mut Call<'_>, state: &mut SessionState) -> ConsoleResult<()> {
+// A command that changes a session with a name.
+#[derive(Clone, Copy)]
+enum SessionChange {
+    New,
+    Register,
+    AllowUnknown,
+    Drop,
+}
+
+// Reads a command on a session.
+fn read_change(call: &mut Call<'_>) -> ConsoleResult<SessionChange> {
+    const EXPECTED: &str = "new, register, allow_unknown or drop";
     call.line.separate()?;
     let position = call.line.position();
-    match call.line.word("new, register or allow_unknown")? {
-        "new" => {
+    match call.line.word(EXPECTED)? {
+        "new" => Ok(SessionChange::New),
+        "register" => Ok(SessionChange::Register),
+        "allow_unknown" => Ok(SessionChange::AllowUnknown),
+        "drop" => Ok(SessionChange::Drop),
+        _ => Err(expected_at(position, EXPECTED)),
+    }
+}
+
+// Answers a command that changes a session with a name.
+fn change(
+    call: &mut Call<'_>,
+    command: SessionChange,
+    state: &mut SessionState,
+) -> ConsoleResult<()> {
+    match command {
+        SessionChange::New => {
             call.end()?;
             state.unknown = false;
             state.plugins.clear();
         }
-        "allow_unknown" => {
+        SessionChange::AllowUnknown => {
             call.end()?;
             state.unknown = true;
         }
-        "register" => register(call, state)?,
-        _ => return Err(expected_at(position, "new, register or allow_unknown")),
+        SessionChange::Register => register(call, state)?,
+        SessionChange::Drop => call.end()?,
     }
     call.say("ok")
 }
@@ -183,7 +238,7 @@ fn change(call: &mut Call<'_>, state: &mut SessionState) -> ConsoleResult<()> {
 // Registers the plugin that is the last argument.
 fn register(call: &mut Call<'_>, state: &mut SessionState) -> ConsoleResult<()> {
     call.line.separate()?;
-    let plugin = read_plugin(&mut call.line)?;
+    let plugin = read_plugin(&mut call.line, A_PLUGIN)?;
     call.end()?;
     Ok(state.plugins.push(plugin)?)
 }

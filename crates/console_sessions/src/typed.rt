@@ -58,7 +58,7 @@ fn set_nullability<V: ExtVTable>(
     } else if typed.storage_dtype().can_be_nonnullable() {
         call.write_result(typed.with_nullability(call.alloc, Nullability::NonNullable))
     } else {
-        Err(ConsoleError::Condition("a type that can be non-nullable"))
+        Err(ConsoleError::Condition("needs a type that can be non-nullable"))
     }
 }
 

@@ -11,7 +11,7 @@ pub fn answer(call: &mut Call<'_>, command: Comparison) -> ConsoleResult<()> {
     let (dtype, other): (DType, DType) = call.last()?;
     match compare(command, &dtype, &other) {
         Some(holds) => call.say(holds),
-        None => Err(ConsoleError::Condition("two types of one such kind")),
+        None => Err(ConsoleError::Condition("needs two types of one such kind")),
     }
 }
 

@@ -4,8 +4,8 @@
 // Commands on decimals and their storage types.
 use crate::comparisons::hash_of;
 use console_core::{
-    Call, ConsoleError, ConsoleResult, Decimal, DecimalCommand, DecimalConstructor,
-    DecimalEquality, DecimalQuery,
+    A_PRECISION, A_SCALE, Call, ConsoleError, ConsoleResult, Decimal, DecimalCommand,
+    DecimalConstructor, DecimalEquality, DecimalQuery,
 };
 use dtype_base::{DecimalDType, DecimalType, MAX_PRECISION, MAX_SCALE, PType};
 
@@ -24,14 +24,14 @@ pub fn answer(call: &mut Call<'_>, command: DecimalCommand) -> ConsoleResult<()>
 }
 
 fn make(call: &mut Call<'_>, command: DecimalConstructor) -> ConsoleResult<()> {
-    let precision = call.number("a precision")?;
-    let scale = call.last_number("a scale")?;
+    let precision = call.number(A_PRECISION)?;
+    let scale = call.last_number(A_SCALE)?;
     let made = DecimalDType::try_new(precision, scale);
     match command {
         DecimalConstructor::Decimal => call.say_result(made),
         DecimalConstructor::DecimalNew => match made {
             Ok(decimal) => call.say(decimal),
-            Err(_) => Err(ConsoleError::Condition("a valid precision and scale")),
+            Err(_) => Err(ConsoleError::Condition("needs a valid precision and scale")),
         },
     }
 }

@@ -65,6 +65,6 @@ fn extension_with_nullability(call: &mut Call<'_>) -> ConsoleResult<()> {
     } else if extension.storage_dtype().can_be_nonnullable() {
         call.write_result(extension.with_nullability(call.alloc, Nullability::NonNullable))
     } else {
-        Err(ConsoleError::Condition("a type that can be non-nullable"))
+        Err(ConsoleError::Condition("needs a type that can be non-nullable"))
     }
 }

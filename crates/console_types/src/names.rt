@@ -70,7 +70,7 @@ fn by_index(call: &mut Call<'_>, command: NamesByIndex) -> ConsoleResult<()> {
 }
 
 fn say_name_at(call: &mut Call<'_>, index: usize, names: &FieldNames) -> ConsoleResult<()> {
-    unless(index < names.len(), "an index in range")?;
+    unless(index < names.len(), "needs an index in range")?;
     call.write(&names[index])
 }
 

@@ -67,15 +67,15 @@ fn required(call: &mut Call<'_>, command: RequiredPart) -> ConsoleResult<()> {
     let dtype: DType = call.last()?;
     match command {
         RequiredPart::AsStructFields => {
-            unless(dtype.is_struct(), "a struct type")?;
+            unless(dtype.is_struct(), "needs a struct type")?;
             call.write(dtype.as_struct_fields())
         }
         RequiredPart::IntoStructFields => {
-            unless(dtype.is_struct(), "a struct type")?;
+            unless(dtype.is_struct(), "needs a struct type")?;
             call.write(&dtype.into_struct_fields())
         }
         RequiredPart::AsExtension => {
-            unless(dtype.is_extension(), "an extension type")?;
+            unless(dtype.is_extension(), "needs an extension type")?;
             call.write(dtype.as_extension())
         }
     }

@@ -45,19 +45,19 @@ fn ask_pair(call: &mut Call<'_>, command: PTypePair) -> ConsoleResult<()> {
 }
 
 fn min_unsigned_ptype_for_value(call: &mut Call<'_>) -> ConsoleResult<()> {
-    let value = call.last_number("a number of 64 bits")?;
+    let value = call.last_number("a number from 0 to 18446744073709551615")?;
     call.say(PType::min_unsigned_ptype_for_value(value))
 }
 
 fn min_signed_ptype_for_value(call: &mut Call<'_>) -> ConsoleResult<()> {
-    let value = call.last_number("a signed number of 64 bits")?;
+    let value = call.last_number("a number from -9223372036854775808 to 9223372036854775807")?;
     call.say(PType::min_signed_ptype_for_value(value))
 }
 
 fn max_unsigned_ptype(call: &mut Call<'_>, ptype: PType, other: PType) -> ConsoleResult<()> {
     unless(
         ptype.is_unsigned_int() && other.is_unsigned_int(),
-        "two unsigned names",
+        "needs two unsigned integer types",
     )?;
     call.say(ptype.max_unsigned_ptype(other))
 }
@@ -65,7 +65,7 @@ fn max_unsigned_ptype(call: &mut Call<'_>, ptype: PType, other: PType) -> Consol
 fn max_signed_ptype(call: &mut Call<'_>, ptype: PType, other: PType) -> ConsoleResult<()> {
     unless(
         ptype.is_signed_int() && other.is_signed_int(),
-        "two signed names",
+        "needs two signed integer types",
     )?;
     call.say(ptype.max_signed_ptype(other))
 }

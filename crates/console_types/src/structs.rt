@@ -5,8 +5,9 @@
 use crate::types::last_pairs;
 use console_core::{
     Call, ConsoleError, ConsoleResult, StructByIndex, StructByName, StructCommand, StructQuery,
+    column_error,
 };
-use dtype_base::{FieldName, FieldNames};
+use dtype_base::{FieldName, FieldNames, VortexError};
 use dtype_types::{DType, DTypeIter, FieldDType, StructFields};
 
 /// Answers this command.
@@ -75,12 +76,59 @@ fn say_found(call: &mut Call<'_>, (found, count): (Option<usize>, u64)) -> Conso
 
 fn project(call: &mut Call<'_>) -> ConsoleResult<()> {
     let (names, fields): (FieldNames, StructFields) = call.last()?;
-    call.write_result(fields.project(call.alloc, names.as_slice()))
+    match fields.project(call.alloc, names.as_slice()) {
+        Ok(made) => call.write(&made),
+        Err(error) => Err(named(call, error, &names)),
+    }
+}
+
+// Returns the library's error about a projection to these names, with the name that wasn't found.
+fn named(call: &Call<'_>, error: VortexError, names: &FieldNames) -> ConsoleError {
+    if let VortexError::FieldNotFound { position } = error {
+        if let Some(name) = names.as_slice().get(position) {
+            return column_error(call.alloc, VortexError::FieldNotFound { position }, name);
+        }
+    }
+    ConsoleError::from(error)
 }
 
 fn disjoint_merge(call: &mut Call<'_>) -> ConsoleResult<()> {
     let (fields, other): (StructFields, StructFields) = call.last()?;
-    call.write_result(fields.disjoint_merge(call.alloc, &other))
+    match fields.disjoint_merge(call.alloc, &other) {
+        Ok(made) => call.write(&made),
+        Err(error) => Err(repeating(call, error, &fields, &other)),
+    }
+}
+
+// Returns the library's error about a merge of these structs, with the first name that repeats.
+fn repeating(
+    call: &Call<'_>,
+    error: VortexError,
+    fields: &StructFields,
+    other: &StructFields,
+) -> ConsoleError {
+    if let VortexError::DuplicateNames = error {
+        if let Some(name) = first_repeated(fields, other) {
+            return column_error(call.alloc, VortexError::DuplicateNames, name);
+        }
+    }
+    ConsoleError::from(error)
+}
+
+// Returns the first name, of the fields of both structs in order, that an earlier one has too.
+fn first_repeated<'a>(fields: &'a StructFields, other: &'a StructFields) -> Option<&'a FieldName> {
+    for (index, name) in fields.names().as_slice().iter().enumerate() {
+        if fields.find(name.as_str()) != Some(index) {
+            return Some(name);
+        }
+    }
+    for (index, name) in other.names().as_slice().iter().enumerate() {
+        let text = name.as_str();
+        if fields.find(text).is_some() || other.find(text) != Some(index) {
+            return Some(name);
+        }
+    }
+    None
 }
 
 fn struct_new(call: &mut Call<'_>) -> ConsoleResult<()> {
@@ -88,7 +136,7 @@ fn struct_new(call: &mut Call<'_>) -> ConsoleResult<()> {
     if names.len() == dtypes.len() {
         call.write_result(StructFields::new(call.alloc, names, dtypes))
     } else {
-        Err(ConsoleError::Condition("as many names as types"))
+        Err(ConsoleError::Condition("needs as many names as types"))
     }
 }
 
@@ -97,7 +145,7 @@ fn struct_from_fields(call: &mut Call<'_>) -> ConsoleResult<()> {
     if names.len() == dtypes.len() {
         call.write_result(StructFields::from_fields(call.alloc, names, dtypes))
     } else {
-        Err(ConsoleError::Condition("as many names as types"))
+        Err(ConsoleError::Condition("needs as many names as types"))
     }
 }
 

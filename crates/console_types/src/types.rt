@@ -3,8 +3,8 @@
 
 // Commands on types of every kind.
 use console_core::{
-    Call, ConsoleError, ConsoleResult, NullabilityChange, NullabilityText, TypeChange, TypeCommand,
-    TypeConversion, TypeQuery, unless,
+    A_SIZE, Call, ConsoleError, ConsoleResult, NullabilityChange, NullabilityText, TypeChange,
+    TypeCommand, TypeConversion, TypeQuery, unless,
 };
 use dtype_base::{DecimalDType, FieldNames, Nullability, PType};
 use dtype_types::{DType, FieldDType};
@@ -54,7 +54,7 @@ fn with_nullability(call: &mut Call<'_>, dtype: &DType, n: Nullability) -> Conso
     } else if dtype.can_be_nonnullable() {
         call.write_result(dtype.as_nonnullable(call.alloc))
     } else {
-        Err(ConsoleError::Condition("a type that can be non-nullable"))
+        Err(ConsoleError::Condition("needs a type that can be non-nullable"))
     }
 }
 
@@ -132,7 +132,7 @@ fn convert(call: &mut Call<'_>, command: TypeConversion) -> ConsoleResult<()> {
         TypeConversion::ToDecimal => call.say_result(DecimalDType::try_from(&dtype)),
         TypeConversion::ToPtype => call.say_result(PType::try_from(&dtype)),
         TypeConversion::AsPtype => {
-            unless(dtype.is_primitive(), "a primitive type")?;
+            unless(dtype.is_primitive(), "needs a primitive type")?;
             call.say(dtype.as_ptype())
         }
     }
@@ -155,7 +155,7 @@ fn list(call: &mut Call<'_>) -> ConsoleResult<()> {
 
 fn fixed_size_list(call: &mut Call<'_>) -> ConsoleResult<()> {
     let n = call.read()?;
-    let size = call.number("a size")?;
+    let size = call.number(A_SIZE)?;
     let element = call.last()?;
     call.write_result(DType::fixed_size_list(call.alloc, element, size, n))
 }
@@ -174,6 +174,6 @@ fn struct_(call: &mut Call<'_>) -> ConsoleResult<()> {
 /// Reads the last arguments of the line, names and as many types, and returns them.
 pub fn last_pairs(call: &mut Call<'_>) -> ConsoleResult<(FieldNames, Vec<FieldDType>)> {
     let (names, dtypes): (FieldNames, Vec<FieldDType>) = call.last()?;
-    unless(names.len() == dtypes.len(), "as many names as types")?;
+    unless(names.len() == dtypes.len(), "needs as many names as types")?;
     Ok((names, dtypes))
 }

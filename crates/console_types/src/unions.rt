@@ -48,7 +48,7 @@ fn by_index(call: &mut Call<'_>, command: UnionByIndex) -> ConsoleResult<()> {
     match command {
         UnionByIndex::VariantByIndex => call.write_option(variants.variant_by_index(index)),
         UnionByIndex::ChildIndexToTag => {
-            unless(index < variants.len(), "an index in range")?;
+            unless(index < variants.len(), "needs an index in range")?;
             call.say(variants.child_index_to_tag(index))
         }
     }

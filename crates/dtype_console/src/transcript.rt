@@ -82,8 +82,10 @@ impl Transcript {
 // Returns what a line came to that is answered by this error.
 fn outcome_of(error: &ConsoleError) -> Outcome {
     match error {
-        ConsoleError::Library { .. } | ConsoleError::Condition(_) => Outcome::Answered,
+        ConsoleError::Library { .. } | ConsoleError::Column { .. } | ConsoleError::Condition(_) =>
+            Outcome::Answered,
         ConsoleError::Unreadable { .. }
+        | ConsoleError::Misread { .. }
         | ConsoleError::UnknownWord { .. }
         | ConsoleError::UnknownName(_) => Outcome::Unread,
     }

@@ -15,9 +15,9 @@ use vortex_array::dtype::extension::{ExtDTypeRef, ForeignExtDType};
 use vortex_array::dtype::proto::dtype as pb;
 use vortex_array::dtype::proto::dtype::d_type::DtypeType;
 use vortex_array::dtype::session::DTypeSessionExt;
-use vortex_array::dtype::{half::f16, *};
+use vortex_array::dtype::*;
 
-use crate::line::{Argument, Bytes, Line, arguments};
+use crate::line::{Argument, Bytes, Line, Number, arguments, is_bare};
 use crate::living::{Living, Plugin, Session, cover, session, set};
 use crate::models::*;
 use crate::types::{Answer, Id, PTYPES, Stop, Tags, Text, Told, holding, id, joined, paths, several, stop};
@@ -26,23 +26,23 @@ type Command = Box<dyn Fn(&mut Line) -> Answer>;
 
 /// The conditions of the commands where the original panics.
 const CONDITIONS: [(&str, &str); 17] = [
-    ("a type that can be non-nullable", "as_nonnullable with_nullability extension_with_nullability"),
-    ("a type that can be non-nullable", "tag_with_nullability word_with_nullability"),
-    ("a primitive type", "as_ptype"),
-    ("a struct type", "as_struct_fields into_struct_fields"),
-    ("an extension type", "as_extension"),
-    ("as many names as types", "struct struct_new struct_from_fields struct_from_iter"),
-    ("an index in range", "child_index_to_tag names_at"),
-    ("a valid precision and scale", "decimal_new"),
-    ("at most the greatest precision", "by_precision"),
-    ("not f16", "match_each_simd"),
-    ("an integer", "match_each_integer"),
-    ("an unsigned integer", "match_each_unsigned"),
-    ("a signed integer", "match_each_signed"),
-    ("a float", "match_each_float"),
-    ("names", "starts_with_field"),
-    ("two unsigned names", "max_unsigned_ptype"),
-    ("two signed names", "max_signed_ptype"),
+    ("needs a type that can be non-nullable", "as_nonnullable with_nullability extension_with_nullability"),
+    ("needs a type that can be non-nullable", "tag_with_nullability word_with_nullability"),
+    ("needs a primitive type", "as_ptype"),
+    ("needs a struct type", "as_struct_fields into_struct_fields"),
+    ("needs an extension type", "as_extension"),
+    ("needs as many names as types", "struct struct_new struct_from_fields struct_from_iter"),
+    ("needs an index in range", "child_index_to_tag names_at"),
+    ("needs a valid precision and scale", "decimal_new"),
+    ("needs a precision up to the greatest of the type", "by_precision"),
+    ("needs a primitive type other than f16", "match_each_simd"),
+    ("needs an integer type", "match_each_integer"),
+    ("needs an unsigned integer type", "match_each_unsigned"),
+    ("needs a signed integer type", "match_each_signed"),
+    ("needs a float type", "match_each_float"),
+    ("needs a path whose first step is a name, and a name", "starts_with_field"),
+    ("needs two unsigned integer types", "max_unsigned_ptype"),
+    ("needs two signed integer types", "max_signed_ptype"),
 ];
 
 /// Adds commands that make one call each: the method of this type that the command is named for, or the one behind `=`.
@@ -104,10 +104,12 @@ impl Console {
     }
 
     fn told(&self, line: &mut Line) -> Answer {
-        let of_console = ["set", "session", "help"];
+        let of_console = ["set", "sets", "session", "sessions", "help"];
         match line.command(|it| of_console.contains(&it) || self.commands.contains_key(it))? {
             "set" => set(&mut self.sets.borrow_mut(), line),
             "session" => session(line),
+            "sets" => line.last::<()>().and_then(|()| self.sets.borrow().names()),
+            "sessions" => line.last::<()>().and_then(|()| self.sessions.borrow().names()),
             "help" => line.command(|it| self.commands.contains_key(it)).map(str::to_owned),
             name => {
                 let run = || self.commands[name](line);
@@ -237,7 +239,7 @@ fn insides(a: &DType, b: &DType, how: &str) -> Answer<bool> {
         (DType::Extension(a), DType::Extension(b)) => compared!(a, b),
         (DType::Map(a, _), DType::Map(b, _)) if how == "eq" => Ok(a == b),
         (DType::Map(a, _), DType::Map(b, _)) if how == "hash_eq" => Ok(hash_equally((a, b))),
-        _ => stop("not two of one kind"),
+        _ => stop("condition: needs two types of one such kind"),
     }
 }
 
@@ -263,7 +265,7 @@ fn add_structs(c: &mut Console) {
         fields(fields: StructFields) several(fields.fields());
         field_dtypes(fields: StructFields) several(fields.field_dtypes());
         project(names: FieldNames, fields: StructFields) project(names.as_ref(), &fields);
-        disjoint_merge(a: StructFields, b: StructFields) a.disjoint_merge(&b);
+        disjoint_merge(a: StructFields, b: StructFields) disjoint_merge(&a, &b);
         indented(fields: StructFields) Text(format!("{fields:#}"));
         union_new(names: FieldNames, types: Vec<DType>) UnionVariants::new(names, types);
         union_try_new(names: FieldNames, tags: Tags, types: Vec<DType>) UnionVariants::try_new(names, types, tags.0);
@@ -302,7 +304,7 @@ fn add_extensions(c: &mut Console) {
         path_message(parts: Vec<pb::Field>) several(&parts);
         read_path(path: Vec<pb::Field>) FieldPath::try_from(&pb::FieldPath { path });
         // (the original's conversion is prost's; what has no name is none)
-        pb_from_number(number: i64) usize::try_from(number).ok().and_then(|place| PTYPES.get(place).copied());
+        pb_from_number(number: i32) usize::try_from(number).ok().and_then(|place| PTYPES.get(place).copied());
         registry(session: Session, id: Id) session.made().dtypes().registry().get(&id.0).is_some();
         deserialize(session: Session, id: Id, metadata: Bytes, inner: DType) read_parts(session, id, metadata, inner);
         read(session: Session, message: pb::DType) read(&session.made(), &message);
@@ -375,8 +377,8 @@ macro_rules! of_named {
 
 /// Adds commands on a native type, `T`: each with what it takes besides the type's name, and what it answers.
 macro_rules! of_natives {
-    ($console:ident, $natives:tt: $($command:ident($($given:ident: $taken:ty),*) $answer:expr;)*) => {
-        $($console.add(stringify!($command), |(name, $($given,)*): (Integer, $($taken,)*)| -> Answer {
+    ($console:ident, $name:ty, $natives:tt: $($command:ident($($given:ident: $taken:ty),*) $answer:expr;)*) => {
+        $($console.add(stringify!($command), |(name, $($given,)*): ($name, $($taken,)*)| -> Answer {
             of_named!(name.0, $natives, $answer.told())
         });)*
     };
@@ -392,28 +394,33 @@ macro_rules! visitors {
 /// The name of a native integer.
 struct Integer(&'static str);
 
+/// The name of a native integer that may store decimals.
+struct OfDecimals(&'static str);
+
 /// The type of a native type, or of options and vectors of it.
 struct Native(DType);
 
-const INTEGERS: [&str; 9] = ["u8", "u16", "u32", "u64", "i8", "i16", "i32", "i64", "i128"];
+const INTEGERS: [&str; 8] = ["u8", "u16", "u32", "u64", "i8", "i16", "i32", "i64"];
+const OF_DECIMALS: [&str; 5] = ["i8", "i16", "i32", "i64", "i128"];
 
 arguments! {
     Integer: |line| line.one_of(&INTEGERS).map(Integer);
+    OfDecimals: |line| line.one_of(&OF_DECIMALS).map(OfDecimals);
     Native: |line| {
-        let mut around = String::new();
-        while let Some(one) = ["Option<", "Vec<"].into_iter().find(|it| line.eat(it)) {
-            around += one;
-        }
+        let around: Vec<&str> =
+            (0..2).map_while(|_| ["Option<", "Vec<"].into_iter().find(|it| line.eat(it))).collect();
+        let around = around.concat();
         let at = line.at;
-        let dtype = match line.take(|sign| sign.is_alphanumeric() || "&[]".contains(sign)) {
+        let borrowed = ["&str", "&[u8]"].into_iter().find(|it| line.eat(it));
+        let dtype = match borrowed.unwrap_or_else(|| line.take(is_bare)) {
             "String" => wrapped::<String>(&around),
             "&str" => wrapped::<&str>(&around),
             "&[u8]" => wrapped::<&[u8]>(&around),
-            base => of_named!(base, (u8 u16 u32 u64 i8 i16 i32 i64 f16 f32 f64 bool), wrapped::<T>(&around)),
+            base => of_named!(base, (u8 u16 u32 u64 i8 i16 i32 i64 bool), wrapped::<T>(&around)),
         };
         let dtype = dtype.or_else(|_| line.fail(at))?;
         for _ in around.matches('<') {
-            line.sign(">")?;
+            line.expect(">")?;
         }
         Ok(Native(dtype))
     };
@@ -454,32 +461,36 @@ fn add_numbers(c: &mut Console) {
         match_smallest_list_offset_type match_smallest_list_offset_type);
 }
 
-fn native<T: TryFrom<i128>>(value: i128) -> Answer<T> {
-    T::try_from(value).or_else(|_| stop("a value that isn't of the native type"))
+/// A number of the native type: a line with another fails where that stands.
+fn native<T: TryFrom<i128>>(Number(value, at): Number) -> Answer<T> {
+    T::try_from(value).or_else(|_| stop(format!("unreadable at {}", at + 1)))
 }
 
 fn add_natives(c: &mut Console) {
-    of_natives! { c, (i8 i16 i32 i64 i128):
+    of_natives! { c, OfDecimals, (i8 i16 i32 i64 i128):
         precision_scale(p: u8, s: i8) PrecisionScale::<T>::try_new(p, s).map(Text);
         precision_scale_from(decimal: DecimalDType) {
             let parts = PrecisionScale::<T>::try_from(&decimal)?;
             if DecimalDType::from(parts) == decimal { Ok(Text(parts)) } else { stop("the way back differs") }
         };
         precision_scale_to(p: u8, s: i8) PrecisionScale::<T>::try_new(p, s).map(DecimalDType::from);
-        precision_scale_is_valid(p: u8, s: i8, v: i128) PrecisionScale::<T>::try_new(p, s)?.is_valid(native(v)?);
+        precision_scale_is_valid(p: u8, s: i8, v: Number) {
+            let v = native(v)?;
+            PrecisionScale::<T>::try_new(p, s)?.is_valid(v)
+        };
         by_precision(at: usize) format!("{} {}", T::MIN_BY_PRECISION[at], T::MAX_BY_PRECISION[at]);
         native_decimal() format!("{} {} {} {}", T::DECIMAL_TYPE, T::MAX_PRECISION, T::MAX_SCALE, T::DECIMAL_TYPE);
     }
-    of_natives! { c, (u8 u16 u32 u64 i8 i16 i32 i64):
-        to_le_bytes(value: i128) Bytes(native::<T>(value)?.to_le_bytes().to_vec());
+    of_natives! { c, Integer, (u8 u16 u32 u64 i8 i16 i32 i64):
+        to_le_bytes(value: Number) Bytes(native::<T>(value)?.to_le_bytes().to_vec());
         try_from_le_bytes(bytes: Bytes) T::try_from_le_bytes(&bytes.0).map(Text);
-        total_compare(a: i128, b: i128) native::<T>(a)?.total_compare(native(b)?);
-        native_compare(a: i128, b: i128) {
+        total_compare(a: Number, b: Number) native::<T>(a)?.total_compare(native(b)?);
+        native_compare(a: Number, b: Number) {
             let (a, b): (T, T) = (native(a)?, native(b)?);
             let (le, lt, ge, gt) = (a.is_le(b), a.is_lt(b), a.is_ge(b), a.is_gt(b));
             holding([("is_le", le), ("is_lt", lt), ("is_ge", ge), ("is_gt", gt), ("is_eq", a.is_eq(b))])
         };
-        native_tests(value: i128) {
+        native_tests(value: Number) {
             let value: T = native(value)?;
             holding([("is_nan", value.is_nan()), ("is_infinite", value.is_infinite())])
         };

@@ -72,6 +72,17 @@ arguments! {
     Bytes: |line| line.expect("0x").map(|()| Bytes(std::iter::from_fn(|| line.byte()).collect()));
 }
 
+/// A number of a native type that the command's first argument names, and where it stands.
+#[derive(Clone, Copy)]
+pub struct Number(pub i128, pub usize);
+
+arguments! {
+    Number: |line| {
+        let at = line.at;
+        line.number().map(|number| Number(number, at))
+    };
+}
+
 /// A line, and where it is read. `sessions` are those that live.
 pub struct Line<'a> {
     text: &'a str,
@@ -105,9 +116,14 @@ impl<'a> Line<'a> {
             return self.fail(self.at);
         }
         let found = T::read(self)?;
+        self.separate().map(|()| found)
+    }
+
+    /// The blanks behind an argument: one at least, unless nothing follows.
+    pub fn separate(&mut self) -> Answer<()> {
         let at = self.at;
         self.blanks();
-        if at == self.at && !self.is_at_end() { self.fail(at) } else { Ok(found) }
+        if at == self.at && !self.is_at_end() { self.fail(at) } else { Ok(()) }
     }
 
     /// The last arguments.
@@ -119,9 +135,11 @@ impl<'a> Line<'a> {
     /// The name of a command.
     pub fn command(&mut self, is_known: impl Fn(&str) -> bool) -> Answer<&'a str> {
         let at = self.at;
-        let word = self.take(|sign| !sign.is_whitespace() && sign != '#');
-        self.blanks();
-        if is_known(word) { Ok(word) } else { self.fail(at) }
+        let word = self.take(is_bare);
+        if !is_known(word) {
+            return self.fail(at);
+        }
+        self.separate().map(|()| word)
     }
 
     pub fn rest(&self) -> &'a str {
@@ -156,37 +174,42 @@ impl<'a> Line<'a> {
         if self.eat(text) { Ok(()) } else { self.fail(self.at) }
     }
 
-    /// Whether the sign stands here, behind blanks if need be: it is read, and blanks behind it unless it closes.
-    pub fn has(&mut self, sign: &str) -> bool {
-        let at = self.at;
+    /// A text that stands here, and the blanks behind it.
+    pub fn open(&mut self, text: &str) -> Answer<()> {
+        self.expect(text).map(|()| self.blanks())
+    }
+
+    /// A text that stands behind blanks.
+    pub fn close(&mut self, text: &str) -> Answer<()> {
         self.blanks();
-        let is_here = self.eat(sign);
-        if !is_here {
-            self.at = at;
-        } else if !")}]".contains(sign) {
+        self.expect(text)
+    }
+
+    /// A sign with the blanks around it.
+    pub fn between(&mut self, sign: &str) -> Answer<()> {
+        self.close(sign).map(|()| self.blanks())
+    }
+
+    /// Items with commas between them, up to what closes them, behind which they begin.
+    pub fn items<T>(&mut self, close: &str, read: impl Fn(&mut Self) -> Answer<T>) -> Answer<Vec<T>> {
+        let mut found = Vec::new();
+        if self.eat(close) {
+            return Ok(found);
+        }
+        loop {
+            found.push(read(self)?);
             self.blanks();
+            if self.eat(close) {
+                return Ok(found);
+            }
+            self.open(",")?;
         }
-        is_here
-    }
-
-    pub fn sign(&mut self, sign: &str) -> Answer<()> {
-        if self.has(sign) {
-            return Ok(());
-        }
-        self.blanks();
-        self.fail(self.at)
-    }
-
-    /// What stands before a sign, and the sign.
-    pub fn before<T: Argument>(&mut self, sign: &str) -> Answer<T> {
-        let found = T::read(self)?;
-        self.sign(sign).map(|()| found)
     }
 
     /// What a word stands for.
     pub fn word<T>(&mut self, meant: impl FnOnce(&str) -> Option<T>) -> Answer<T> {
         let at = self.at;
-        let word = self.take(|sign| !is_blank(sign) && !",{}()[]\"?=:#".contains(sign));
+        let word = self.take(is_bare);
         self.found(at, meant(word))
     }
 
@@ -196,12 +219,13 @@ impl<'a> Line<'a> {
     }
 
     pub fn number<T: std::str::FromStr>(&mut self) -> Answer<T> {
-        self.word(|word| word.parse().ok().filter(|_| !word.starts_with('+')))
+        let at = self.at;
+        let word = self.take(|sign| is_bare(sign) || sign == '-');
+        self.found(at, word.parse().ok())
     }
 
     fn byte(&mut self) -> Option<u8> {
-        let is_other = |sign: char| sign == '+' || sign.is_uppercase();
-        let digits = self.rest().get(..2).filter(|it| !it.contains(is_other))?;
+        let digits = self.rest().get(..2).filter(|it| !it.starts_with('+'))?;
         let byte = u8::from_str_radix(digits, 16).ok()?;
         self.at += 2;
         Some(byte)
@@ -213,38 +237,95 @@ impl<'a> Line<'a> {
         Some(sign)
     }
 
-    /// A text in quotes.
+    /// A text in double quotes.
     pub fn text(&mut self) -> Answer<String> {
-        let (at, mut found) = (self.at, String::new());
+        let at = self.at;
         self.expect("\"")?;
-        while let Some(sign) = self.next() {
-            let escaped = if sign == '\\' { self.next() } else { None };
-            found.extend(match (sign, escaped) {
-                ('"', _) => return Ok(found),
-                (_, Some('t')) => Some('\t'),
-                (_, Some('n')) => Some('\n'),
-                (_, Some('r')) => Some('\r'),
-                (_, Some('x')) => self.byte().map(char::from).or(escaped),
-                ('\\', _) => escaped,
-                _ => Some(sign),
-            });
-        }
-        self.fail(at)
+        let bytes = self.quoted('"')?;
+        self.found(at + 1, String::from_utf8(bytes).ok())
     }
 
-    /// A name, or where dots may stand in it an id: bare, or in quotes.
-    pub fn name(&mut self, dots: bool) -> Answer<String> {
+    /// Texts in double or single quotes, one or more, with blanks between them.
+    pub fn texts(&mut self) -> Answer<Vec<u8>> {
+        let mut found = Vec::new();
+        let mut at = self.at;
+        while let Some(mark) = ['"', '\''].into_iter().find(|mark| self.rest().starts_with(*mark)) {
+            self.at += 1;
+            found.push(self.quoted(mark)?);
+            at = self.at;
+            self.blanks();
+        }
+        self.at = at;
+        if found.is_empty() { self.fail(at) } else { Ok(found.concat()) }
+    }
+
+    /// The bytes of what stands in quotes behind the opening one.
+    fn quoted(&mut self, mark: char) -> Answer<Vec<u8>> {
+        let mut found = Vec::new();
+        while let Some(sign) = self.next() {
+            if sign == mark {
+                return Ok(found);
+            }
+            if sign != '\\' {
+                found.extend(sign.to_string().into_bytes());
+                continue;
+            }
+            let at = self.at;
+            found.push(match self.next() {
+                Some('x') => {
+                    let at = self.at;
+                    let byte = self.byte();
+                    self.found(at, byte)?
+                }
+                Some('t') => b'\t',
+                Some('n') => b'\n',
+                Some('r') => b'\r',
+                Some(itself @ ('\\' | '"' | '\'')) => itself as u8,
+                _ => return self.fail(at),
+            });
+        }
+        self.fail(self.at)
+    }
+
+    /// A name: bare, where a dot may follow that of a step, or in quotes.
+    pub fn name(&mut self, is_step: bool) -> Answer<String> {
+        if self.rest().starts_with('"') {
+            return self.text();
+        }
+        let bare = self.bare(false)?;
+        if !is_step && self.rest().starts_with('.') { self.fail(self.at) } else { Ok(bare) }
+    }
+
+    /// A name, or where dots may stand in it an id, that is bare. Signs that often stand in names need quotes there.
+    pub fn bare(&mut self, dots: bool) -> Answer<String> {
+        let at = self.at;
         let bare = self.take(|sign| is_bare(sign) || dots && sign == '.');
-        if bare.is_empty() { self.text() } else { Ok(bare.to_owned()) }
+        self.plain(at, bare)?;
+        if bare.is_empty() || self.rest().starts_with(['-', '+', '#']) {
+            return self.fail(self.at);
+        }
+        Ok(bare.to_owned())
+    }
+
+    /// Fails where a bare text that begins at a byte has a character that no bare name has.
+    pub fn plain(&self, at: usize, bare: &str) -> Answer<()> {
+        let special = bare.char_indices().find(|(_, sign)| is_special(*sign));
+        special.map_or(Ok(()), |(place, _)| self.fail(at + place))
     }
 
     /// Items with commas between them.
     pub fn several<T>(&mut self, read: impl Fn(&mut Self) -> Answer<T>) -> Answer<Vec<T>> {
         let mut found = vec![read(self)?];
-        while self.has(",") {
+        loop {
+            let at = self.at;
+            self.blanks();
+            if !self.eat(",") {
+                self.at = at;
+                return Ok(found);
+            }
+            self.blanks();
             found.push(read(self)?);
         }
-        Ok(found)
     }
 
     /// The same, or `-` where there is none.
@@ -252,15 +333,15 @@ impl<'a> Line<'a> {
         if self.eat("-") { Ok(Vec::new()) } else { self.several(read) }
     }
 
-    /// A part of a type or a message, and the sign behind it.
-    pub fn inside<T>(&mut self, read: impl FnOnce(&mut Self) -> Answer<T>, behind: Option<&str>) -> Answer<T> {
-        self.level += 1;
-        if self.level > DEEPEST {
+    /// A part of a type or of a message, a level deeper.
+    pub fn inside<T>(&mut self, read: impl FnOnce(&mut Self) -> Answer<T>) -> Answer<T> {
+        if self.level == DEEPEST {
             return self.fail(self.at);
         }
+        self.level += 1;
         let found = read(self)?;
         self.level -= 1;
-        behind.map_or(Ok(()), |sign| self.sign(sign)).map(|()| found)
+        Ok(found)
     }
 }
 
@@ -271,4 +352,11 @@ pub fn is_blank(sign: char) -> bool {
 /// Whether a name needs no quotes for this character.
 pub fn is_bare(sign: char) -> bool {
     sign.is_ascii_alphanumeric() || sign == '_' || !sign.is_ascii()
+}
+
+/// Whether a name needs quotes for this character beyond ASCII: it can't be seen, or is a typographic quote.
+pub fn is_special(sign: char) -> bool {
+    matches!(sign as u32,
+        0x80..=0xa0 | 0xab | 0xad | 0xbb | 0x61c | 0x1680 | 0x180e | 0x2000..=0x200f | 0x2018..=0x201f
+        | 0x2028..=0x202f | 0x2039 | 0x203a | 0x205f..=0x206f | 0x3000 | 0xfeff | 0xfff9..=0xfffb)
 }

@@ -16,7 +16,7 @@ use vortex_session::VortexSession;
 use crate::errors::refused;
 use crate::line::{Bytes, Line, arguments};
 use crate::models::resolve;
-use crate::types::{Answer, Told, name, paths, stop};
+use crate::types::{Answer, Told, name, paths, several, stop};
 
 /// How many sets, and how many sessions, may live.
 const MOST: usize = 16;
@@ -30,9 +30,21 @@ impl<T: Clone + Default> Living<T> {
         let names: Vec<String> = self.0.iter().map(|(it, _)| name(it)).collect();
         match self.0.iter_mut().find(|(it, _)| it == sought) {
             Some((_, it)) => Ok(it),
-            None if names.is_empty() => stop(format!("unknown: no {kind} {sought}; there are none")),
-            None => stop(format!("unknown: no {kind} {sought}; there are: {}", names.join(", "))),
+            None if names.is_empty() => stop(format!("unknown: no {kind} {}; there are none", name(sought))),
+            None => stop(format!("unknown: no {kind} {}; there are: {}", name(sought), names.join(", "))),
         }
+    }
+
+    /// Removes the one of this name.
+    fn removed(&mut self, kind: &str, sought: &str) -> Answer<()> {
+        self.there(kind, sought)?;
+        self.0.retain(|(it, _)| it != sought);
+        Ok(())
+    }
+
+    /// The names of those that there are.
+    pub fn names(&self) -> Answer {
+        several(self.0.iter().map(|(it, _)| name(it)))
     }
 
     /// The same, where a command begins it that isn't there.
@@ -50,10 +62,16 @@ impl<T: Clone + Default> Living<T> {
 /// `session NAME` and a command of its own.
 pub fn session(line: &mut Line) -> Answer {
     let name: FieldName = line.argument()?;
-    let command = line.command(|it| matches!(it, "new" | "register" | "allow_unknown"))?;
+    let command = line.command(|it| matches!(it, "new" | "register" | "allow_unknown" | "drop"))?;
+    if command == "drop" {
+        line.sessions.borrow_mut().there("session", name.as_ref())?;
+    }
     let plugin = if command == "register" { Some(line.argument::<Plugin>()?.0) } else { None };
     line.last::<()>()?;
     let mut sessions = line.sessions.borrow_mut();
+    if command == "drop" {
+        return sessions.removed("session", name.as_ref()).and_then(|()| "ok".told());
+    }
     let words = sessions.begun("session", name.as_ref())?;
     match command {
         "new" => words.clear(),
@@ -67,18 +85,25 @@ pub fn session(line: &mut Line) -> Answer {
 pub fn set(sets: &mut Living<Vec<FieldPath>>, line: &mut Line) -> Answer {
     let name: FieldName = line.argument()?;
     let begins = |it: &str| matches!(it, "new" | "insert" | "extend");
-    let asks = |it: &str| matches!(it, "contains" | "below" | "missing" | "iter" | "cover" | "drain");
+    let asks = |it: &str| matches!(it, "contains" | "below" | "missing" | "iter" | "cover" | "drain" | "drop");
     let command = line.command(|it| begins(it) || asks(it))?;
     if asks(command) {
         sets.there("set", name.as_ref())?;
     }
     let given: Vec<FieldPath> = match command {
         "insert" | "contains" | "below" => vec![line.argument()?],
-        "extend" => line.argument()?,
+        "extend" => {
+            let first: FieldPath = line.argument()?;
+            let others: Vec<FieldPath> = line.argument()?;
+            [vec![first], others].concat()
+        }
         _ => Vec::new(),
     };
     let dtype = if command == "missing" { line.argument()? } else { DType::Null };
     line.last::<()>()?;
+    if command == "drop" {
+        return sets.removed("set", name.as_ref()).and_then(|()| "ok".told());
+    }
     let items = if begins(command) { sets.begun("set", name.as_ref())? } else { sets.there("set", name.as_ref())? };
     let set = FieldPathSet::from_iter(items.iter().cloned());
     match command {
@@ -207,14 +232,17 @@ impl Session {
 }
 
 arguments! {
-    Plugin: |line| line.one_of(&PLUGINS).map(Plugin);
+    Plugin: |line| {
+        let (at, plugin) = (line.at, PLUGINS.into_iter().find(|it| line.eat(it)));
+        line.found(at, plugin).map(Plugin)
+    };
     Session: |line| {
         if line.eat("@") {
             let name = line.name(false)?;
             return line.sessions.borrow_mut().there("session", &name).cloned().map(Session);
         }
-        let at = line.at;
         let word = |line: &mut Line| {
+            let at = line.at;
             let known = ["strict", "unknown"].into_iter().chain(PLUGINS).find(|it| line.eat(it));
             line.found(at, known)
         };

@@ -8,7 +8,7 @@ use vortex_array::dtype::proto::dtype::d_type::DtypeType;
 use vortex_array::dtype::proto::dtype::field::FieldType;
 use vortex_array::dtype::proto::dtype::*;
 
-use crate::line::{Argument, Line, arguments, is_blank};
+use crate::line::{Line, arguments, is_bare};
 use crate::types::{Answer, PTYPES, Told, quoted, told};
 
 /// Makes the kinds of messages: the word of each, its type, and its fields: texts, messages, others, nullable.
@@ -46,6 +46,11 @@ kinds! {
 
 /// A value as it is read behind the name of its field, and written with it.
 trait Value: Sized {
+    /// What is between the name and the value: a colon, which before a message may be left out.
+    fn colon(line: &mut Line) -> Answer<()> {
+        line.open(":")
+    }
+
     fn value(name: &str, line: &mut Line) -> Answer<Self>;
 
     fn text(&self, name: &str) -> Answer;
@@ -56,7 +61,6 @@ macro_rules! scalars {
         $(impl Value for $value {
             fn value(name: &str, line: &mut Line) -> Answer<Self> {
                 let read: fn(&str, &mut Line) -> Answer<Self> = $read;
-                line.sign(":")?;
                 read(name, line)
             }
 
@@ -69,11 +73,24 @@ macro_rules! scalars {
 }
 
 scalars! {
-    bool: |_, line| bool::read(line), |_, it| it.to_string();
+    bool: |_, line| line.word(flag), |_, it| it.to_string();
     u32: |_, line| line.number(), |_, it| it.to_string();
     i32: number, |name, it| PTYPES.get(*it as usize).filter(|_| name == "type").map_or(it.to_string(), in_capitals);
-    String: |_, line| line.text(), |_, it| quoted(it);
-    Vec<u8>: |_, line| Ok(line.text()?.chars().map(|sign| sign as u8).collect()), |_, it| quoted_bytes(it);
+    String: |_, line| joined(line), |_, it| quoted(it);
+    Vec<u8>: |_, line| line.texts(), |_, it| quoted_bytes(it);
+}
+
+fn flag(word: &str) -> Option<bool> {
+    match word {
+        "true" | "True" | "t" | "1" => Some(true),
+        "false" | "False" | "f" | "0" => Some(false),
+        _ => None,
+    }
+}
+
+fn joined(line: &mut Line) -> Answer<String> {
+    let (at, bytes) = (line.at, line.texts()?);
+    line.found(at + 1, String::from_utf8(bytes).ok())
 }
 
 /// The name of a primitive type that stands for its number in the field `type`.
@@ -82,7 +99,7 @@ fn in_capitals(ptype: &PType) -> String {
 }
 
 fn number(field: &str, line: &mut Line) -> Answer<i32> {
-    let is_name = field == "type" && line.rest().starts_with(char::is_alphabetic);
+    let is_name = field == "type" && line.rest().starts_with(|sign: char| sign.is_ascii_alphabetic());
     let of_name = |word: &str| PTYPES.iter().position(|it| in_capitals(it) == word).map(|number| number as i32);
     if is_name { line.word(of_name) } else { line.number() }
 }
@@ -99,10 +116,22 @@ fn quoted_bytes(bytes: &[u8]) -> String {
 
 /// A message within another: without its kind where nothing is in it.
 impl Value for DType {
+    fn colon(line: &mut Line) -> Answer<()> {
+        may_have_colon(line);
+        Ok(())
+    }
+
     fn value(_name: &str, line: &mut Line) -> Answer<Self> {
-        line.sign("{")?;
-        line.blanks();
-        if line.eat("}") { Ok(DType::default()) } else { line.inside(DType::read, Some("}")) }
+        line.inside(|line| {
+            let close = opened(line)?;
+            line.blanks();
+            if line.eat(close) {
+                return Ok(DType::default());
+            }
+            let kind = kind(line)?;
+            end(line);
+            line.close(close).map(|()| kind)
+        })
     }
 
     fn text(&self, name: &str) -> Answer {
@@ -111,7 +140,53 @@ impl Value for DType {
     }
 }
 
+fn may_have_colon(line: &mut Line) {
+    if line.eat(":") {
+        line.blanks();
+    }
+}
+
+/// The bracket that opens a message, by the one that closes it.
+fn opened(line: &mut Line) -> Answer<&'static str> {
+    if line.eat("<") { Ok(">") } else { line.expect("{").map(|()| "}") }
+}
+
+/// The comma or the semicolon that may stand behind a field.
+fn end(line: &mut Line) {
+    line.blanks();
+    let _ = line.eat(",") || line.eat(";");
+}
+
+/// A kind with its fields, which stand in any order.
+fn kind(line: &mut Line) -> Answer<DType> {
+    let at = line.at;
+    let word = line.take(is_bare);
+    let known = KINDS.iter().find(|(known, _)| *known == word);
+    let (_, make) = line.found(at, known)?;
+    line.blanks();
+    may_have_colon(line);
+    let close = opened(line)?;
+    let mut made = make();
+    let (_, mut fields) = fields_of(&mut made);
+    loop {
+        line.blanks();
+        if line.eat(close) {
+            break;
+        }
+        let place = line.word(|word| fields.iter().position(|(name, _)| *name == word))?;
+        line.blanks();
+        let (name, field) = &mut fields[place];
+        field.read_more(name, line)?;
+        end(line);
+    }
+    Ok(DType { dtype_type: Some(made) })
+}
+
 impl Value for Box<DType> {
+    fn colon(line: &mut Line) -> Answer<()> {
+        DType::colon(line)
+    }
+
     fn value(name: &str, line: &mut Line) -> Answer<Self> {
         DType::value(name, line).map(Box::new)
     }
@@ -130,10 +205,11 @@ trait Held {
 
 /// A field of one value isn't written where it is the default.
 macro_rules! held {
-    ($(<$item:ident> $held:ty: |$it:ident, $value:ident| $read:expr, $written:expr;)*) => {
+    ($(<$item:ident> $held:ty: |$it:ident, $name:ident, $line:ident| $read:expr, $written:expr;)*) => {
         $(impl<$item: Value + Clone + Default + PartialEq> Held for $held {
-            fn read_more(&mut self, name: &str, line: &mut Line) -> Answer<()> {
-                let ($it, $value) = (self, Value::value(name, line)?);
+            fn read_more(&mut self, $name: &str, $line: &mut Line) -> Answer<()> {
+                <$item as Value>::colon($line)?;
+                let $it = self;
                 Ok($read)
             }
 
@@ -146,37 +222,43 @@ macro_rules! held {
 }
 
 held! {
-    <T> T: |it, value| *it = value, Some(it).filter(|it| **it != T::default()).into_iter();
-    <T> Option<T>: |it, value| *it = Some(value), it.iter();
-    <T> Vec<T>: |it, value| it.push(value), it.iter();
+    <T> T: |it, name, line| *it = T::value(name, line)?, Some(it).filter(|it| **it != T::default()).into_iter();
+    <T> Option<T>: |it, name, line| *it = Some(T::value(name, line)?), it.iter();
+    <T> Vec<T>: |it, name, line| it.extend(values(name, line)?), it.iter();
+}
+
+/// A value of a field that may have several, or a list of them in square brackets.
+fn values<T: Value>(name: &str, line: &mut Line) -> Answer<Vec<T>> {
+    if !line.eat("[") {
+        return Ok(vec![T::value(name, line)?]);
+    }
+    line.blanks();
+    line.items("]", |line| T::value(name, line))
 }
 
 arguments! {
-    // The fields stand in any order.
     DType: |line| {
-        let kind = KINDS.iter().find(|(word, _)| {
-            let behind = line.rest().strip_prefix(word);
-            behind.is_some_and(|rest| rest.trim_start_matches(is_blank).starts_with('{'))
-        });
-        line.eat(kind.map_or("", |(word, _)| word));
-        line.sign("{")?;
-        line.blanks();
-        let mut dtype_type = kind.map(|(_, make)| make());
-        let mut fields = dtype_type.as_mut().map_or(Vec::new(), |kind| fields_of(kind).1);
-        while !line.eat("}") {
-            let place = line.word(|word| fields.iter().position(|(name, _)| *name == word))?;
-            let (name, field) = &mut fields[place];
-            field.read_more(name, line)?;
-            line.blanks();
+        if line.eat("{") {
+            return line.close("}").map(|()| DType::default());
         }
-        Ok(DType { dtype_type })
+        kind(line)
     };
     Field: |line| {
         line.expect("path")?;
-        line.sign("{")?;
-        let is_named = line.eat("name");
-        let field_type = if is_named { Some(FieldType::Name(String::value("name", line)?)) } else { None };
-        line.sign("}")?;
+        line.blanks();
+        may_have_colon(line);
+        let close = opened(line)?;
+        line.blanks();
+        let field_type = if line.eat("name") {
+            line.blanks();
+            line.open(":")?;
+            let name = joined(line)?;
+            end(line);
+            Some(FieldType::Name(name))
+        } else {
+            None
+        };
+        line.close(close)?;
         Ok(Field { field_type })
     };
 }

@@ -15,7 +15,7 @@ use vortex_array::dtype::{DType, Field, FieldName, FieldPath, MapDType, Nullabil
 use vortex_session::VortexSession;
 
 use crate::errors::refused;
-use crate::types::Answer;
+use crate::types::{Answer, Stop, name};
 
 /// The types that a type is made of.
 fn parts(dtype: &DType) -> Vec<DType> {
@@ -90,11 +90,22 @@ pub fn starts_with_field(path: &FieldPath, step: &Field) -> bool {
     !(path.is_root() && step.is_named()) && path.starts_with_field(step)
 }
 
-/// The original names what it doesn't find; here the error 16 has the position in the projection.
+/// The original names what it doesn't find; here the error 16 has the position in the projection, and the console the name.
 pub fn project(names: &[FieldName], fields: &StructFields) -> Answer<StructFields> {
     fields.project(names).map_err(|_| {
-        let missing = names.iter().position(|name| fields.find(name).is_none());
-        refused(16, &[("position", &missing.map_or("nowhere".to_owned(), |it| it.to_string()))])
+        let missing = names.iter().position(|name| fields.find(name).is_none()).expect("a name isn't found");
+        let Stop(text) = refused(16, &[("position", &missing.to_string())]);
+        Stop(format!("{text}: {}", name(names[missing].as_ref())))
+    })
+}
+
+/// The console names the first column that an earlier one is called like, which the original's error doesn't.
+pub fn disjoint_merge(a: &StructFields, b: &StructFields) -> Answer<StructFields> {
+    a.disjoint_merge(b).map_err(|error| {
+        let Stop(text) = error.into();
+        let names: Vec<&FieldName> = a.names().iter().chain(b.names().iter()).collect();
+        let repeated = (0..names.len()).find(|&place| names[..place].contains(&names[place])).expect("a name repeats");
+        Stop(format!("{text}: {}", name(names[repeated].as_ref())))
     })
 }
 

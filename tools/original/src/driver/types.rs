@@ -10,7 +10,7 @@ use vortex_array::dtype::extension::{ExtDTypeRef, ExtId, ForeignExtDType};
 use vortex_array::dtype::proto::dtype as pb;
 use vortex_array::dtype::*;
 
-use crate::line::{Argument, Bytes, Line, arguments, is_bare, is_blank};
+use crate::line::{Argument, Bytes, Line, arguments, is_bare, is_special};
 
 pub const PTYPES: [PType; 11] = {
     use PType::*;
@@ -31,7 +31,10 @@ arguments! {
     DecimalType: |line| line.one_of(&DECIMAL_TYPES);
     Nullability: |line| line.one_of(&["NonNullable", "Nullable"]).map(|word| (word == "Nullable").into());
     FieldName: |line| line.name(false).map(FieldName::from);
-    Id: |line| line.name(true).map(|id| Id(ExtId::new(&id)));
+    Id: |line| {
+        let id = if line.rest().starts_with('"') { line.text()? } else { line.bare(true)? };
+        Ok(Id(ExtId::new(&id)))
+    };
     FieldNames: |line| line.listed(FieldName::read).map(FieldNames::from);
     Tags: |line| line.listed(Line::number).map(Tags);
     Field: |line| {
@@ -39,7 +42,7 @@ arguments! {
             return Ok(Field::ElementType);
         }
         line.eat("$");
-        FieldName::read(line).map(Field::Name)
+        line.name(true).map(|name| Field::Name(FieldName::from(name)))
     };
     FieldPath: |line| {
         if line.eat(".") {
@@ -56,14 +59,12 @@ arguments! {
         if form == "all" {
             return Ok(FieldMask::All);
         }
-        line.blanks();
+        line.separate()?;
         FieldPath::read(line).map(if form == "prefix" { FieldMask::Prefix } else { FieldMask::Exact })
     };
     DecimalDType: |line| {
         line.expect("decimal")?;
-        line.sign("(")?;
-        let (precision, scale) = (line.before(",")?, line.before(")")?);
-        Ok(DecimalDType::try_new(precision, scale)?)
+        decimal(line)
     };
     // What a type of one kind holds is read as that type.
     StructFields: |line| inside(line, DType::as_struct_fields_opt);
@@ -80,62 +81,95 @@ fn inside<T: Clone>(line: &mut Line, held: fn(&DType) -> Option<&T>) -> Answer<T
 impl Argument for DType {
     fn read(line: &mut Line) -> Answer<Self> {
         let at = line.at;
-        if line.has("{") {
-            let fields = if line.has("}") { Vec::new() } else { line.inside(|it| it.several(field), Some("}"))? };
+        if line.eat("{") {
+            line.blanks();
+            let fields = line.items("}", field)?;
             return Ok(DType::Struct(StructFields::from_iter(fields), mark(line)));
         }
-        if line.rest().strip_prefix("decimal").is_some_and(|rest| rest.trim_start_matches(is_blank).starts_with('(')) {
-            return Ok(DType::Decimal(DecimalDType::read(line)?, mark(line)));
+        if line.rest().starts_with('"') {
+            let id = line.text()?;
+            return extension(line, &id);
         }
-        if let Some(kind) = ["list(", "fixed_size_list(", "map(", "union("].into_iter().find(|it| line.eat(it)) {
-            line.blanks();
-            return parted(line, kind);
-        }
-        let word = line.name(true)?;
-        if line.eat("[") {
-            line.blanks();
-            let Bytes(metadata) = line.before("]")?;
-            line.sign("(")?;
-            return Ok(DType::Extension(ForeignExtDType::from_parts(ExtId::new(&word), metadata, inner(line, ")")?)?));
+        let word = line.take(|sign| is_bare(sign) || sign == '.').to_owned();
+        if line.rest().starts_with('[') && !word.is_empty() {
+            line.plain(at, &word)?;
+            return extension(line, &word);
         }
         Ok(match word.as_str() {
+            "null" if line.rest().starts_with('?') => return line.fail(line.at),
             "null" => DType::Null,
             "bool" => DType::Bool(mark(line)),
             "utf8" => DType::Utf8(mark(line)),
             "binary" => DType::Binary(mark(line)),
             "variant" => DType::Variant(mark(line)),
+            "decimal" => DType::Decimal(decimal(line)?, mark(line)),
+            "list" => DType::List(wrapped(line)?, mark(line)),
+            "fixed_size_list" => {
+                let element = wrapped(line)?;
+                line.open("[")?;
+                let size = line.number()?;
+                line.close("]")?;
+                DType::FixedSizeList(element, size, mark(line))
+            }
+            "map" => map(line)?,
+            "union" => union(line)?,
             _ => DType::Primitive(line.found(at, PTYPES.into_iter().find(|it| it.to_string() == word))?, mark(line)),
         })
     }
 }
 
-/// The rest of a type of a kind with parts in round brackets.
-fn parted(line: &mut Line, kind: &str) -> Answer<DType> {
-    Ok(match kind {
-        "list(" => DType::List(Arc::new(inner(line, ")")?), mark(line)),
-        "fixed_size_list(" => {
-            let element = Arc::new(inner(line, ")")?);
-            line.sign("[")?;
-            DType::FixedSizeList(element, line.before("]")?, mark(line))
-        }
-        "map(" => {
-            let (key, value) = (inner(line, ",")?, inner(line, ",")?);
-            line.sign("keys_sorted")?;
-            line.sign("=")?;
-            let sorted = line.before(")")?;
-            DType::Map(MapDType::try_new(key, value, sorted)?, mark(line))
-        }
-        _ => {
-            let variants = if line.has(")") { Vec::new() } else { line.several(variant)? };
-            if !variants.is_empty() {
-                line.sign(")")?;
-            }
-            let (names, (types, tags)): (Vec<_>, (_, Vec<Option<u8>>)) = variants.into_iter().unzip();
-            // (a variant without a tag has its place as its tag)
-            let tags = tags.into_iter().enumerate().map(|(place, tag)| tag.unwrap_or(place as u8)).collect();
-            DType::Union(UnionVariants::try_new(names.into(), types, tags)?, mark(line))
-        }
-    })
+/// The precision and the scale behind `decimal`.
+fn decimal(line: &mut Line) -> Answer<DecimalDType> {
+    line.open("(")?;
+    let precision = line.number()?;
+    line.between(",")?;
+    let scale = line.number()?;
+    line.close(")")?;
+    Ok(DecimalDType::try_new(precision, scale)?)
+}
+
+/// A type in round brackets.
+fn wrapped(line: &mut Line) -> Answer<Arc<DType>> {
+    line.open("(")?;
+    let inner = line.inside(DType::read)?;
+    line.close(")").map(|()| Arc::new(inner))
+}
+
+/// The metadata and the storage behind an id.
+fn extension(line: &mut Line, id: &str) -> Answer<DType> {
+    line.open("[")?;
+    let Bytes(metadata) = Bytes::read(line)?;
+    line.close("]")?;
+    let storage = Arc::unwrap_or_clone(wrapped(line)?);
+    Ok(DType::Extension(ForeignExtDType::from_parts(ExtId::new(id), metadata, storage)?))
+}
+
+fn map(line: &mut Line) -> Answer<DType> {
+    line.open("(")?;
+    let key = line.inside(DType::read)?;
+    line.between(",")?;
+    let value = line.inside(DType::read)?;
+    line.between(",")?;
+    line.expect("keys_sorted")?;
+    line.between("=")?;
+    let sorted = bool::read(line)?;
+    line.close(")")?;
+    Ok(DType::Map(MapDType::try_new(key, value, sorted)?, mark(line)))
+}
+
+/// Variants, with a tag at each or at none.
+fn union(line: &mut Line) -> Answer<DType> {
+    line.open("(")?;
+    let variants = line.items(")", variant)?;
+    let (names, (types, tags)): (Vec<_>, (Vec<_>, Vec<Option<u8>>)) = variants.into_iter().unzip();
+    let names = FieldNames::from(names);
+    let tags: Vec<u8> = tags.into_iter().flatten().collect();
+    let union = match tags.len() {
+        0 => UnionVariants::new(names, types)?,
+        count if count == types.len() => UnionVariants::try_new(names, types, tags)?,
+        _ => return line.fail(line.at),
+    };
+    Ok(DType::Union(union, mark(line)))
 }
 
 /// The nullability that stands behind a type.
@@ -143,20 +177,18 @@ fn mark(line: &mut Line) -> Nullability {
     line.eat("?").into()
 }
 
-fn inner(line: &mut Line, behind: &str) -> Answer<DType> {
-    line.inside(DType::read, Some(behind))
-}
-
 fn field(line: &mut Line) -> Answer<(FieldName, DType)> {
-    Ok((line.before("=")?, DType::read(line)?))
+    let name = FieldName::read(line)?;
+    line.between("=")?;
+    Ok((name, line.inside(DType::read)?))
 }
 
 /// The name of a variant, its type, and its tag if there is one.
 fn variant(line: &mut Line) -> Answer<(FieldName, (DType, Option<u8>))> {
     let name = FieldName::read(line)?;
-    let tag = if line.has("@") { Some(line.number()?) } else { None };
-    line.sign("=")?;
-    Ok((name, (line.inside(DType::read, None)?, tag)))
+    let tag = if line.eat("@") { Some(line.number()?) } else { None };
+    line.between("=")?;
+    Ok((name, (line.inside(DType::read)?, tag)))
 }
 
 /// The answer to a line that has none by a call, as one that can't be read or an error.
@@ -263,7 +295,8 @@ pub fn quoted(text: &str) -> String {
 
 /// A name, or where dots may stand in it an id: bare where it can be.
 fn bare_or_quoted(text: &str, dots: bool) -> String {
-    let is_plain = !text.is_empty() && text.chars().all(|sign| is_bare(sign) || dots && sign == '.');
+    let is_bare = |sign: char| is_bare(sign) && !is_special(sign) || dots && sign == '.';
+    let is_plain = !text.is_empty() && text.chars().all(is_bare);
     if is_plain { text.to_owned() } else { quoted(text) }
 }
 

@@ -47,6 +47,11 @@ RUNS = [
     ("bin/driver", "sed 's/^/answer of /'", f"{FUZZ} 300", 0, "\n300 passed, 0 failed\n"),
     ("bin/driver", "sed 's/^/answer of /; 7s/^/no /'", f"{FUZZ} 300", 1, ", not no answer", "\n299 passed, 1 failed\n"),
     ("bin/driver", "sed 's/^/answer of /; 300d'", f"{FUZZ} 300", 1, "300 lines have 299 answers"),
+    # (that a line can't be read is told by both at the same byte, and what is expected there by the console alone)
+    ("bin/console", "sed 's/.*/unreadable at 3: expected a name/'", f"{FUZZ} 300", 1, " failed\n"),
+    ("bin/driver", "sed 's/.*/unreadable at 3/'", f"{FUZZ} 300", 0, "\n300 passed, 0 failed\n"),
+    ("bin/driver", "sed 's/.*/unreadable at 4/'", f"{FUZZ} 300", 1, "unreadable at 3, not unreadable at 4"),
+    ("bin/console", "sed 's/^/answer of /'", f"{FUZZ} 300", 1, " failed\n"),
     # (the five of the table, three of sets, two of sessions)
     ("bin/driver", "sed 's/^/answer of /'", f"{FUZZ} 3000", 0, "fuzz: 3000 lines of 10 commands, seed 1"),
 ]

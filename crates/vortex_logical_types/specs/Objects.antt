@@ -1,0 +1,196 @@
+-- SPDX-License-Identifier: Apache-2.0
+-- SPDX-FileCopyrightText: Copyright the Vortex contributors
+
+-- What slots have, and what exports over paths, sets, masks and messages return of it and leave in their slots. `code` is what
+-- the export returns: 2 if a slot has no object of the kind. `old` and `new` are what a slot or a number has before and after.
+use Rattle.std.specs.Prelude.{◌≡◌, ◌≢◌, ◌⊎◌, ◌+◌, ℕ, Bool, List, [], ◌∷◌, fold, length, map, Option, Some, None, Result, Ok, Err}
+use Rattle.std.specs.FinSet as set
+use Rattle.std.specs.Hash.DefaultHasher as sip
+use Rattle.std.specs.List.{flat_map}
+use Rattle.std.specs.declared.alloc.Global.{Global}
+use Rattle.std.specs.declared.vec.Vec.{Vec}
+use Rattle.c_objects.specs.declared.object.Object.{Object}
+use Rattle.c_objects.specs.declared.object.Object.TheVariants.{DType, Path, Set, Paths, Mask, Message}
+use Rattle.dtype_base.specs.declared.vortex_error.VortexError.{VortexError}
+use Rattle.dtype_base.specs.Errors.{number_of}
+use Rattle.dtype_messages.specs.Message.{Message as MessageTree}
+use Rattle.dtype_messages.specs.MessageOf.{message}
+use Rattle.dtype_paths.specs.Hashes.{path_writes}
+use Rattle.dtype_paths.specs.In.{mask_tail}
+use Rattle.dtype_paths.specs.PathOrder.{PathSet}
+use Rattle.dtype_paths.specs.PathPredicates.{PathPredicate, after_steps, no_path}
+use Rattle.dtype_paths.specs.declared.field.Field.{Field}
+use Rattle.dtype_paths.specs.declared.field.Field.TheVariants.{ElementType, Name}
+use Rattle.dtype_paths.specs.declared.field_mask.FieldMask.{FieldMask}
+use Rattle.dtype_paths.specs.declared.field_mask.FieldMask.TheVariants.{All, Exact, Prefix}
+use Rattle.vortex_logical_types.specs.Answers.{Buffer, Tells, WritesBytes}
+
+-- the object in a slot, if it is of the kind
+abbrev pub path_in : Option Object → Option (List Field)
+path_in (Some (Path p)) = Some p
+path_in _ = None
+
+abbrev pub set_in : Option Object → Option PathSet
+set_in (Some (Set s)) = Some s
+set_in _ = None
+
+abbrev pub paths_in : Option Object → Option (List (List Field))
+paths_in (Some (Paths ps)) = Some ps.items
+paths_in _ = None
+
+abbrev pub mask_in : Option Object → Option FieldMask
+mask_in (Some (Mask m)) = Some m
+mask_in _ = None
+
+abbrev pub message_in : Option Object → Option MessageTree
+message_in (Some (Message m)) = Some (message m)
+message_in _ = None
+
+-- a question about one object, or about two
+abbrev pub Asks : {X : Type 0} → Option X → (X → Type 0) → ℕ → Type 0
+Asks None P code = code ≡ 2
+Asks (Some x) P code = Tells code (P x)
+
+abbrev pub AsksBoth : {X Y : Type 0} → Option X → Option Y → (X → Y → Type 0) → ℕ → Type 0
+AsksBoth None y P code = code ≡ 2
+AsksBoth (Some x) None P code = code ≡ 2
+AsksBoth (Some x) (Some y) P code = Tells code (P x y)
+
+-- An object is put into a slot, if there is one, where `see` sees it; 100 means that an allocation failed. Except on 0 the
+-- slot keeps what it had.
+abbrev pub Gives : {Y : Type 0} → (Option Object → Option Y) → Option Y → ℕ → Option Object → Option Object → Type 0
+Gives see None code old new = (code ≡ 1) × (new ≡ old)
+Gives see (Some y) code old new = ((code ≡ 0) × (see new ≡ Some y)) ⊎ ((code ≡ 100) × (new ≡ old))
+
+-- what is put is made of one object, or of two
+abbrev pub GivesOf : {X Y : Type 0} → Option X → (Option Object → Option Y) → (X → Option Y) → ℕ → Option Object → Option Object → Type 0
+GivesOf None see f code old new = (code ≡ 2) × (new ≡ old)
+GivesOf (Some x) see f code old new = Gives see (f x) code old new
+
+abbrev pub GivesOfBoth : {X Y Z : Type 0} → Option X → Option Y → (Option Object → Option Z) → (X → Y → Option Z) → ℕ → Option Object → Option Object → Type 0
+GivesOfBoth None y see f code old new = (code ≡ 2) × (new ≡ old)
+GivesOfBoth (Some x) None see f code old new = (code ≡ 2) × (new ≡ old)
+GivesOfBoth (Some x) (Some y) see f code old new = Gives see (f x y) code old new
+
+-- the same where memory may run out before it is known that there is none
+abbrev pub GivesIf : {Y : Type 0} → (Option Object → Option Y) → Option Y → ℕ → Option Object → Option Object → Type 0
+GivesIf see None code old new = ((code ≡ 1) ⊎ (code ≡ 100)) × (new ≡ old)
+GivesIf see (Some y) code old new = ((code ≡ 0) × (see new ≡ Some y)) ⊎ ((code ≡ 100) × (new ≡ old))
+
+abbrev pub GivesIfOf : {X Y : Type 0} → Option X → (Option Object → Option Y) → (X → Option Y) → ℕ → Option Object → Option Object → Type 0
+GivesIfOf None see f code old new = (code ≡ 2) × (new ≡ old)
+GivesIfOf (Some x) see f code old new = GivesIf see (f x) code old new
+
+abbrev pub GivesIfOfBoth : {X Y Z : Type 0} → Option X → Option Y → (Option Object → Option Z) → (X → Y → Option Z) → ℕ → Option Object → Option Object → Type 0
+GivesIfOfBoth None y see f code old new = (code ≡ 2) × (new ≡ old)
+GivesIfOfBoth (Some x) None see f code old new = (code ≡ 2) × (new ≡ old)
+GivesIfOfBoth (Some x) (Some y) see f code old new = GivesIf see (f x y) code old new
+
+-- a list of paths is put into a slot: some list with the property P
+abbrev pub GivesList : (List (List Field) → Type 0) → ℕ → Option Object → Option Object → Type 0
+GivesList P code old new =
+    ((code ≡ 0) × ((ps : List (List Field)) × (paths_in new ≡ Some ps) × P ps)) ⊎ ((code ≡ 100) × (new ≡ old))
+
+abbrev pub GivesListOf : {X : Type 0} → Option X → (X → List (List Field) → Type 0) → ℕ → Option Object → Option Object → Type 0
+GivesListOf None P code old new = (code ≡ 2) × (new ≡ old)
+GivesListOf (Some x) P code old new = GivesList (P x) code old new
+
+abbrev pub GivesListOfBoth : {X Y : Type 0} → Option X → Option Y → (X → Y → List (List Field) → Type 0) → ℕ → Option Object → Option Object → Type 0
+GivesListOfBoth None y P code old new = (code ≡ 2) × (new ≡ old)
+GivesListOfBoth (Some x) None P code old new = (code ≡ 2) × (new ≡ old)
+GivesListOfBoth (Some x) (Some y) P code old new = GivesList (P x y) code old new
+
+-- a number is written, of one object
+abbrev pub WritesOf : {X Y : Type 0} → Option X → (X → Y) → ℕ → Y → Y → Type 0
+WritesOf None f code old new = (code ≡ 2) × (new ≡ old)
+WritesOf (Some x) f code old new = (code ≡ 0) × (new ≡ f x)
+
+-- A step is written: a name as its bytes, and the element as the greatest length, with nothing in the buffer.
+abbrev pub WritesStep : Option Field → ℕ → Buffer → Buffer → Type 0
+WritesStep None code old new = (code ≡ 1) × (new ≡ old)
+WritesStep (Some (Name n)) code old new = WritesBytes n code old new
+WritesStep (Some ElementType) code old new = (code ≡ 0) × (new.0 ≡ old.0) × (new.1 ≡ 18446744073709551615)
+
+abbrev pub WritesStepOf : {X : Type 0} → Option X → (X → Option Field) → ℕ → Buffer → Buffer → Type 0
+WritesStepOf None f code old new = (code ≡ 2) × (new ≡ old)
+WritesStepOf (Some x) f code old new = WritesStep (f x) code old new
+
+-- a set gains paths, or stays as it was if an allocation fails
+abbrev pub Gains : ℕ → PathSet → PathSet → PathSet → Type 0
+Gains code old more new = ((code ≡ 0) × (new ≡ more)) ⊎ ((code ≡ 100) × (new ≡ old))
+
+-- the same of slots that may have a set and something else
+abbrev pub GainsOf : {Y : Type 0} → Option PathSet → Option Y → (PathSet → Y → PathSet) → ℕ → Option Object → Option Object → Type 0
+GainsOf None y f code old new = (code ≡ 2) × (new ≡ old)
+GainsOf (Some s) None f code old new = (code ≡ 2) × (new ≡ old)
+GainsOf (Some s) (Some y) f code old new = ((code ≡ 0) × (set_in new ≡ Some (f s y))) ⊎ ((code ≡ 100) × (new ≡ old))
+
+-- the path without its first step
+abbrev pub tail_of : List Field → Option (List Field)
+tail_of [] = None
+tail_of (f ∷ p) = Some p
+
+-- a path, or a list of paths, that a call of the library made
+abbrev pub PutsPath : Result (List Field) VortexError → ℕ → Option Object → Option Object → Type 0
+PutsPath (Ok p) code old new = ((code ≡ 0) × (new ≡ Some (Path p))) ⊎ ((code ≡ 100) × (new ≡ old))
+PutsPath (Err e) code old new = (code ≡ 100 + number_of e) × (new ≡ old)
+
+abbrev pub PutsList : Result (Vec (List Field) Global) VortexError → ℕ → Option Object → Option Object → Type 0
+PutsList (Ok ps) code old new = ((code ≡ 0) × (new ≡ Some (Paths ps))) ⊎ ((code ≡ 100) × (new ≡ old))
+PutsList (Err e) code old new = (code ≡ 100 + number_of e) × (new ≡ old)
+
+-- which mask it is, and its path
+abbrev pub mask_number : FieldMask → ℕ
+mask_number All = 0
+mask_number (Prefix p) = 1
+mask_number (Exact p) = 2
+
+abbrev pub mask_path : FieldMask → Option (List Field)
+mask_path All = None
+mask_path (Prefix p) = Some p
+mask_path (Exact p) = Some p
+
+-- The mask after a step is put into a slot. The mask of the root alone has none, and the code is 120.
+abbrev pub PutsStepped : Option FieldMask → ℕ → Option Object → Option Object → Type 0
+PutsStepped None code old new = ((code ≡ 120) ⊎ (code ≡ 100)) × (new ≡ old)
+PutsStepped (Some m) code old new = ((code ≡ 0) × (mask_in new ≡ Some m)) ⊎ ((code ≡ 100) × (new ≡ old))
+
+abbrev pub SteppedMask : FieldMask → ℕ → Option Object → Option Object → Type 0
+SteppedMask m = PutsStepped (mask_tail m)
+
+abbrev pub StepsMask : Option FieldMask → ℕ → Option Object → Option Object → Type 0
+StepsMask None code old new = (code ≡ 2) × (new ≡ old)
+StepsMask (Some m) code old new = SteppedMask m code old new
+
+-- the bytes of a step, and the length that comes with them: the greatest of the step into the element
+abbrev pub step_bytes : Field → List ℕ
+step_bytes (Name n) = n
+step_bytes ElementType = []
+
+abbrev pub step_length : Field → ℕ
+step_length (Name n) = length n
+step_length ElementType = 18446744073709551615
+
+-- a path whose steps have these bytes and these lengths
+abbrev pub HasSteps : List ℕ → List ℕ → Option (List Field) → Type 0
+HasSteps bytes lengths None = ⊥
+HasSteps bytes lengths (Some p) = (flat_map step_bytes p ≡ bytes) × (map step_length p ≡ lengths)
+
+-- a set gains the path in a slot
+abbrev pub GainsPath : Option (List Field) → ℕ → PathSet → PathSet → Type 0
+GainsPath None code old new = (code ≡ 2) × (new ≡ old)
+GainsPath (Some p) code old new = Gains code old (set.insert old p) new
+
+-- Whether a path itself is asked for, among the paths w that a set asks for below it. If there is none the code is 1, and
+-- nothing is written.
+abbrev pub TellsBelow : PathPredicate → ℕ → Bool → Bool → Type 0
+TellsBelow w code old new = ((code ≡ 0) × (new ≡ w []) × (w ≢ no_path)) ⊎ ((code ≡ 1) × (new ≡ old) × (w ≡ no_path))
+
+abbrev pub BelowOf : Option PathSet → Option (List Field) → ℕ → Bool → Bool → Type 0
+BelowOf None p code old new = (code ≡ 2) × (new ≡ old)
+BelowOf (Some s) None code old new = (code ≡ 2) × (new ≡ old)
+BelowOf (Some s) (Some p) code old new = TellsBelow (after_steps p (set.contains s)) code old new
+
+-- the hash of a path by std's hasher
+abbrev pub hash_of_path : List Field → ℕ
+hash_of_path p = sip.finish (fold sip.write sip.initial (path_writes p))

@@ -1,0 +1,117 @@
+// SPDX-License-Identifier: Apache-2.0
+// SPDX-FileCopyrightText: Copyright the Vortex contributors
+
+// Several names that come in as one text, and the length of each. The length `ELEMENT` stands for the step into the element,
+// and has no bytes.
+ghost use Rattle.std.specs.Prelude.{◌≡◌, ◌++◌, ◌≢◌, map, IfOk, length};
+ghost use Rattle.std.specs.List.{flat_map};
+ghost use Rattle.vortex_logical_types.specs.Objects.{HasSteps, path_in, step_bytes, step_length};
+
+use crate::errors::{LIBRARY, NOT_UTF8, RANGE};
+use crate::objects::put;
+use crate::paths::ELEMENT;
+use c_objects::{Object, Slot};
+use dtype_base::{FieldName, VortexError};
+use dtype_paths::{Field, FieldPath};
+use std::alloc::{AllocError, AllocFailed, Global};
+use std::str;
+
+// Why steps can't be read.
+#[derive(Clone, Copy, Debug, PartialEq, Eq)]
+enum StepFault {
+    // An allocation failed.
+    OutOfMemory,
+    // A name isn't UTF-8.
+    NotUtf8,
+    // The lengths don't add up to the length of the text.
+    Lengths,
+}
+
+impl From<VortexError> for StepFault {
+    fn from(_error: VortexError) -> StepFault {
+        StepFault::OutOfMemory
+    }
+}
+
+impl From<AllocError> for StepFault {
+    fn from(_error: AllocError) -> StepFault {
+        StepFault::OutOfMemory
+    }
+}
+
+impl<T: Drop> From<AllocFailed<T>> for StepFault {
+    fn from(_error: AllocFailed<T>) -> StepFault {
+        StepFault::OutOfMemory
+    }
+}
+
+// The names that haven't been read.
+#[derive(Drop)]
+struct Names<'a> {
+    rest: &'a [u8],
+}
+
+impl<'a> Names<'a> {
+    // Takes the next step, which has this length.
+    fn step(&mut self, alloc: Global, length: usize) -> Result<Field, StepFault>
+        ensures bytes { IfOk result (λ f. self.old.rest.now ≡ step_bytes f ++ self.new.rest.now) }
+        ensures size { IfOk result (λ f. step_length f ≡ length) }
+    {
+        if length == ELEMENT {
+            return Ok(Field::ElementType);
+        }
+        if length > self.rest.len() {
+            return Err(StepFault::Lengths);
+        }
+        let (name, rest) = self.rest.split_at(length);
+        self.rest = rest;
+        match str::from_utf8(name) {
+            Ok(name) => Ok(Field::Name(FieldName::new(alloc, name)?)),
+            Err(_) => Err(StepFault::NotUtf8),
+        }
+    }
+}
+
+// Returns the steps that these names and lengths are.
+fn steps_of(alloc: Global, names: &[u8], lengths: &[usize]) -> Result<Vec<Field>, StepFault>
+    ensures bytes { IfOk result (λ v. flat_map step_bytes v.items ≡ names.now) }
+    ensures sizes { IfOk result (λ v. map step_length v.items ≡ lengths.now) }
+{
+    let mut names = Names { rest: names };
+    let mut steps = Vec::with_capacity(alloc, lengths.len())?;
+    for length in lengths {
+        steps.push(names.step(alloc, *length)?)?;
+    }
+    if names.rest.is_empty() {
+        Ok(steps)
+    } else {
+        Err(StepFault::Lengths)
+    }
+}
+
+fn code_of(fault: StepFault) -> u32
+    ensures { result ≢ 0 }
+{
+    match fault {
+        StepFault::OutOfMemory => LIBRARY,
+        StepFault::NotUtf8 => NOT_UTF8,
+        StepFault::Lengths => RANGE,
+    }
+}
+
+/// Puts the path of these steps.
+#[unsafe(no_mangle)]
+pub extern "C" fn vlt_path_from_steps(
+    alloc: Global,
+    names: &[u8],
+    name_lengths: &[usize],
+    out: &mut Slot,
+) -> u32
+    ensures made { result ≡ 0 → HasSteps names.now name_lengths.now (path_in out.new.value) }
+    ensures unchanged { result ≢ 0 → out.new.value ≡ out.old.value }
+{
+    match steps_of(alloc, names, name_lengths) {
+        Ok(steps) => put(alloc, out, Object::Path(FieldPath::from_vec(steps))),
+        Err(fault) => code_of(fault),
+    }
+}

@@ -15,6 +15,7 @@
 mod buffers;
 mod changes;
 mod constructors;
+mod cursors;
 mod error_texts;
 mod errors;
 mod general;

@@ -1,0 +1,152 @@
+// SPDX-License-Identifier: Apache-2.0
+// SPDX-FileCopyrightText: Copyright the Vortex contributors
+
+// What a set asks for below a path.
+ghost use Rattle.std.specs.Prelude.{◌≡◌, ◌≢◌};
+ghost use Rattle.std.specs.FinSet as set;
+ghost use Rattle.std.specs.declared.option.Option.TheVariants.{Some};
+ghost use Rattle.dtype_paths.specs.Cursors.{contains_below_if};
+ghost use Rattle.dtype_paths.specs.PathPredicates.{after_steps};
+ghost use Rattle.vortex_logical_types.specs.Objects.{BelowOf, TellsBelow, path_in, set_in};
+
+use crate::errors::{KIND, NONE, OK, of_library};
+use crate::objects::put;
+use c_objects::{Object, Slot};
+use dtype_base::VortexResult;
+use dtype_paths::{Field, FieldPath, FieldPathCursor, FieldPathSet};
+use std::alloc::Global;
+
+// Returns the cursor of the set at the path, if a path of the set goes on there.
+#[tactic(auto, using(std::proofs::lemmas::Grind::common_steps, crate::proofs::Below::below_none))]
+fn cursor_at<'a>(paths: &'a FieldPathSet, path: &FieldPath) -> Option<FieldPathCursor<'a>>
+    ensures { contains_below_if result ≡ after_steps path.now (set.contains paths.now) }
+{
+    let mut here = paths.cursor();
+    for step in path.parts() {
+        here = here.step(step)?;
+    }
+    Some(here)
+}
+
+/// Writes what the set asks for below the path: whether the path itself is in it, whether a path of it goes on with the
+/// element, and by how many names paths of it go on. Returns 1 if no path of the set begins with the path.
+#[unsafe(no_mangle)]
+pub extern "C" fn vlt_set_below(
+    alloc: Global,
+    paths: &mut Slot,
+    path: &mut Slot,
+    is_end: &mut bool,
+    has_element: &mut bool,
+    name_count: &mut usize,
+) -> u32
+    ensures answer { BelowOf (set_in paths.old.value) (path_in path.old.value) result is_end.old is_end.new }
+    ensures kept { (paths.new.value ≡ paths.old.value) × (path.new.value ≡ path.old.value) }
+{
+    let Some(object) = paths.take(alloc) else {
+        return KIND;
+    };
+    let answer = below_of(alloc, &object, path, is_end, has_element, name_count);
+    paths.put(object);
+    answer
+}
+
+fn below_of(
+    alloc: Global,
+    paths: &Object,
+    path: &mut Slot,
+    is_end: &mut bool,
+    has_element: &mut bool,
+    name_count: &mut usize,
+) -> u32
+    ensures answer { BelowOf (set_in (Some paths.now)) (path_in path.old.value) result is_end.old is_end.new }
+    ensures kept { path.new.value ≡ path.old.value }
+{
+    let Some(object) = path.take(alloc) else {
+        return KIND;
+    };
+    let answer = match (paths, &*object) {
+        (Object::Set(paths), Object::Path(path)) => {
+            below(paths, path, is_end, has_element, name_count)
+        }
+        _ => KIND,
+    };
+    path.put(object);
+    answer
+}
+
+fn below(
+    paths: &FieldPathSet,
+    path: &FieldPath,
+    is_end: &mut bool,
+    has_element: &mut bool,
+    name_count: &mut usize,
+) -> u32
+    ensures { TellsBelow (after_steps path.now (set.contains paths.now)) result is_end.old is_end.new }
+{
+    let Some(cursor) = cursor_at(paths, path) else {
+        return NONE;
+    };
+    if cursor.is_empty() {
+        return NONE;
+    }
+    *is_end = cursor.is_end();
+    *has_element = cursor.element().is_some();
+    *name_count = cursor.name_count();
+    OK
+}
+
+/// Puts the names by which paths of the set go on below the path: a list of paths of one step each, in no promised order.
+/// Returns 1 if no path of the set begins with the path.
+#[unsafe(no_mangle)]
+pub extern "C" fn vlt_set_names_below(
+    alloc: Global,
+    paths: &mut Slot,
+    path: &mut Slot,
+    out: &mut Slot,
+) -> u32
+    ensures unchanged { result ≢ 0 → out.new.value ≡ out.old.value }
+    ensures kept { (paths.new.value ≡ paths.old.value) × (path.new.value ≡ path.old.value) }
+{
+    let Some(object) = paths.take(alloc) else {
+        return KIND;
+    };
+    let answer = names_of(alloc, &object, path, out);
+    paths.put(object);
+    answer
+}
+
+fn names_of(alloc: Global, paths: &Object, path: &mut Slot, out: &mut Slot) -> u32
+    ensures unchanged { result ≢ 0 → out.new.value ≡ out.old.value }
+    ensures kept { path.new.value ≡ path.old.value }
+{
+    let Some(object) = path.take(alloc) else {
+        return KIND;
+    };
+    let answer = match (paths, &*object) {
+        (Object::Set(paths), Object::Path(path)) => names(alloc, paths, path, out),
+        _ => KIND,
+    };
+    path.put(object);
+    answer
+}
+
+fn names(alloc: Global, paths: &FieldPathSet, path: &FieldPath, out: &mut Slot) -> u32
+    ensures unchanged { result ≢ 0 → out.new.value ≡ out.old.value }
+{
+    let Some(cursor) = cursor_at(paths, path) else {
+        return NONE;
+    };
+    match names_at(alloc, cursor) {
+        Ok(names) => put(alloc, out, Object::Paths(names)),
+        Err(error) => of_library(error),
+    }
+}
+
+fn names_at(alloc: Global, cursor: FieldPathCursor<'_>) -> VortexResult<Vec<FieldPath>> {
+    let mut names = Vec::with_capacity(alloc, cursor.name_count())?;
+    for (name, _below) in cursor.names() {
+        let step = Field::Name(name.try_clone(alloc)?);
+        names.push(FieldPath::from_field(alloc, step)?)?;
+    }
+    Ok(names)
+}

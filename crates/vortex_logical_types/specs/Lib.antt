@@ -3,3 +3,4 @@
 
 pub mod Answers
 pub mod Objects
+pub mod Texts

@@ -30,6 +30,7 @@ mod paths;
 mod sets;
 mod steps;
 mod structs;
+mod texts;
 mod types;
 mod unions;
 mod wide;

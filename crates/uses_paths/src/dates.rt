@@ -10,7 +10,7 @@ ghost use Rattle.vortex_dtype.specs.Valid.{Valid};
 
 use vortex_dtype::{DType, DTypeSession, ExtDTypePlugin, ExtDTypeRef, VortexResult};
 
-/// A date over days: the extension `x.date` without metadata, as the session keeps it.
+/// Returns the extension `x.date` over days, without metadata, as the session keeps it.
 pub fn date(session: &DTypeSession, days: DType) -> VortexResult<ExtDTypeRef>
     ensures kept { Valid (tree days) → IfOk result (λ e.
         keeps (meaning (λ b. rewrites (b.vtable, b.value)) session.now) (codes "x.date") [] (tree days) ≡ Some (extension_metadata e)) }

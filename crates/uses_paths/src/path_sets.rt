@@ -160,7 +160,7 @@ pub fn least_of_copy(asked: &FieldPathSet) -> VortexResult<vec::IntoIter<FieldPa
     asked.try_clone()?.into_iter()
 }
 
-/// The columns to open for a query: a column that it asks for is under one of them.
+/// Returns the columns to open for a query. Each column of the query is under one of them.
 pub fn cover_of_query(
     alloc: Global,
     columns: Vec<FieldPath>,

@@ -20,7 +20,8 @@ use vortex_dtype::{
     DType, Field, FieldMask, FieldName, FieldPath, StructFields, VortexResult, field_path,
 };
 
-/// A column of a table: the type along its path, of which each value read there is.
+/// Returns the type at the path of a column in a table, or `None` if there is none. Each value that is read at that
+/// path is a value of that type.
 pub fn bind_column<'a>(column: &FieldPath, table: &'a DType) -> Option<&'a DType>
     ensures bound { IfSome result (λ u. At (tree table.now) column.now (tree u.now)) }
     ensures unbound { IfNone result ((u : Tree) → At (tree table.now) column.now u → ⊥) }

@@ -1,8 +1,9 @@
 // SPDX-License-Identifier: Apache-2.0
 // SPDX-FileCopyrightText: Copyright the Vortex contributors
 
-//! The recipes of `docs/GUIDE.md`, and others beside them, in plain code: what is proved of them is that they are safe and
-//! return. What each call gives is in its own contract.
+//! The recipes of `docs/GUIDE.md`, and others beside them, in plain code. It is proved that they are safe and that they
+//! return. They have no contracts, so that they do what their comments say isn't proved; what each call in them returns
+//! is in its own contract.
 use std::alloc::Global;
 use std::vec;
 use vortex_dtype::{
@@ -11,7 +12,7 @@ use vortex_dtype::{
     VortexError, VortexResult, field_path, pb, project_paths,
 };
 
-/// The columns `id=u64, name=utf8?`.
+/// Returns the columns `id=u64, name=utf8?`.
 pub fn customers(alloc: Global) -> VortexResult<StructFields> {
     let names = FieldNames::from_texts(alloc, &["id", "name"])?;
     let id = DType::from(PType::U64);
@@ -19,13 +20,13 @@ pub fn customers(alloc: Global) -> VortexResult<StructFields> {
     StructFields::new(alloc, names, vec![in alloc; id, name]?)
 }
 
-/// The columns asked, in the order asked.
+/// Returns the columns with these names, in this order. A name that no column has is an error (16).
 pub fn select(alloc: Global, table: &StructFields, columns: &[&str]) -> VortexResult<StructFields> {
     let columns = FieldNames::from_texts(alloc, columns)?;
     table.project(alloc, columns.as_slice())
 }
 
-/// The table with one column more at its end.
+/// Returns the table with one more column at its end. A name that a column already has is an error (18).
 pub fn with_column(
     alloc: Global,
     table: &StructFields,
@@ -37,7 +38,7 @@ pub fn with_column(
     table.disjoint_merge(alloc, &column)
 }
 
-/// The table without a column, or as it is where it has none of the name.
+/// Returns the table without the first column of this name, or a copy of the table if no column has the name.
 pub fn without_column(
     alloc: Global,
     table: &StructFields,
@@ -49,7 +50,7 @@ pub fn without_column(
     }
 }
 
-/// The table with each column `old` called `new`.
+/// Returns the table in which each column `old` is called `new`.
 pub fn renamed(
     alloc: Global,
     table: &StructFields,
@@ -68,18 +69,18 @@ pub fn renamed(
     StructFields::from_iter(alloc, fields)
 }
 
-/// How many columns may be null.
+/// Returns how many columns are nullable.
 pub fn nullable_columns(table: &StructFields) -> usize {
     table.fields().filter(|dtype| dtype.is_nullable()).count()
 }
 
-/// The type of each tag in `tags=list(..)`, or `None` where there is no such column.
+/// Returns the type of the elements of the list `tags`, or `None` if the table has no such list.
 pub fn tag_type<'a>(alloc: Global, table: &'a DType) -> VortexResult<Option<&'a DType>> {
     let path = field_path!(alloc, "tags")?.push(Field::ElementType)?;
     Ok(path.resolve(table))
 }
 
-/// The fewest columns to open for what a query asks.
+/// Returns the fewest columns that a query has to open.
 pub fn columns_to_open(
     alloc: Global,
     asked: Vec<FieldPath>,
@@ -87,13 +88,13 @@ pub fn columns_to_open(
     FieldPathSet::from_iter(alloc, asked)?.into_iter()
 }
 
-/// The table's type, pruned to what a query asks for: nested columns too.
+/// Returns the part of the table's type that a query opens, or `None` if the table has none of its columns.
 pub fn prune(alloc: Global, table: &DType, asked: Vec<FieldPath>) -> VortexResult<Option<DType>> {
     let columns = FieldPathSet::from_iter(alloc, asked)?;
     project_paths(alloc, table, &columns)
 }
 
-/// The columns `id`, `customer.city` and, of each item of the list `items`, `price`.
+/// Returns the paths `id`, `customer.city` and `items.[].price`.
 pub fn three_columns(alloc: Global) -> VortexResult<Vec<FieldPath>> {
     let id = field_path!(alloc, "id")?;
     let city = field_path!(alloc, "customer", "city")?;
@@ -104,12 +105,12 @@ pub fn three_columns(alloc: Global) -> VortexResult<Vec<FieldPath>> {
     Ok(vec![in alloc; id, city, price]?)
 }
 
-/// What is asked of a column, or `None` where a query asks for nothing in it.
+/// Returns a cursor to what a query wants of a column, or `None` if it wants nothing of it.
 pub fn asked_of_column<'a>(asked: &'a FieldPathSet, column: &Field) -> Option<FieldPathCursor<'a>> {
     asked.cursor().step(column)
 }
 
-/// What a mask asks below a column, or `None` where it asks for nothing there.
+/// Returns what a mask selects below a column, or `None` if it selects nothing there.
 pub fn mask_below_column(mask: FieldMask, column: &Field) -> VortexResult<Option<FieldMask>> {
     if mask.matches_all() {
         return Ok(Some(FieldMask::All));
@@ -120,7 +121,7 @@ pub fn mask_below_column(mask: FieldMask, column: &Field) -> VortexResult<Option
     Ok(Some(mask.step_into()?))
 }
 
-/// The type made non-nullable, or `None` where it can't be: of `Null`, and of an extension over it.
+/// Returns the type made non-nullable, or `None` if it can't be: `Null` can't, nor can an extension over it.
 pub fn required(alloc: Global, dtype: &DType) -> VortexResult<Option<DType>> {
     if !dtype.can_be_nonnullable() {
         return Ok(None);
@@ -128,14 +129,33 @@ pub fn required(alloc: Global, dtype: &DType) -> VortexResult<Option<DType>> {
     Ok(Some(dtype.as_nonnullable(alloc)?))
 }
 
-/// A stored schema, with extensions of any id kept as they are.
+/// Reads a stored schema, and keeps extensions with unknown ids as they are.
 pub fn read_keeping_unknown(alloc: Global, stored: &pb::DType) -> VortexResult<DType> {
     let mut session = DTypeSession::new(alloc);
     session.allow_unknown();
     DType::from_proto(alloc, stored, &session)
 }
 
-/// The names that an encoder writes for a struct's message.
+/// The part of a stored schema that a query opens, or `None` if the schema lacks a column of the query.
+pub fn open_stored(
+    alloc: Global,
+    stored: &pb::DType,
+    query: Vec<FieldPath>,
+) -> VortexResult<Option<DType>> {
+    // Read the message. The session keeps extensions whose id is unknown.
+    let mut session = DTypeSession::new(alloc);
+    session.allow_unknown();
+    let schema = DType::from_proto(alloc, stored, &session)?;
+    // Bind the query: each of its columns must exist in the schema.
+    let columns = FieldPathSet::from_iter(alloc, query)?;
+    if !columns.unresolved(&schema)?.is_empty() {
+        return Ok(None);
+    }
+    // Project the schema to the columns.
+    project_paths(alloc, &schema, &columns)
+}
+
+/// Returns the names that an encoder writes for the message of a struct, or `None` for another message.
 pub fn names_to_encode(message: &pb::DType) -> Option<&[String]> {
     match &message.dtype_type {
         Some(pb::DtypeType::Struct(fields)) => Some(&fields.names),
@@ -143,7 +163,7 @@ pub fn names_to_encode(message: &pb::DType) -> Option<&[String]> {
     }
 }
 
-/// A column in a schema of another kind, as Arrow's.
+/// A column in a schema of another kind, such as one of Arrow.
 #[derive(Debug, Drop)]
 pub struct Column {
     pub name: String,
@@ -151,7 +171,7 @@ pub struct Column {
     pub nullable: bool,
 }
 
-/// What a column holds.
+/// What a column contains.
 #[derive(Clone, Copy, Debug)]
 pub enum ColumnKind {
     Boolean,
@@ -159,7 +179,7 @@ pub enum ColumnKind {
     Utf8,
 }
 
-/// The type of a table of these columns.
+/// Returns the type of a table with these columns.
 pub fn table_type(alloc: Global, columns: &[Column]) -> VortexResult<DType> {
     let mut fields = Vec::new(alloc);
     for column in columns {
@@ -175,12 +195,12 @@ pub fn table_type(alloc: Global, columns: &[Column]) -> VortexResult<DType> {
     DType::struct_(alloc, fields, Nullability::NonNullable)
 }
 
-/// Whether the same call may succeed later: only where it ran out of memory.
+/// Returns whether the same call may succeed later, which is so only if an allocation failed.
 pub fn is_worth_retrying(error: &VortexError) -> bool {
     error.number() == 0
 }
 
-/// Whether a message has an extension that the session doesn't know.
+/// Returns whether the error says that a message contains an extension that the session doesn't know.
 pub fn has_unknown_extension(error: &VortexError) -> bool {
     matches!(
         error,

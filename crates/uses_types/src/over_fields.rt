@@ -12,7 +12,7 @@ ghost use Rattle.dtype_types.specs.tree.TreeOf.{children, variant_list, struct_p
 
 use dtype_types::{DType, StructFields, UnionVariants};
 
-/// Whether every column may be null.
+/// Returns whether every column is nullable.
 pub fn all_nullable(table: &StructFields) -> bool
     ensures { IsTrue result ↔ All IsNullable (field_types (children table.now)) }
 {

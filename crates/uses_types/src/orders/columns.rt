@@ -10,7 +10,7 @@ ghost use Rattle.vortex_dtype.specs.TreeOf.{tree};
 use std::alloc::Global;
 use vortex_dtype::{DType, Field, VortexResult, field_path};
 
-/// The type of a column of the customer: the one along its path, or `None` where there is none.
+/// Returns the type of a column of the customer, or `None` if the customer has no such column.
 pub fn customer_column<'a>(
     alloc: Global,
     orders: &'a DType,

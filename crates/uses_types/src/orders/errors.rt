@@ -42,7 +42,7 @@ impl fmt::Display for ShopError {
 
 impl Error for ShopError {}
 
-/// The type of a column that the customer must have. A column that isn't there is an error.
+/// Returns the type of a column that the customer must have. A column that isn't there is an error.
 pub fn required_column<'a>(
     alloc: Global,
     orders: &'a DType,

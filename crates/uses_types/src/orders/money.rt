@@ -13,7 +13,7 @@ use vortex_dtype::{DType, ExtVTable, VortexError, VortexResult};
 #[derive(Debug, Drop, PartialEq, Eq)]
 pub struct Currency(pub Vec<u8>);
 
-/// The library of `shop.money`: over every storage, with a currency as metadata.
+/// The vtable of `shop.money`. Its metadata is a currency, and it accepts every storage type.
 #[derive(Debug, Default, Drop)]
 pub struct Money;
 
@@ -59,7 +59,7 @@ impl ExtVTable for Money {
     ghost typed = { λ _. money_typed };
 }
 
-// The bytes, where they are three.
+// Returns the bytes if there are three.
 fn three_bytes(alloc: Global, bytes: &[u8]) -> VortexResult<Vec<u8>>
     ensures ok { IfOk result (λ v. currency bytes.now ≡ Some v.items) }
     ensures errors { IfErr result (λ e. (e ≡ OutOfMemory)

@@ -12,7 +12,7 @@ use std::alloc::Global;
 use std::vec;
 use vortex_dtype::{FieldPath, FieldPathSet, VortexResult, field_path};
 
-/// The paths of `select customer.name, customer from orders`.
+/// Returns the paths of `select customer.name, customer from orders`.
 pub fn asked(alloc: Global) -> VortexResult<FieldPathSet>
     ensures { IsOkUnless result OutOfMemory }
 {
@@ -22,7 +22,7 @@ pub fn asked(alloc: Global) -> VortexResult<FieldPathSet>
     Ok(asked)
 }
 
-/// The columns to open for the paths that are asked: the least that cover them.
+/// Returns the columns to open for these paths: the least paths that cover them.
 pub fn columns_to_open(asked: FieldPathSet) -> VortexResult<vec::IntoIter<FieldPath>>
     ensures { IfOk result (λ r. set_of (into_iter_items r) ≡ least asked) }
 {

@@ -10,7 +10,7 @@ ghost use Rattle.uses_types.specs.Orders.{orders_tree};
 use std::alloc::Global;
 use vortex_dtype::{DType, FieldDType, FieldName, Nullability, PType, VortexResult};
 
-/// The type {id=u64, customer={name=utf8, city=utf8?}}.
+/// Returns the type {id=u64, customer={name=utf8, city=utf8?}}.
 pub fn orders(alloc: Global) -> VortexResult<DType>
     ensures { IfOk result (λ d. tree d ≡ orders_tree) }
 {

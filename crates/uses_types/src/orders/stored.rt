@@ -11,8 +11,8 @@ ghost use Rattle.vortex_dtype.specs.TreeOf.{tree};
 use std::alloc::Global;
 use vortex_dtype::{DType, DTypeProto, DTypeSession, ExtDTypePlugin, VortexResult, pb};
 
-/// A stored schema as the session reads it: the type that the message says, valid, and with each
-/// extension's metadata as the session keeps it.
+/// Reads a stored schema under a session. Returns the type that the message describes, with the metadata of each
+/// extension as the session keeps it.
 pub fn read_schema(alloc: Global, stored: &pb::DType, session: &DTypeSession) -> VortexResult<DType>
     ensures { IfOk result (λ d.
         Accepts (meaning (λ b. rewrites (b.vtable, b.value)) session.now) (message stored.now) (tree d)) }

@@ -20,7 +20,7 @@ from itertools import takewhile
 FROM = os.getcwd()
 os.chdir(os.path.dirname(os.path.dirname(os.path.realpath(__file__))))
 RT = shutil.which("rt") or "/opt/rattle/bin/rt"
-CRATE = re.compile(r"(?m)^(\w+):([^#\n]*)")
+CRATE = re.compile(r"(?m)^(\w+)(?: staticlib)?:([^#\n]*)")
 
 # `kind` is requires, ensures or ghost, and `name` is empty where a clause has none.
 Clause = namedtuple("Clause", "kind name text")

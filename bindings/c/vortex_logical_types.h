@@ -1,0 +1,1183 @@
+// SPDX-License-Identifier: Apache-2.0
+// SPDX-FileCopyrightText: Copyright the Vortex contributors
+
+/* The logical types of columnar data, paths into them, and schemas as messages: the C interface of a library that is
+ * proved up to the functions below. Each of them has a contract in crates/vortex_logical_types that says what it returns.
+ *
+ * Slots. An object (a type, a path, a set of paths ..) stands in a slot, which owns it. Begin a slot as {0}, which is
+ * empty, and empty it with vlt_free when it isn't needed any more. Never copy a slot by =, because then two slots own one
+ * object. A slot that a call reads keeps its object. The slot `out` takes the result if the call returns VLT_DONE, and
+ * what was in it before is dropped then; after any other return it is as it was. Two slots of one call must differ; if
+ * they don't, the call returns VLT_SAME_SLOT and changes nothing.
+ *
+ * Results. Each call returns a number: 0 (VLT_DONE: done, or true), 1 (VLT_NONE: none, or false), 2 to 99 for what is wrong
+ * with the arguments, or 100 + n for the error n of the library, of which 100 is that memory ran out. vlt_error_text
+ * returns what a number means.
+ *
+ * Texts and bytes. They come in as a pointer and a length, may contain zero bytes, and are copied. The pointer may be null
+ * if the length is 0. They go out into `buffer`, of which `buffer_len` says how large it is: on VLT_DONE `*length` bytes
+ * were written, without a zero byte behind them. If the buffer is too small, the call returns VLT_SMALL, `*length` is
+ * the size that is needed, and nothing is written. So a call with the buffer null and the length 0 asks for the size.
+ * Several names come in as one text, `names`, in which they stand one behind the other with nothing between, and the
+ * length of each, `name_lengths`. In the steps of a path a length of VLT_ELEMENT stands for the step into the element
+ * of a list, and has no bytes in `names`. A step that goes out as VLT_ELEMENT in `*length` has written no bytes.
+ *
+ * What the caller owes, and no call can test: pointers are valid for their lengths; a pointer to a slot or to an
+ * out-parameter isn't null, and neither it nor a buffer overlaps another argument of the call; a slot is empty or was
+ * filled by the library; and an object, with all that was copied from it, stays on the thread that made it, because
+ * types share their parts and count them without a lock. To take a type to another thread, send its text or its nodes. */
+#ifndef VORTEX_LOGICAL_TYPES_H
+#define VORTEX_LOGICAL_TYPES_H
+
+#include <stdbool.h>
+#include <stddef.h>
+#include <stdint.h>
+
+#ifdef __cplusplus
+extern "C" {
+#endif
+
+/* A place for one object, which it owns, or for none. */
+typedef struct {
+    void *at;
+} vlt_slot;
+
+/* The version of the interface that this header declares. vlt_abi_version returns that of the library. */
+#define VLT_ABI_VERSION 1u
+
+/* The length that stands for the step into an element, in place of that of a name. */
+#define VLT_ELEMENT ((size_t)-1)
+
+/* An address for no items at all, since a null pointer isn't accepted for them. */
+static inline void *vlt_no_items(void) {
+    static size_t none[2];
+    return none;
+}
+
+/* Whether a slot is one of these. */
+static inline bool vlt_is_among(const vlt_slot *slot, const vlt_slot *slots, size_t slots_len) {
+    return (uintptr_t)slot - (uintptr_t)slots < slots_len * sizeof(vlt_slot);
+}
+
+/* begin of what tools/bindings writes */
+/* What a call returns. */
+/* It is done, or it is true. */
+#define VLT_DONE 0u
+/* There is none, or it is false. */
+#define VLT_NONE 1u
+/* A slot is empty, or its object has another kind than the call takes. */
+#define VLT_KIND 2u
+/* A text isn't UTF-8. */
+#define VLT_UTF8 3u
+/* A text can't be read. The out-parameter has the byte's position, from 1. */
+#define VLT_UNREADABLE 4u
+/* The call has a precondition, and the arguments don't meet it. */
+#define VLT_CONDITION 5u
+/* A type or a message would be nested more than 128 levels deep. */
+#define VLT_DEEP 6u
+/* A buffer is too small. The out-parameter has the size that is needed. */
+#define VLT_SMALL 7u
+/* Two slots of the call are one. */
+#define VLT_SAME_SLOT 8u
+/* An argument is out of its range. */
+#define VLT_RANGE 9u
+/* The library's error 0, out of memory. Its error n, up to 36, is this number and n. */
+#define VLT_LIBRARY 100u
+
+/* A message, a text or a tag in the flat form. A message is followed by its texts, its tags and then its parts, each
+ * with what follows it. Fields that a kind doesn't use are 0. */
+typedef struct {
+    /* 0 of a message without a kind; 1 null, 2 bool, 3 primitive, 4 decimal, 5 utf8, 6 binary, 7 list, 8 fixed-size list,
+     * 9 map, 10 struct, 11 union, 12 variant, 13 extension; 14 of a text, 15 of a tag. */
+    uint32_t kind;
+    /* 1 if values may be null, else 0. */
+    uint8_t nullable;
+    /* 1 if a map's keys are declared to be sorted, else 0. */
+    uint8_t keys_sorted;
+    /* 1 if a list's element, a map's key or an extension's storage follows, else 0. */
+    uint8_t has_first;
+    /* 1 if a map's value or the text of an extension's metadata follows, else 0. */
+    uint8_t has_second;
+    /* How many names follow a struct or a union. */
+    uint32_t names;
+    /* How many tags follow a union. */
+    uint32_t tags;
+    /* How many types follow a struct or a union. */
+    uint32_t types;
+    /* A decimal's precision, a fixed-size list's size, or how many bytes a text has. */
+    uint32_t number;
+    /* A primitive type's number, a decimal's scale, or a tag. */
+    int32_t value;
+} vlt_node;
+
+/* Writes the answer of the console to one line, which is given without its newline. The answer is a text also if the
+ * line can't be read, or if the call that it names returns an error.
+ *
+ * Returns 1 if the line has no answer, because it is blank, a comment or `exit`. No line knows the sets and sessions that
+ * an earlier line named. */
+uint32_t vlt_answer(const uint8_t *line, size_t line_len, uint8_t *buffer, size_t buffer_len, size_t *length);
+
+/* Returns the version of this interface: 1. */
+uint32_t vlt_abi_version(void);
+
+/* Drops the object in the slot, if there is one, and leaves the slot empty. */
+void vlt_free(vlt_slot *slot);
+
+/* Returns the kind of the object in the slot: 0 none, 1 a type, 2 a path, 3 a set of paths, 4 a list of paths, 5 a mask,
+ * 6 the message of a type. */
+uint32_t vlt_kind(vlt_slot *slot);
+
+/* Puts the element type of a list or of a fixed-size list. */
+uint32_t vlt_dtype_element(vlt_slot *dtype, vlt_slot *out);
+
+/* Puts the key type of a map. */
+uint32_t vlt_dtype_key(vlt_slot *dtype, vlt_slot *out);
+
+/* Puts the value type of a map. */
+uint32_t vlt_dtype_value(vlt_slot *dtype, vlt_slot *out);
+
+/* Puts the storage type of an extension. */
+uint32_t vlt_dtype_storage(vlt_slot *dtype, vlt_slot *out);
+
+/* Writes the number of a primitive type: 0 u8, 1 u16, 2 u32, 3 u64, 4 i8, 5 i16, 6 i32, 7 i64, 8 f16, 9 f32, 10 f64. */
+uint32_t vlt_dtype_ptype(vlt_slot *dtype, uint32_t *number);
+
+/* Puts a copy of the type. */
+uint32_t vlt_dtype_copy(vlt_slot *dtype, vlt_slot *out);
+
+/* Returns 0 if the types are equal. */
+uint32_t vlt_dtype_eq(vlt_slot *one, vlt_slot *other);
+
+/* Returns 0 if the types are equal when every nullability in them is ignored. */
+uint32_t vlt_dtype_eq_ignore_nullability(vlt_slot *one, vlt_slot *other);
+
+/* Returns 0 if the types are equal except for nullabilities, and the other is nullable wherever the first is. */
+uint32_t vlt_dtype_nullability_subset(vlt_slot *one, vlt_slot *other);
+
+/* Returns 0 if the types are equal except for nullabilities, and the first is nullable wherever the other is. */
+uint32_t vlt_dtype_nullability_superset(vlt_slot *one, vlt_slot *other);
+
+/* Puts the least type that takes the values of both, if there is one. */
+uint32_t vlt_dtype_merge_nullability(vlt_slot *one, vlt_slot *other, vlt_slot *out);
+
+/* Puts the greatest type whose values both take, if there is one. */
+uint32_t vlt_dtype_intersect_nullability(vlt_slot *one, vlt_slot *other, vlt_slot *out);
+
+/* Writes the kind of the type: 0 null, 1 bool, 2 primitive, 3 decimal, 4 utf8, 5 binary, 6 list, 7 fixed-size list, 8 map,
+ * 9 struct, 10 union, 11 variant, 12 extension. */
+uint32_t vlt_dtype_kind(vlt_slot *dtype, uint32_t *number);
+
+/* Returns 0 if values of the type may be null. */
+uint32_t vlt_dtype_is_nullable(vlt_slot *dtype);
+
+/* Returns 0 if the type can be made non-nullable: not null, nor an extension over it. */
+uint32_t vlt_dtype_can_be_nonnullable(vlt_slot *dtype);
+
+/* Puts the path of no step. */
+uint32_t vlt_path_root(vlt_slot *out);
+
+/* Puts the path of these steps. 3 where a name isn't UTF-8, 9 where the lengths don't add up. */
+uint32_t vlt_path_from_steps(
+        const uint8_t *names, size_t names_len, const size_t *name_lengths, size_t name_lengths_len, vlt_slot *out);
+
+/* Reads a path in the console's form, such as `a.[].b`, or `.` for the root. */
+uint32_t vlt_path_from_text(const uint8_t *text, size_t text_len, vlt_slot *out, size_t *position);
+
+/* Writes a path in the console's form, which reads back as the same path. */
+uint32_t vlt_path_to_text(vlt_slot *path, uint8_t *buffer, size_t buffer_len, size_t *length);
+
+/* Writes a path as the library displays it. */
+uint32_t vlt_path_display(vlt_slot *path, uint8_t *buffer, size_t buffer_len, size_t *length);
+
+/* Writes the number of steps. */
+uint32_t vlt_path_len(vlt_slot *path, size_t *count);
+
+/* Writes the step at the position (a name, or VLT_ELEMENT as the length); 1 past the end. */
+uint32_t vlt_path_step(vlt_slot *path, size_t index, uint8_t *buffer, size_t buffer_len, size_t *length);
+
+/* Puts the path with one more step, of this name. */
+uint32_t vlt_path_push_name(vlt_slot *path, const uint8_t *name, size_t name_len, vlt_slot *out);
+
+/* Puts the path with one more step, into the element. */
+uint32_t vlt_path_push_element(vlt_slot *path, vlt_slot *out);
+
+/* Puts the path without its first step; 1 where it has none. */
+uint32_t vlt_path_step_into(vlt_slot *path, vlt_slot *out);
+
+/* Puts a copy. */
+uint32_t vlt_path_copy(vlt_slot *path, vlt_slot *out);
+
+/* Returns 0 where the paths are equal. */
+uint32_t vlt_path_eq(vlt_slot *one, vlt_slot *other);
+
+/* Writes a hash: the same of equal paths. It may differ from version to version. */
+uint32_t vlt_path_hash(vlt_slot *path, uint64_t *hash);
+
+/* Returns 0 where one path is a prefix of the other. */
+uint32_t vlt_path_overlap(vlt_slot *one, vlt_slot *other);
+
+/* Returns 0 where the first step is this name; 5 where it is the element. */
+uint32_t vlt_path_starts_with_name(vlt_slot *path, const uint8_t *name, size_t name_len);
+
+/* Puts the type at the path; 1 where there is none. */
+uint32_t vlt_path_resolve(vlt_slot *dtype, vlt_slot *path, vlt_slot *out);
+
+/* Returns 0 where there is a type at the path. */
+uint32_t vlt_path_exists_in(vlt_slot *dtype, vlt_slot *path);
+
+/* Puts the path of a path message of these parts, a name each; VLT_ELEMENT stands for a part without a kind: 136. */
+uint32_t vlt_path_from_message(
+        const uint8_t *names, size_t names_len, const size_t *name_lengths, size_t name_lengths_len, vlt_slot *out);
+
+/* Reads the message of a type in the console's form. */
+uint32_t vlt_message_from_text(const uint8_t *text, size_t text_len, vlt_slot *out, size_t *position);
+
+/* Writes a message in the console's form, which reads back as the same message. */
+uint32_t vlt_message_to_text(vlt_slot *message, uint8_t *buffer, size_t buffer_len, size_t *length);
+
+/* Puts the type of a message. 1xx: the first error. Extensions of every id are kept where `allow_unknown`, else 135. */
+uint32_t vlt_message_read(vlt_slot *message, bool allow_unknown, vlt_slot *out);
+
+/* Puts the message of a type. */
+uint32_t vlt_message_write(vlt_slot *dtype, vlt_slot *out);
+
+/* Puts the normal form of a message: what is written of the type that is read from it. */
+uint32_t vlt_message_normal(vlt_slot *message, bool allow_unknown, vlt_slot *out);
+
+/* Returns 0 where the messages are equal in all fields. */
+uint32_t vlt_message_eq(vlt_slot *one, vlt_slot *other);
+
+/* Puts a copy. */
+uint32_t vlt_message_copy(vlt_slot *message, vlt_slot *out);
+
+/* Puts the message of these nodes. 9 where they aren't one message with exactly this pool, 3 where a text isn't UTF-8,
+ * 6 where it is deeper than 128 levels. */
+uint32_t vlt_message_from_nodes(
+        const vlt_node *nodes, size_t nodes_len, const uint8_t *texts, size_t texts_len, vlt_slot *out);
+
+/* Writes the nodes and the pool of a message, and how many of each; 7 with both counts where either is too small. */
+uint32_t vlt_message_to_nodes(
+        vlt_slot *message, vlt_node *nodes, size_t nodes_len, size_t *node_count, uint8_t *texts, size_t texts_len,
+        size_t *text_length);
+
+/* Puts the type that `vlt_message_read` gives of the message of these nodes. */
+uint32_t vlt_dtype_from_nodes(
+        const vlt_node *nodes, size_t nodes_len, const uint8_t *texts, size_t texts_len, bool allow_unknown,
+        vlt_slot *out);
+
+/* Writes the nodes and the pool of the message of a type. */
+uint32_t vlt_dtype_to_nodes(
+        vlt_slot *dtype, vlt_node *nodes, size_t nodes_len, size_t *node_count, uint8_t *texts, size_t texts_len,
+        size_t *text_length);
+
+/* Puts the type as far as the paths of the set lead; 1 where none does. */
+uint32_t vlt_project_paths(vlt_slot *dtype, vlt_slot *set, vlt_slot *out);
+
+/* Puts the mask of all. */
+uint32_t vlt_mask_all(vlt_slot *out);
+
+/* Puts the mask of everything at and below a path. */
+uint32_t vlt_mask_prefix(vlt_slot *path, vlt_slot *out);
+
+/* Puts the mask of exactly a path. */
+uint32_t vlt_mask_exact(vlt_slot *path, vlt_slot *out);
+
+/* Writes which it is: 0 all, 1 prefix, 2 exact. */
+uint32_t vlt_mask_kind(vlt_slot *mask, uint32_t *kind);
+
+/* Puts the path of a prefix or an exact mask; 1 where it is of all. */
+uint32_t vlt_mask_path(vlt_slot *mask, vlt_slot *out);
+
+/* Puts the mask after one step. 120 of the exact root. */
+uint32_t vlt_mask_step_into(vlt_slot *mask, vlt_slot *out);
+
+/* Writes the first step (a name, or VLT_ELEMENT as the length); 1 where there is none; 121 of the mask of all. */
+uint32_t vlt_mask_starting_field(vlt_slot *mask, uint8_t *buffer, size_t buffer_len, size_t *length);
+
+/* Returns 0 where everything matches. */
+uint32_t vlt_mask_matches_all(vlt_slot *mask);
+
+/* Returns 0 where the root matches. */
+uint32_t vlt_mask_matches_root(vlt_slot *mask);
+
+/* Returns 0 where the masks are equal. */
+uint32_t vlt_mask_eq(vlt_slot *one, vlt_slot *other);
+
+/* Puts a copy. */
+uint32_t vlt_mask_copy(vlt_slot *mask, vlt_slot *out);
+
+/* Writes how many paths are in the list. */
+uint32_t vlt_paths_len(vlt_slot *paths, size_t *count);
+
+/* Puts a copy of the path at the position; 1 past the end. */
+uint32_t vlt_paths_get(vlt_slot *paths, size_t index, vlt_slot *out);
+
+/* Puts the empty set. */
+uint32_t vlt_set_new(vlt_slot *out);
+
+/* Inserts a copy of the path. */
+uint32_t vlt_set_insert(vlt_slot *set, vlt_slot *path);
+
+/* Inserts copies of the paths in these slots, in order, and writes how many were inserted (fewer only on an error). */
+uint32_t vlt_set_extend(vlt_slot *set, vlt_slot *paths, size_t paths_len, size_t *inserted);
+
+/* Inserts copies of the paths of a list. */
+uint32_t vlt_set_extend_from_list(vlt_slot *set, vlt_slot *paths);
+
+/* Returns 0 where the path is in the set. */
+uint32_t vlt_set_contains(vlt_slot *set, vlt_slot *path);
+
+/* Writes how many paths are in the set. */
+uint32_t vlt_set_len(vlt_slot *set, size_t *count);
+
+/* Puts the list of the paths in the set, each once. */
+uint32_t vlt_set_members(vlt_slot *set, vlt_slot *out);
+
+/* Puts the list of the fewest paths that cover those of the set. */
+uint32_t vlt_set_cover(vlt_slot *set, vlt_slot *out);
+
+/* Puts the list of the paths of the cover at which the type has nothing. */
+uint32_t vlt_set_unresolved(vlt_slot *set, vlt_slot *dtype, vlt_slot *out);
+
+/* Writes what the set wants below a path: whether the path itself is in it, whether one goes on with the element, and by
+ * how many names paths go on; 1 where no path of the set begins with the path. */
+uint32_t vlt_set_below(vlt_slot *set, vlt_slot *path, bool *is_end, bool *has_element, size_t *name_count);
+
+/* Puts the names by which paths of the set go on below a path: a list of paths of one step; 1 where none begins with it. */
+uint32_t vlt_set_names_below(vlt_slot *set, vlt_slot *path, vlt_slot *out);
+
+/* Puts a copy of the set. */
+uint32_t vlt_set_copy(vlt_slot *set, vlt_slot *out);
+
+/* Writes what a result means: the library's text of the error from 100 on. 9 where no export returns the number. */
+uint32_t vlt_error_text(uint32_t code, uint8_t *buffer, size_t buffer_len, size_t *length);
+
+/* Reads a type from the console's form. 4 with the byte's position where it can't be read, 6 where it is too deep. */
+uint32_t vlt_dtype_from_text(const uint8_t *text, size_t text_len, vlt_slot *out, size_t *position);
+
+/* Writes a type in the console's form, which reads back as the same type. */
+uint32_t vlt_dtype_to_text(vlt_slot *dtype, uint8_t *buffer, size_t buffer_len, size_t *length);
+
+/* Writes a type as the library displays it. */
+uint32_t vlt_dtype_display(vlt_slot *dtype, uint8_t *buffer, size_t buffer_len, size_t *length);
+
+/* Makes the null type. */
+uint32_t vlt_dtype_null(vlt_slot *out);
+
+/* Makes the type of booleans. */
+uint32_t vlt_dtype_bool(bool nullable, vlt_slot *out);
+
+/* Makes a primitive type. 9 where `ptype` is above 10. */
+uint32_t vlt_dtype_primitive(uint32_t ptype, bool nullable, vlt_slot *out);
+
+/* Makes a decimal type. 101 to 104 where precision or scale isn't accepted. */
+uint32_t vlt_dtype_decimal(uint8_t precision, int8_t scale, bool nullable, vlt_slot *out);
+
+/* Makes the type of UTF-8 strings. */
+uint32_t vlt_dtype_utf8(bool nullable, vlt_slot *out);
+
+/* Makes the type of byte strings. */
+uint32_t vlt_dtype_binary(bool nullable, vlt_slot *out);
+
+/* Makes the type of lists of `element`. 6 where that would be deeper than 128 levels (so below). */
+uint32_t vlt_dtype_list(vlt_slot *element, bool nullable, vlt_slot *out);
+
+/* Makes the type of lists of `size` elements. */
+uint32_t vlt_dtype_fixed_size_list(vlt_slot *element, uint32_t size, bool nullable, vlt_slot *out);
+
+/* Makes the type of maps. 109 where the key is nullable. */
+uint32_t vlt_dtype_map(vlt_slot *key, vlt_slot *value, bool keys_sorted, bool nullable, vlt_slot *out);
+
+/* Makes a struct of these names and types. 9 where there aren't as many of each. */
+uint32_t vlt_dtype_struct(
+        const uint8_t *names, size_t names_len, const size_t *name_lengths, size_t name_lengths_len, vlt_slot *dtypes,
+        size_t dtypes_len, bool nullable, vlt_slot *out);
+
+/* Makes a union of these names, types and tags. 110 to 113, 115 as the library's `UnionVariants::try_new`. */
+uint32_t vlt_dtype_union(
+        const uint8_t *names, size_t names_len, const size_t *name_lengths, size_t name_lengths_len, vlt_slot *dtypes,
+        size_t dtypes_len, const uint8_t *tags, size_t tags_len, bool nullable, vlt_slot *out);
+
+/* Makes a union of these names and types with the tags 0, 1, 2 ..; 114 where there are more than 256. */
+uint32_t vlt_dtype_union_consecutive(
+        const uint8_t *names, size_t names_len, const size_t *name_lengths, size_t name_lengths_len, vlt_slot *dtypes,
+        size_t dtypes_len, bool nullable, vlt_slot *out);
+
+/* Makes the type of variants. */
+uint32_t vlt_dtype_variant(bool nullable, vlt_slot *out);
+
+/* Makes an extension type of an id, metadata and a storage type. */
+uint32_t vlt_dtype_extension(
+        const uint8_t *id, size_t id_len, const uint8_t *metadata, size_t metadata_len, vlt_slot *storage,
+        vlt_slot *out);
+
+/* Makes the type with this nullability. 5 where it can't be non-nullable. */
+uint32_t vlt_dtype_with_nullability(vlt_slot *dtype, bool nullable, vlt_slot *out);
+
+/* Makes the type that is nullable where it or `nullable` is. */
+uint32_t vlt_dtype_union_nullability(vlt_slot *dtype, bool nullable, vlt_slot *out);
+
+/* Writes precision and scale; 1 where it is no decimal. */
+uint32_t vlt_dtype_decimal_parts(vlt_slot *dtype, uint8_t *precision, int8_t *scale);
+
+/* Writes the size of a fixed-size list; else 1. */
+uint32_t vlt_dtype_fixed_size(vlt_slot *dtype, uint32_t *size);
+
+/* Returns 0 where the keys of the map are said to be sorted, 5 where it is no map. */
+uint32_t vlt_dtype_keys_sorted(vlt_slot *dtype);
+
+/* Puts the type of a map's entries; else 1. */
+uint32_t vlt_dtype_entries(vlt_slot *dtype, vlt_slot *out);
+
+/* Writes the id of an extension; else 1. */
+uint32_t vlt_dtype_id(vlt_slot *dtype, uint8_t *buffer, size_t buffer_len, size_t *length);
+
+/* Writes the metadata's bytes of an extension; else 1. */
+uint32_t vlt_dtype_metadata(vlt_slot *dtype, uint8_t *buffer, size_t buffer_len, size_t *length);
+
+/* Writes how many bytes a value takes where all take as many; 1 where they don't; 119 above `usize`. */
+uint32_t vlt_dtype_element_size(vlt_slot *dtype, size_t *size);
+
+/* Writes a hash: the same of equal types. It may differ from version to version. */
+uint32_t vlt_dtype_hash(vlt_slot *dtype, uint64_t *hash);
+
+/* Writes a hash: the same of types that are equal but for nullabilities. */
+uint32_t vlt_dtype_hash_ignore_nullability(vlt_slot *dtype, uint64_t *hash);
+
+/* Writes the number of fields. */
+uint32_t vlt_struct_nfields(vlt_slot *dtype, size_t *count);
+
+/* Writes the name of the field at the position; 1 past the end. */
+uint32_t vlt_struct_field_name(vlt_slot *dtype, size_t index, uint8_t *buffer, size_t buffer_len, size_t *length);
+
+/* Puts the type of the field at the position; 1 past the end. */
+uint32_t vlt_struct_field_by_index(vlt_slot *dtype, size_t index, vlt_slot *out);
+
+/* Writes the position of the first field of the name; 1 where there is none. */
+uint32_t vlt_struct_find(vlt_slot *dtype, const uint8_t *name, size_t name_len, size_t *index);
+
+/* Puts the type of the first field of the name; 1 where there is none. */
+uint32_t vlt_struct_field(vlt_slot *dtype, const uint8_t *name, size_t name_len, vlt_slot *out);
+
+/* Makes the struct of the fields of these names, in their order. 116 where one isn't there. */
+uint32_t vlt_struct_project(
+        vlt_slot *dtype, const uint8_t *names, size_t names_len, const size_t *name_lengths, size_t name_lengths_len,
+        vlt_slot *out);
+
+/* Makes the struct without the field at the position. 117 past the end. */
+uint32_t vlt_struct_without_field(vlt_slot *dtype, size_t index, vlt_slot *out);
+
+/* Makes the struct of the fields of both. 118 where a name is there twice. */
+uint32_t vlt_struct_disjoint_merge(vlt_slot *one, vlt_slot *other, vlt_slot *out);
+
+/* Writes the fields, a line each, as the library indents them. */
+uint32_t vlt_struct_indented(vlt_slot *dtype, uint8_t *buffer, size_t buffer_len, size_t *length);
+
+/* Writes the number of variants. */
+uint32_t vlt_union_len(vlt_slot *dtype, size_t *count);
+
+/* Writes the name of the variant at the position; 1 past the end. */
+uint32_t vlt_union_variant_name(vlt_slot *dtype, size_t index, uint8_t *buffer, size_t buffer_len, size_t *length);
+
+/* Puts the type of the variant at the position; 1 past the end. */
+uint32_t vlt_union_variant_by_index(vlt_slot *dtype, size_t index, vlt_slot *out);
+
+/* Writes the position of the variant of the name; 1 where there is none. */
+uint32_t vlt_union_find(vlt_slot *dtype, const uint8_t *name, size_t name_len, size_t *index);
+
+/* Puts the type of the variant of the name; 1 where there is none. */
+uint32_t vlt_union_variant(vlt_slot *dtype, const uint8_t *name, size_t name_len, vlt_slot *out);
+
+/* Writes the tag of the variant at the position; 1 past the end. */
+uint32_t vlt_union_child_index_to_tag(vlt_slot *dtype, size_t index, uint8_t *tag);
+
+/* Writes the position of the variant of the tag; 1 where there is none. */
+uint32_t vlt_union_tag_to_child_index(vlt_slot *dtype, uint8_t tag, size_t *index);
+
+/* Returns 0 where the tags are 0, 1, 2 .. in order. */
+uint32_t vlt_union_is_consecutive(vlt_slot *dtype);
+
+/* A call of a function above that takes two slots, or a pointer and a length, is a call of the inline
+ * function below: it returns VLT_SAME_SLOT if two of the slots are one, because the proofs of the exports suppose
+ * that they differ. It returns VLT_RANGE for a null pointer with a length above 0, and passes a pointer
+ * that isn't null if the length is 0. */
+
+static inline uint32_t vlt_checked_answer(
+        const uint8_t *line, size_t line_len, uint8_t *buffer, size_t buffer_len, size_t *length) {
+    if ((!line && line_len) || (!buffer && buffer_len))
+        return VLT_RANGE;
+    return vlt_answer(
+            line ? line : (const uint8_t *)vlt_no_items(), line_len, buffer ? buffer : (uint8_t *)vlt_no_items(),
+            buffer_len, length);
+}
+#define vlt_answer vlt_checked_answer
+
+static inline uint32_t vlt_checked_dtype_element(vlt_slot *dtype, vlt_slot *out) {
+    if (dtype == out)
+        return VLT_SAME_SLOT;
+    return vlt_dtype_element(dtype, out);
+}
+#define vlt_dtype_element vlt_checked_dtype_element
+
+static inline uint32_t vlt_checked_dtype_key(vlt_slot *dtype, vlt_slot *out) {
+    if (dtype == out)
+        return VLT_SAME_SLOT;
+    return vlt_dtype_key(dtype, out);
+}
+#define vlt_dtype_key vlt_checked_dtype_key
+
+static inline uint32_t vlt_checked_dtype_value(vlt_slot *dtype, vlt_slot *out) {
+    if (dtype == out)
+        return VLT_SAME_SLOT;
+    return vlt_dtype_value(dtype, out);
+}
+#define vlt_dtype_value vlt_checked_dtype_value
+
+static inline uint32_t vlt_checked_dtype_storage(vlt_slot *dtype, vlt_slot *out) {
+    if (dtype == out)
+        return VLT_SAME_SLOT;
+    return vlt_dtype_storage(dtype, out);
+}
+#define vlt_dtype_storage vlt_checked_dtype_storage
+
+static inline uint32_t vlt_checked_dtype_copy(vlt_slot *dtype, vlt_slot *out) {
+    if (dtype == out)
+        return VLT_SAME_SLOT;
+    return vlt_dtype_copy(dtype, out);
+}
+#define vlt_dtype_copy vlt_checked_dtype_copy
+
+static inline uint32_t vlt_checked_dtype_eq(vlt_slot *one, vlt_slot *other) {
+    if (one == other)
+        return VLT_SAME_SLOT;
+    return vlt_dtype_eq(one, other);
+}
+#define vlt_dtype_eq vlt_checked_dtype_eq
+
+static inline uint32_t vlt_checked_dtype_eq_ignore_nullability(vlt_slot *one, vlt_slot *other) {
+    if (one == other)
+        return VLT_SAME_SLOT;
+    return vlt_dtype_eq_ignore_nullability(one, other);
+}
+#define vlt_dtype_eq_ignore_nullability vlt_checked_dtype_eq_ignore_nullability
+
+static inline uint32_t vlt_checked_dtype_nullability_subset(vlt_slot *one, vlt_slot *other) {
+    if (one == other)
+        return VLT_SAME_SLOT;
+    return vlt_dtype_nullability_subset(one, other);
+}
+#define vlt_dtype_nullability_subset vlt_checked_dtype_nullability_subset
+
+static inline uint32_t vlt_checked_dtype_nullability_superset(vlt_slot *one, vlt_slot *other) {
+    if (one == other)
+        return VLT_SAME_SLOT;
+    return vlt_dtype_nullability_superset(one, other);
+}
+#define vlt_dtype_nullability_superset vlt_checked_dtype_nullability_superset
+
+static inline uint32_t vlt_checked_dtype_merge_nullability(vlt_slot *one, vlt_slot *other, vlt_slot *out) {
+    if (one == other || one == out || other == out)
+        return VLT_SAME_SLOT;
+    return vlt_dtype_merge_nullability(one, other, out);
+}
+#define vlt_dtype_merge_nullability vlt_checked_dtype_merge_nullability
+
+static inline uint32_t vlt_checked_dtype_intersect_nullability(vlt_slot *one, vlt_slot *other, vlt_slot *out) {
+    if (one == other || one == out || other == out)
+        return VLT_SAME_SLOT;
+    return vlt_dtype_intersect_nullability(one, other, out);
+}
+#define vlt_dtype_intersect_nullability vlt_checked_dtype_intersect_nullability
+
+static inline uint32_t vlt_checked_path_from_steps(
+        const uint8_t *names, size_t names_len, const size_t *name_lengths, size_t name_lengths_len, vlt_slot *out) {
+    if ((!names && names_len) || (!name_lengths && name_lengths_len))
+        return VLT_RANGE;
+    return vlt_path_from_steps(
+            names ? names : (const uint8_t *)vlt_no_items(), names_len,
+            name_lengths ? name_lengths : (const size_t *)vlt_no_items(), name_lengths_len, out);
+}
+#define vlt_path_from_steps vlt_checked_path_from_steps
+
+static inline uint32_t vlt_checked_path_from_text(
+        const uint8_t *text, size_t text_len, vlt_slot *out, size_t *position) {
+    if ((!text && text_len))
+        return VLT_RANGE;
+    return vlt_path_from_text(text ? text : (const uint8_t *)vlt_no_items(), text_len, out, position);
+}
+#define vlt_path_from_text vlt_checked_path_from_text
+
+static inline uint32_t vlt_checked_path_to_text(vlt_slot *path, uint8_t *buffer, size_t buffer_len, size_t *length) {
+    if ((!buffer && buffer_len))
+        return VLT_RANGE;
+    return vlt_path_to_text(path, buffer ? buffer : (uint8_t *)vlt_no_items(), buffer_len, length);
+}
+#define vlt_path_to_text vlt_checked_path_to_text
+
+static inline uint32_t vlt_checked_path_display(vlt_slot *path, uint8_t *buffer, size_t buffer_len, size_t *length) {
+    if ((!buffer && buffer_len))
+        return VLT_RANGE;
+    return vlt_path_display(path, buffer ? buffer : (uint8_t *)vlt_no_items(), buffer_len, length);
+}
+#define vlt_path_display vlt_checked_path_display
+
+static inline uint32_t vlt_checked_path_step(
+        vlt_slot *path, size_t index, uint8_t *buffer, size_t buffer_len, size_t *length) {
+    if ((!buffer && buffer_len))
+        return VLT_RANGE;
+    return vlt_path_step(path, index, buffer ? buffer : (uint8_t *)vlt_no_items(), buffer_len, length);
+}
+#define vlt_path_step vlt_checked_path_step
+
+static inline uint32_t vlt_checked_path_push_name(vlt_slot *path, const uint8_t *name, size_t name_len, vlt_slot *out) {
+    if (path == out)
+        return VLT_SAME_SLOT;
+    if ((!name && name_len))
+        return VLT_RANGE;
+    return vlt_path_push_name(path, name ? name : (const uint8_t *)vlt_no_items(), name_len, out);
+}
+#define vlt_path_push_name vlt_checked_path_push_name
+
+static inline uint32_t vlt_checked_path_push_element(vlt_slot *path, vlt_slot *out) {
+    if (path == out)
+        return VLT_SAME_SLOT;
+    return vlt_path_push_element(path, out);
+}
+#define vlt_path_push_element vlt_checked_path_push_element
+
+static inline uint32_t vlt_checked_path_step_into(vlt_slot *path, vlt_slot *out) {
+    if (path == out)
+        return VLT_SAME_SLOT;
+    return vlt_path_step_into(path, out);
+}
+#define vlt_path_step_into vlt_checked_path_step_into
+
+static inline uint32_t vlt_checked_path_copy(vlt_slot *path, vlt_slot *out) {
+    if (path == out)
+        return VLT_SAME_SLOT;
+    return vlt_path_copy(path, out);
+}
+#define vlt_path_copy vlt_checked_path_copy
+
+static inline uint32_t vlt_checked_path_eq(vlt_slot *one, vlt_slot *other) {
+    if (one == other)
+        return VLT_SAME_SLOT;
+    return vlt_path_eq(one, other);
+}
+#define vlt_path_eq vlt_checked_path_eq
+
+static inline uint32_t vlt_checked_path_overlap(vlt_slot *one, vlt_slot *other) {
+    if (one == other)
+        return VLT_SAME_SLOT;
+    return vlt_path_overlap(one, other);
+}
+#define vlt_path_overlap vlt_checked_path_overlap
+
+static inline uint32_t vlt_checked_path_starts_with_name(vlt_slot *path, const uint8_t *name, size_t name_len) {
+    if ((!name && name_len))
+        return VLT_RANGE;
+    return vlt_path_starts_with_name(path, name ? name : (const uint8_t *)vlt_no_items(), name_len);
+}
+#define vlt_path_starts_with_name vlt_checked_path_starts_with_name
+
+static inline uint32_t vlt_checked_path_resolve(vlt_slot *dtype, vlt_slot *path, vlt_slot *out) {
+    if (dtype == path || dtype == out || path == out)
+        return VLT_SAME_SLOT;
+    return vlt_path_resolve(dtype, path, out);
+}
+#define vlt_path_resolve vlt_checked_path_resolve
+
+static inline uint32_t vlt_checked_path_exists_in(vlt_slot *dtype, vlt_slot *path) {
+    if (dtype == path)
+        return VLT_SAME_SLOT;
+    return vlt_path_exists_in(dtype, path);
+}
+#define vlt_path_exists_in vlt_checked_path_exists_in
+
+static inline uint32_t vlt_checked_path_from_message(
+        const uint8_t *names, size_t names_len, const size_t *name_lengths, size_t name_lengths_len, vlt_slot *out) {
+    if ((!names && names_len) || (!name_lengths && name_lengths_len))
+        return VLT_RANGE;
+    return vlt_path_from_message(
+            names ? names : (const uint8_t *)vlt_no_items(), names_len,
+            name_lengths ? name_lengths : (const size_t *)vlt_no_items(), name_lengths_len, out);
+}
+#define vlt_path_from_message vlt_checked_path_from_message
+
+static inline uint32_t vlt_checked_message_from_text(
+        const uint8_t *text, size_t text_len, vlt_slot *out, size_t *position) {
+    if ((!text && text_len))
+        return VLT_RANGE;
+    return vlt_message_from_text(text ? text : (const uint8_t *)vlt_no_items(), text_len, out, position);
+}
+#define vlt_message_from_text vlt_checked_message_from_text
+
+static inline uint32_t vlt_checked_message_to_text(
+        vlt_slot *message, uint8_t *buffer, size_t buffer_len, size_t *length) {
+    if ((!buffer && buffer_len))
+        return VLT_RANGE;
+    return vlt_message_to_text(message, buffer ? buffer : (uint8_t *)vlt_no_items(), buffer_len, length);
+}
+#define vlt_message_to_text vlt_checked_message_to_text
+
+static inline uint32_t vlt_checked_message_read(vlt_slot *message, bool allow_unknown, vlt_slot *out) {
+    if (message == out)
+        return VLT_SAME_SLOT;
+    return vlt_message_read(message, allow_unknown, out);
+}
+#define vlt_message_read vlt_checked_message_read
+
+static inline uint32_t vlt_checked_message_write(vlt_slot *dtype, vlt_slot *out) {
+    if (dtype == out)
+        return VLT_SAME_SLOT;
+    return vlt_message_write(dtype, out);
+}
+#define vlt_message_write vlt_checked_message_write
+
+static inline uint32_t vlt_checked_message_normal(vlt_slot *message, bool allow_unknown, vlt_slot *out) {
+    if (message == out)
+        return VLT_SAME_SLOT;
+    return vlt_message_normal(message, allow_unknown, out);
+}
+#define vlt_message_normal vlt_checked_message_normal
+
+static inline uint32_t vlt_checked_message_eq(vlt_slot *one, vlt_slot *other) {
+    if (one == other)
+        return VLT_SAME_SLOT;
+    return vlt_message_eq(one, other);
+}
+#define vlt_message_eq vlt_checked_message_eq
+
+static inline uint32_t vlt_checked_message_copy(vlt_slot *message, vlt_slot *out) {
+    if (message == out)
+        return VLT_SAME_SLOT;
+    return vlt_message_copy(message, out);
+}
+#define vlt_message_copy vlt_checked_message_copy
+
+static inline uint32_t vlt_checked_message_from_nodes(
+        const vlt_node *nodes, size_t nodes_len, const uint8_t *texts, size_t texts_len, vlt_slot *out) {
+    if ((!nodes && nodes_len) || (!texts && texts_len))
+        return VLT_RANGE;
+    return vlt_message_from_nodes(
+            nodes ? nodes : (const vlt_node *)vlt_no_items(), nodes_len,
+            texts ? texts : (const uint8_t *)vlt_no_items(), texts_len, out);
+}
+#define vlt_message_from_nodes vlt_checked_message_from_nodes
+
+static inline uint32_t vlt_checked_message_to_nodes(
+        vlt_slot *message, vlt_node *nodes, size_t nodes_len, size_t *node_count, uint8_t *texts, size_t texts_len,
+        size_t *text_length) {
+    if ((!nodes && nodes_len) || (!texts && texts_len))
+        return VLT_RANGE;
+    return vlt_message_to_nodes(
+            message, nodes ? nodes : (vlt_node *)vlt_no_items(), nodes_len, node_count,
+            texts ? texts : (uint8_t *)vlt_no_items(), texts_len, text_length);
+}
+#define vlt_message_to_nodes vlt_checked_message_to_nodes
+
+static inline uint32_t vlt_checked_dtype_from_nodes(
+        const vlt_node *nodes, size_t nodes_len, const uint8_t *texts, size_t texts_len, bool allow_unknown,
+        vlt_slot *out) {
+    if ((!nodes && nodes_len) || (!texts && texts_len))
+        return VLT_RANGE;
+    return vlt_dtype_from_nodes(
+            nodes ? nodes : (const vlt_node *)vlt_no_items(), nodes_len,
+            texts ? texts : (const uint8_t *)vlt_no_items(), texts_len, allow_unknown, out);
+}
+#define vlt_dtype_from_nodes vlt_checked_dtype_from_nodes
+
+static inline uint32_t vlt_checked_dtype_to_nodes(
+        vlt_slot *dtype, vlt_node *nodes, size_t nodes_len, size_t *node_count, uint8_t *texts, size_t texts_len,
+        size_t *text_length) {
+    if ((!nodes && nodes_len) || (!texts && texts_len))
+        return VLT_RANGE;
+    return vlt_dtype_to_nodes(
+            dtype, nodes ? nodes : (vlt_node *)vlt_no_items(), nodes_len, node_count,
+            texts ? texts : (uint8_t *)vlt_no_items(), texts_len, text_length);
+}
+#define vlt_dtype_to_nodes vlt_checked_dtype_to_nodes
+
+static inline uint32_t vlt_checked_project_paths(vlt_slot *dtype, vlt_slot *set, vlt_slot *out) {
+    if (dtype == set || dtype == out || set == out)
+        return VLT_SAME_SLOT;
+    return vlt_project_paths(dtype, set, out);
+}
+#define vlt_project_paths vlt_checked_project_paths
+
+static inline uint32_t vlt_checked_mask_prefix(vlt_slot *path, vlt_slot *out) {
+    if (path == out)
+        return VLT_SAME_SLOT;
+    return vlt_mask_prefix(path, out);
+}
+#define vlt_mask_prefix vlt_checked_mask_prefix
+
+static inline uint32_t vlt_checked_mask_exact(vlt_slot *path, vlt_slot *out) {
+    if (path == out)
+        return VLT_SAME_SLOT;
+    return vlt_mask_exact(path, out);
+}
+#define vlt_mask_exact vlt_checked_mask_exact
+
+static inline uint32_t vlt_checked_mask_path(vlt_slot *mask, vlt_slot *out) {
+    if (mask == out)
+        return VLT_SAME_SLOT;
+    return vlt_mask_path(mask, out);
+}
+#define vlt_mask_path vlt_checked_mask_path
+
+static inline uint32_t vlt_checked_mask_step_into(vlt_slot *mask, vlt_slot *out) {
+    if (mask == out)
+        return VLT_SAME_SLOT;
+    return vlt_mask_step_into(mask, out);
+}
+#define vlt_mask_step_into vlt_checked_mask_step_into
+
+static inline uint32_t vlt_checked_mask_starting_field(
+        vlt_slot *mask, uint8_t *buffer, size_t buffer_len, size_t *length) {
+    if ((!buffer && buffer_len))
+        return VLT_RANGE;
+    return vlt_mask_starting_field(mask, buffer ? buffer : (uint8_t *)vlt_no_items(), buffer_len, length);
+}
+#define vlt_mask_starting_field vlt_checked_mask_starting_field
+
+static inline uint32_t vlt_checked_mask_eq(vlt_slot *one, vlt_slot *other) {
+    if (one == other)
+        return VLT_SAME_SLOT;
+    return vlt_mask_eq(one, other);
+}
+#define vlt_mask_eq vlt_checked_mask_eq
+
+static inline uint32_t vlt_checked_mask_copy(vlt_slot *mask, vlt_slot *out) {
+    if (mask == out)
+        return VLT_SAME_SLOT;
+    return vlt_mask_copy(mask, out);
+}
+#define vlt_mask_copy vlt_checked_mask_copy
+
+static inline uint32_t vlt_checked_paths_get(vlt_slot *paths, size_t index, vlt_slot *out) {
+    if (paths == out)
+        return VLT_SAME_SLOT;
+    return vlt_paths_get(paths, index, out);
+}
+#define vlt_paths_get vlt_checked_paths_get
+
+static inline uint32_t vlt_checked_set_insert(vlt_slot *set, vlt_slot *path) {
+    if (set == path)
+        return VLT_SAME_SLOT;
+    return vlt_set_insert(set, path);
+}
+#define vlt_set_insert vlt_checked_set_insert
+
+static inline uint32_t vlt_checked_set_extend(vlt_slot *set, vlt_slot *paths, size_t paths_len, size_t *inserted) {
+    if (vlt_is_among(set, paths, paths_len))
+        return VLT_SAME_SLOT;
+    if ((!paths && paths_len))
+        return VLT_RANGE;
+    return vlt_set_extend(set, paths ? paths : (vlt_slot *)vlt_no_items(), paths_len, inserted);
+}
+#define vlt_set_extend vlt_checked_set_extend
+
+static inline uint32_t vlt_checked_set_extend_from_list(vlt_slot *set, vlt_slot *paths) {
+    if (set == paths)
+        return VLT_SAME_SLOT;
+    return vlt_set_extend_from_list(set, paths);
+}
+#define vlt_set_extend_from_list vlt_checked_set_extend_from_list
+
+static inline uint32_t vlt_checked_set_contains(vlt_slot *set, vlt_slot *path) {
+    if (set == path)
+        return VLT_SAME_SLOT;
+    return vlt_set_contains(set, path);
+}
+#define vlt_set_contains vlt_checked_set_contains
+
+static inline uint32_t vlt_checked_set_members(vlt_slot *set, vlt_slot *out) {
+    if (set == out)
+        return VLT_SAME_SLOT;
+    return vlt_set_members(set, out);
+}
+#define vlt_set_members vlt_checked_set_members
+
+static inline uint32_t vlt_checked_set_cover(vlt_slot *set, vlt_slot *out) {
+    if (set == out)
+        return VLT_SAME_SLOT;
+    return vlt_set_cover(set, out);
+}
+#define vlt_set_cover vlt_checked_set_cover
+
+static inline uint32_t vlt_checked_set_unresolved(vlt_slot *set, vlt_slot *dtype, vlt_slot *out) {
+    if (set == dtype || set == out || dtype == out)
+        return VLT_SAME_SLOT;
+    return vlt_set_unresolved(set, dtype, out);
+}
+#define vlt_set_unresolved vlt_checked_set_unresolved
+
+static inline uint32_t vlt_checked_set_below(
+        vlt_slot *set, vlt_slot *path, bool *is_end, bool *has_element, size_t *name_count) {
+    if (set == path)
+        return VLT_SAME_SLOT;
+    return vlt_set_below(set, path, is_end, has_element, name_count);
+}
+#define vlt_set_below vlt_checked_set_below
+
+static inline uint32_t vlt_checked_set_names_below(vlt_slot *set, vlt_slot *path, vlt_slot *out) {
+    if (set == path || set == out || path == out)
+        return VLT_SAME_SLOT;
+    return vlt_set_names_below(set, path, out);
+}
+#define vlt_set_names_below vlt_checked_set_names_below
+
+static inline uint32_t vlt_checked_set_copy(vlt_slot *set, vlt_slot *out) {
+    if (set == out)
+        return VLT_SAME_SLOT;
+    return vlt_set_copy(set, out);
+}
+#define vlt_set_copy vlt_checked_set_copy
+
+static inline uint32_t vlt_checked_error_text(uint32_t code, uint8_t *buffer, size_t buffer_len, size_t *length) {
+    if ((!buffer && buffer_len))
+        return VLT_RANGE;
+    return vlt_error_text(code, buffer ? buffer : (uint8_t *)vlt_no_items(), buffer_len, length);
+}
+#define vlt_error_text vlt_checked_error_text
+
+static inline uint32_t vlt_checked_dtype_from_text(
+        const uint8_t *text, size_t text_len, vlt_slot *out, size_t *position) {
+    if ((!text && text_len))
+        return VLT_RANGE;
+    return vlt_dtype_from_text(text ? text : (const uint8_t *)vlt_no_items(), text_len, out, position);
+}
+#define vlt_dtype_from_text vlt_checked_dtype_from_text
+
+static inline uint32_t vlt_checked_dtype_to_text(vlt_slot *dtype, uint8_t *buffer, size_t buffer_len, size_t *length) {
+    if ((!buffer && buffer_len))
+        return VLT_RANGE;
+    return vlt_dtype_to_text(dtype, buffer ? buffer : (uint8_t *)vlt_no_items(), buffer_len, length);
+}
+#define vlt_dtype_to_text vlt_checked_dtype_to_text
+
+static inline uint32_t vlt_checked_dtype_display(vlt_slot *dtype, uint8_t *buffer, size_t buffer_len, size_t *length) {
+    if ((!buffer && buffer_len))
+        return VLT_RANGE;
+    return vlt_dtype_display(dtype, buffer ? buffer : (uint8_t *)vlt_no_items(), buffer_len, length);
+}
+#define vlt_dtype_display vlt_checked_dtype_display
+
+static inline uint32_t vlt_checked_dtype_list(vlt_slot *element, bool nullable, vlt_slot *out) {
+    if (element == out)
+        return VLT_SAME_SLOT;
+    return vlt_dtype_list(element, nullable, out);
+}
+#define vlt_dtype_list vlt_checked_dtype_list
+
+static inline uint32_t vlt_checked_dtype_fixed_size_list(
+        vlt_slot *element, uint32_t size, bool nullable, vlt_slot *out) {
+    if (element == out)
+        return VLT_SAME_SLOT;
+    return vlt_dtype_fixed_size_list(element, size, nullable, out);
+}
+#define vlt_dtype_fixed_size_list vlt_checked_dtype_fixed_size_list
+
+static inline uint32_t vlt_checked_dtype_map(
+        vlt_slot *key, vlt_slot *value, bool keys_sorted, bool nullable, vlt_slot *out) {
+    if (key == value || key == out || value == out)
+        return VLT_SAME_SLOT;
+    return vlt_dtype_map(key, value, keys_sorted, nullable, out);
+}
+#define vlt_dtype_map vlt_checked_dtype_map
+
+static inline uint32_t vlt_checked_dtype_struct(
+        const uint8_t *names, size_t names_len, const size_t *name_lengths, size_t name_lengths_len, vlt_slot *dtypes,
+        size_t dtypes_len, bool nullable, vlt_slot *out) {
+    if (vlt_is_among(out, dtypes, dtypes_len))
+        return VLT_SAME_SLOT;
+    if ((!names && names_len) || (!name_lengths && name_lengths_len) || (!dtypes && dtypes_len))
+        return VLT_RANGE;
+    return vlt_dtype_struct(
+            names ? names : (const uint8_t *)vlt_no_items(), names_len,
+            name_lengths ? name_lengths : (const size_t *)vlt_no_items(), name_lengths_len,
+            dtypes ? dtypes : (vlt_slot *)vlt_no_items(), dtypes_len, nullable, out);
+}
+#define vlt_dtype_struct vlt_checked_dtype_struct
+
+static inline uint32_t vlt_checked_dtype_union(
+        const uint8_t *names, size_t names_len, const size_t *name_lengths, size_t name_lengths_len, vlt_slot *dtypes,
+        size_t dtypes_len, const uint8_t *tags, size_t tags_len, bool nullable, vlt_slot *out) {
+    if (vlt_is_among(out, dtypes, dtypes_len))
+        return VLT_SAME_SLOT;
+    if ((!names && names_len) || (!name_lengths && name_lengths_len) || (!dtypes && dtypes_len) || (!tags && tags_len))
+        return VLT_RANGE;
+    return vlt_dtype_union(
+            names ? names : (const uint8_t *)vlt_no_items(), names_len,
+            name_lengths ? name_lengths : (const size_t *)vlt_no_items(), name_lengths_len,
+            dtypes ? dtypes : (vlt_slot *)vlt_no_items(), dtypes_len, tags ? tags : (const uint8_t *)vlt_no_items(),
+            tags_len, nullable, out);
+}
+#define vlt_dtype_union vlt_checked_dtype_union
+
+static inline uint32_t vlt_checked_dtype_union_consecutive(
+        const uint8_t *names, size_t names_len, const size_t *name_lengths, size_t name_lengths_len, vlt_slot *dtypes,
+        size_t dtypes_len, bool nullable, vlt_slot *out) {
+    if (vlt_is_among(out, dtypes, dtypes_len))
+        return VLT_SAME_SLOT;
+    if ((!names && names_len) || (!name_lengths && name_lengths_len) || (!dtypes && dtypes_len))
+        return VLT_RANGE;
+    return vlt_dtype_union_consecutive(
+            names ? names : (const uint8_t *)vlt_no_items(), names_len,
+            name_lengths ? name_lengths : (const size_t *)vlt_no_items(), name_lengths_len,
+            dtypes ? dtypes : (vlt_slot *)vlt_no_items(), dtypes_len, nullable, out);
+}
+#define vlt_dtype_union_consecutive vlt_checked_dtype_union_consecutive
+
+static inline uint32_t vlt_checked_dtype_extension(
+        const uint8_t *id, size_t id_len, const uint8_t *metadata, size_t metadata_len, vlt_slot *storage,
+        vlt_slot *out) {
+    if (storage == out)
+        return VLT_SAME_SLOT;
+    if ((!id && id_len) || (!metadata && metadata_len))
+        return VLT_RANGE;
+    return vlt_dtype_extension(
+            id ? id : (const uint8_t *)vlt_no_items(), id_len, metadata ? metadata : (const uint8_t *)vlt_no_items(),
+            metadata_len, storage, out);
+}
+#define vlt_dtype_extension vlt_checked_dtype_extension
+
+static inline uint32_t vlt_checked_dtype_with_nullability(vlt_slot *dtype, bool nullable, vlt_slot *out) {
+    if (dtype == out)
+        return VLT_SAME_SLOT;
+    return vlt_dtype_with_nullability(dtype, nullable, out);
+}
+#define vlt_dtype_with_nullability vlt_checked_dtype_with_nullability
+
+static inline uint32_t vlt_checked_dtype_union_nullability(vlt_slot *dtype, bool nullable, vlt_slot *out) {
+    if (dtype == out)
+        return VLT_SAME_SLOT;
+    return vlt_dtype_union_nullability(dtype, nullable, out);
+}
+#define vlt_dtype_union_nullability vlt_checked_dtype_union_nullability
+
+static inline uint32_t vlt_checked_dtype_entries(vlt_slot *dtype, vlt_slot *out) {
+    if (dtype == out)
+        return VLT_SAME_SLOT;
+    return vlt_dtype_entries(dtype, out);
+}
+#define vlt_dtype_entries vlt_checked_dtype_entries
+
+static inline uint32_t vlt_checked_dtype_id(vlt_slot *dtype, uint8_t *buffer, size_t buffer_len, size_t *length) {
+    if ((!buffer && buffer_len))
+        return VLT_RANGE;
+    return vlt_dtype_id(dtype, buffer ? buffer : (uint8_t *)vlt_no_items(), buffer_len, length);
+}
+#define vlt_dtype_id vlt_checked_dtype_id
+
+static inline uint32_t vlt_checked_dtype_metadata(vlt_slot *dtype, uint8_t *buffer, size_t buffer_len, size_t *length) {
+    if ((!buffer && buffer_len))
+        return VLT_RANGE;
+    return vlt_dtype_metadata(dtype, buffer ? buffer : (uint8_t *)vlt_no_items(), buffer_len, length);
+}
+#define vlt_dtype_metadata vlt_checked_dtype_metadata
+
+static inline uint32_t vlt_checked_struct_field_name(
+        vlt_slot *dtype, size_t index, uint8_t *buffer, size_t buffer_len, size_t *length) {
+    if ((!buffer && buffer_len))
+        return VLT_RANGE;
+    return vlt_struct_field_name(dtype, index, buffer ? buffer : (uint8_t *)vlt_no_items(), buffer_len, length);
+}
+#define vlt_struct_field_name vlt_checked_struct_field_name
+
+static inline uint32_t vlt_checked_struct_field_by_index(vlt_slot *dtype, size_t index, vlt_slot *out) {
+    if (dtype == out)
+        return VLT_SAME_SLOT;
+    return vlt_struct_field_by_index(dtype, index, out);
+}
+#define vlt_struct_field_by_index vlt_checked_struct_field_by_index
+
+static inline uint32_t vlt_checked_struct_find(vlt_slot *dtype, const uint8_t *name, size_t name_len, size_t *index) {
+    if ((!name && name_len))
+        return VLT_RANGE;
+    return vlt_struct_find(dtype, name ? name : (const uint8_t *)vlt_no_items(), name_len, index);
+}
+#define vlt_struct_find vlt_checked_struct_find
+
+static inline uint32_t vlt_checked_struct_field(vlt_slot *dtype, const uint8_t *name, size_t name_len, vlt_slot *out) {
+    if (dtype == out)
+        return VLT_SAME_SLOT;
+    if ((!name && name_len))
+        return VLT_RANGE;
+    return vlt_struct_field(dtype, name ? name : (const uint8_t *)vlt_no_items(), name_len, out);
+}
+#define vlt_struct_field vlt_checked_struct_field
+
+static inline uint32_t vlt_checked_struct_project(
+        vlt_slot *dtype, const uint8_t *names, size_t names_len, const size_t *name_lengths, size_t name_lengths_len,
+        vlt_slot *out) {
+    if (dtype == out)
+        return VLT_SAME_SLOT;
+    if ((!names && names_len) || (!name_lengths && name_lengths_len))
+        return VLT_RANGE;
+    return vlt_struct_project(
+            dtype, names ? names : (const uint8_t *)vlt_no_items(), names_len,
+            name_lengths ? name_lengths : (const size_t *)vlt_no_items(), name_lengths_len, out);
+}
+#define vlt_struct_project vlt_checked_struct_project
+
+static inline uint32_t vlt_checked_struct_without_field(vlt_slot *dtype, size_t index, vlt_slot *out) {
+    if (dtype == out)
+        return VLT_SAME_SLOT;
+    return vlt_struct_without_field(dtype, index, out);
+}
+#define vlt_struct_without_field vlt_checked_struct_without_field
+
+static inline uint32_t vlt_checked_struct_disjoint_merge(vlt_slot *one, vlt_slot *other, vlt_slot *out) {
+    if (one == other || one == out || other == out)
+        return VLT_SAME_SLOT;
+    return vlt_struct_disjoint_merge(one, other, out);
+}
+#define vlt_struct_disjoint_merge vlt_checked_struct_disjoint_merge
+
+static inline uint32_t vlt_checked_struct_indented(
+        vlt_slot *dtype, uint8_t *buffer, size_t buffer_len, size_t *length) {
+    if ((!buffer && buffer_len))
+        return VLT_RANGE;
+    return vlt_struct_indented(dtype, buffer ? buffer : (uint8_t *)vlt_no_items(), buffer_len, length);
+}
+#define vlt_struct_indented vlt_checked_struct_indented
+
+static inline uint32_t vlt_checked_union_variant_name(
+        vlt_slot *dtype, size_t index, uint8_t *buffer, size_t buffer_len, size_t *length) {
+    if ((!buffer && buffer_len))
+        return VLT_RANGE;
+    return vlt_union_variant_name(dtype, index, buffer ? buffer : (uint8_t *)vlt_no_items(), buffer_len, length);
+}
+#define vlt_union_variant_name vlt_checked_union_variant_name
+
+static inline uint32_t vlt_checked_union_variant_by_index(vlt_slot *dtype, size_t index, vlt_slot *out) {
+    if (dtype == out)
+        return VLT_SAME_SLOT;
+    return vlt_union_variant_by_index(dtype, index, out);
+}
+#define vlt_union_variant_by_index vlt_checked_union_variant_by_index
+
+static inline uint32_t vlt_checked_union_find(vlt_slot *dtype, const uint8_t *name, size_t name_len, size_t *index) {
+    if ((!name && name_len))
+        return VLT_RANGE;
+    return vlt_union_find(dtype, name ? name : (const uint8_t *)vlt_no_items(), name_len, index);
+}
+#define vlt_union_find vlt_checked_union_find
+
+static inline uint32_t vlt_checked_union_variant(vlt_slot *dtype, const uint8_t *name, size_t name_len, vlt_slot *out) {
+    if (dtype == out)
+        return VLT_SAME_SLOT;
+    if ((!name && name_len))
+        return VLT_RANGE;
+    return vlt_union_variant(dtype, name ? name : (const uint8_t *)vlt_no_items(), name_len, out);
+}
+#define vlt_union_variant vlt_checked_union_variant
+/* end of what tools/bindings writes */
+
+#ifdef __cplusplus
+}
+#endif
+
+#endif

@@ -1,0 +1,49 @@
+// SPDX-License-Identifier: Apache-2.0
+// SPDX-FileCopyrightText: Copyright the Vortex contributors
+
+//! Finds the proved library, which this package only calls: the file or the folder that `VORTEX_LOGICAL_TYPES_LIB`
+//! names, else `native/` in this package, else where `rt lib` writes it in the repository.
+use std::env;
+use std::path::{Path, PathBuf};
+
+const ARCHIVE: &str = "libvortex_logical_types.a";
+const SETTING: &str = "VORTEX_LOGICAL_TYPES_LIB";
+
+fn main() {
+    println!("cargo::rerun-if-env-changed={SETTING}");
+    let target = env::var("TARGET").unwrap_or_default();
+    if !target.starts_with("x86_64-") || !target.contains("-linux-") {
+        println!("cargo::error=the library is built for Linux on x86-64 alone, and the target is {target}");
+        return;
+    }
+    match archive() {
+        Ok(archive) => {
+            let folder = archive.parent().unwrap_or(Path::new("."));
+            println!("cargo::rerun-if-changed={}", archive.display());
+            println!("cargo::rustc-link-search=native={}", folder.display());
+            println!("cargo::rustc-link-lib=static=vortex_logical_types");
+        }
+        Err(looked_for) => println!(
+            "cargo::error=there is no {ARCHIVE} ({looked_for}): take the package of a release, which has it in native/, \
+             or run `rt lib` in crates/vortex_logical_types of the repository, or set {SETTING} to its path"
+        ),
+    }
+}
+
+/// The archive, or where it was looked for.
+fn archive() -> Result<PathBuf, String> {
+    let package = PathBuf::from(env::var("CARGO_MANIFEST_DIR").unwrap_or_default());
+    let places = match env::var_os(SETTING) {
+        Some(named) if Path::new(&named).is_dir() => vec![Path::new(&named).join(ARCHIVE)],
+        Some(named) => vec![PathBuf::from(named)],
+        None => vec![
+            package.join("native").join(ARCHIVE),
+            package.join("../../crates/vortex_logical_types/out").join(ARCHIVE),
+        ],
+    };
+    match places.iter().find(|place| place.is_file()) {
+        Some(place) if place.file_name() == Some(ARCHIVE.as_ref()) => Ok(place.clone()),
+        Some(place) => Err(format!("{} has another name", place.display())),
+        None => Err(places.iter().map(|place| place.display().to_string()).collect::<Vec<_>>().join(", ")),
+    }
+}

@@ -1,0 +1,153 @@
+// SPDX-License-Identifier: Apache-2.0
+// SPDX-FileCopyrightText: Copyright the Vortex contributors
+
+//! What the results of calls mean in Rust: values, texts, errors.
+use crate::error::Error;
+use crate::ffi::{self, Slot};
+use crate::paths::Field;
+use std::alloc::{Layout, handle_alloc_error};
+
+/// Texts up to this length are read in one call.
+const SHORT: usize = 256;
+
+/// Whether it was done: true, or false where the library returned none or false.
+pub(crate) fn done(code: u32) -> Result<bool, Error> {
+    match code {
+        ffi::DONE => Ok(true),
+        ffi::NONE => Ok(false),
+        _ => Err(Error::of(code, 0)),
+    }
+}
+
+/// The answer of a call that can't fail.
+pub(crate) fn holds(code: u32) -> bool {
+    done(code).unwrap_or_else(|error| unreachable!("a comparison failed: {error}"))
+}
+
+/// The object that a call puts into a slot, if there is one.
+pub(crate) fn found(call: impl FnOnce(&Slot) -> u32) -> Result<Option<Slot>, Error> {
+    let out = Slot::new();
+    Ok(done(call(&out))?.then_some(out))
+}
+
+/// The object that a call puts into a slot.
+pub(crate) fn made(call: impl FnOnce(&Slot) -> u32) -> Result<Slot, Error> {
+    let out = Slot::new();
+    match call(&out) {
+        ffi::DONE => Ok(out),
+        code => Err(Error::of(code, 0)),
+    }
+}
+
+/// The object that a call reads from a text.
+pub(crate) fn read(text: &str, call: impl FnOnce(&[u8], &Slot, &mut usize) -> u32) -> Result<Slot, Error> {
+    let (out, mut position) = (Slot::new(), 0);
+    match call(text.as_bytes(), &out, &mut position) {
+        ffi::DONE => Ok(out),
+        code => Err(Error::of(code, position)),
+    }
+}
+
+/// The value that a call writes, if there is one.
+pub(crate) fn value<T: Default>(call: impl FnOnce(&mut T) -> u32) -> Result<Option<T>, Error> {
+    let mut value = T::default();
+    Ok(done(call(&mut value))?.then_some(value))
+}
+
+/// The value that a call writes that can't fail.
+pub(crate) fn plain<T: Default>(call: impl FnOnce(&mut T) -> u32) -> T {
+    match value(call) {
+        Ok(Some(value)) => value,
+        other => unreachable!("a call without errors returned {:?}", other.map(|it| it.is_some())),
+    }
+}
+
+/// The bytes that a call writes, and its result, which isn't that the buffer is too small.
+fn bytes(call: impl Fn(&mut [u8], &mut usize) -> u32) -> Result<(Vec<u8>, usize, u32), Error> {
+    let (mut short, mut length) = ([0; SHORT], 0);
+    let code = call(&mut short, &mut length);
+    if code != ffi::SMALL {
+        return Ok((copied(short.get(..length).unwrap_or(&[]))?, length, code));
+    }
+    let mut long = room(length)?;
+    let code = call(&mut long, &mut length);
+    long.truncate(length);
+    Ok((long, length, code))
+}
+
+/// A vector of so many zeros.
+pub(crate) fn room<T: Clone + Default>(length: usize) -> Result<Vec<T>, Error> {
+    let mut room = Vec::new();
+    room.try_reserve_exact(length).map_err(|_| Error::OutOfMemory)?;
+    room.resize(length, T::default());
+    Ok(room)
+}
+
+fn copied(bytes: &[u8]) -> Result<Vec<u8>, Error> {
+    let mut copy = Vec::new();
+    copy.try_reserve_exact(bytes.len()).map_err(|_| Error::OutOfMemory)?;
+    copy.extend_from_slice(bytes);
+    Ok(copy)
+}
+
+/// The bytes that a call writes, if it writes any.
+pub(crate) fn bytes_found(call: impl Fn(&mut [u8], &mut usize) -> u32) -> Result<Option<Vec<u8>>, Error> {
+    let (bytes, _, code) = bytes(call)?;
+    Ok(done(code)?.then_some(bytes))
+}
+
+/// The text that a call writes.
+pub(crate) fn text(call: impl Fn(&mut [u8], &mut usize) -> u32) -> Result<String, Error> {
+    text_found(call)?.ok_or(Error::OutOfRange)
+}
+
+/// The text that a call writes, if there is one.
+pub(crate) fn text_found(call: impl Fn(&mut [u8], &mut usize) -> u32) -> Result<Option<String>, Error> {
+    bytes_found(call)?.map(|bytes| String::from_utf8(bytes).map_err(|_| Error::NotUtf8)).transpose()
+}
+
+/// The step that a call writes, if there is one.
+pub(crate) fn step_found(call: impl Fn(&mut [u8], &mut usize) -> u32) -> Result<Option<Field>, Error> {
+    let (bytes, length, code) = bytes(call)?;
+    if !done(code)? {
+        return Ok(None);
+    }
+    if length == ffi::ELEMENT {
+        return Ok(Some(Field::ElementType));
+    }
+    String::from_utf8(bytes).map(|name| Some(Field::Name(name))).map_err(|_| Error::NotUtf8)
+}
+
+/// What a call returns that fails by memory alone, as Rust's collections do.
+pub(crate) fn or_abort<T>(result: Result<T, Error>) -> T {
+    match result {
+        Ok(value) => value,
+        Err(Error::OutOfMemory) => handle_alloc_error(Layout::new::<u64>()),
+        Err(error) => unreachable!("a call that only memory can stop failed: {error}"),
+    }
+}
+
+/// Names, one behind the other, and their lengths.
+#[derive(Default)]
+pub(crate) struct Names {
+    pub(crate) text: Vec<u8>,
+    pub(crate) lengths: Vec<usize>,
+}
+
+impl Names {
+    pub(crate) fn push(&mut self, name: &str) -> Result<(), Error> {
+        self.text.try_reserve(name.len()).map_err(|_| Error::OutOfMemory)?;
+        self.text.extend_from_slice(name.as_bytes());
+        self.push_length(name.len())
+    }
+
+    pub(crate) fn push_element(&mut self) -> Result<(), Error> {
+        self.push_length(ffi::ELEMENT)
+    }
+
+    fn push_length(&mut self, length: usize) -> Result<(), Error> {
+        self.lengths.try_reserve(1).map_err(|_| Error::OutOfMemory)?;
+        self.lengths.push(length);
+        Ok(())
+    }
+}

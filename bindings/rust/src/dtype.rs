@@ -1,0 +1,548 @@
+// SPDX-License-Identifier: Apache-2.0
+// SPDX-FileCopyrightText: Copyright the Vortex contributors
+
+//! Types.
+use crate::calls::{self, Names, found, holds, made, or_abort, plain, read, value};
+use crate::error::Error;
+use crate::ffi::{self, Slot};
+use crate::parts::{ExtDTypeRef, MapDType, StructFields, UnionVariants};
+use crate::scalars::{DecimalDType, Kind, Nullability, PType};
+use crate::sets::FieldPathSet;
+use std::fmt;
+use std::hash::{Hash, Hasher};
+use std::ptr;
+use std::str::FromStr;
+
+/// A logical type: of columns, and of the values in them.
+///
+/// ```
+/// use vortex_logical_types::{DType, Nullability::{NonNullable, Nullable}, PType};
+///
+/// let price = DType::decimal(10, 2, Nullable)?;
+/// let order = DType::struct_([("id", DType::primitive(PType::U64, NonNullable)), ("price", price)], NonNullable)?;
+/// assert_eq!(order, "{id=u64, price=decimal(10,2)?}".parse()?);
+/// assert_eq!(format!("{order}"), "{id=u64, price=decimal(10,2)?}");
+/// # Ok::<(), vortex_logical_types::Error>(())
+/// ```
+pub struct DType {
+    pub(crate) slot: Slot,
+}
+
+impl DType {
+    pub(crate) fn of(slot: Slot) -> DType {
+        DType { slot }
+    }
+
+    /// Returns the null type.
+    pub fn null() -> DType {
+        or_abort(DType::try_null())
+    }
+
+    /// Returns the null type, or that memory ran out.
+    pub fn try_null() -> Result<DType, Error> {
+        made(ffi::dtype_null).map(DType::of)
+    }
+
+    /// Returns the type of booleans.
+    pub fn bool(nullability: Nullability) -> DType {
+        or_abort(DType::try_bool(nullability))
+    }
+
+    /// Returns the type of booleans, or that memory ran out.
+    pub fn try_bool(nullability: Nullability) -> Result<DType, Error> {
+        made(|out| ffi::dtype_bool(nullability.into(), out)).map(DType::of)
+    }
+
+    /// Returns a primitive type.
+    pub fn primitive(ptype: PType, nullability: Nullability) -> DType {
+        or_abort(DType::try_primitive(ptype, nullability))
+    }
+
+    /// Returns a primitive type, or that memory ran out.
+    pub fn try_primitive(ptype: PType, nullability: Nullability) -> Result<DType, Error> {
+        made(|out| ffi::dtype_primitive(ptype.number(), nullability.into(), out)).map(DType::of)
+    }
+
+    /// Returns a decimal type.
+    ///
+    /// # Errors
+    /// The library's errors 1 to 4, if the precision isn't from 1 to 76, or the scale is above 76 or above the precision.
+    pub fn decimal(precision: u8, scale: i8, nullability: Nullability) -> Result<DType, Error> {
+        made(|out| ffi::dtype_decimal(precision, scale, nullability.into(), out)).map(DType::of)
+    }
+
+    /// Returns the type of UTF-8 strings.
+    pub fn utf8(nullability: Nullability) -> DType {
+        or_abort(DType::try_utf8(nullability))
+    }
+
+    /// Returns the type of UTF-8 strings, or that memory ran out.
+    pub fn try_utf8(nullability: Nullability) -> Result<DType, Error> {
+        made(|out| ffi::dtype_utf8(nullability.into(), out)).map(DType::of)
+    }
+
+    /// Returns the type of byte strings.
+    pub fn binary(nullability: Nullability) -> DType {
+        or_abort(DType::try_binary(nullability))
+    }
+
+    /// Returns the type of byte strings, or that memory ran out.
+    pub fn try_binary(nullability: Nullability) -> Result<DType, Error> {
+        made(|out| ffi::dtype_binary(nullability.into(), out)).map(DType::of)
+    }
+
+    /// Returns the type of variants.
+    pub fn variant(nullability: Nullability) -> DType {
+        or_abort(DType::try_variant(nullability))
+    }
+
+    /// Returns the type of variants, or that memory ran out.
+    pub fn try_variant(nullability: Nullability) -> Result<DType, Error> {
+        made(|out| ffi::dtype_variant(nullability.into(), out)).map(DType::of)
+    }
+
+    /// Returns the type of lists.
+    ///
+    /// # Errors
+    /// [`Error::TooDeep`] if the element is 128 levels deep, and [`Error::OutOfMemory`].
+    pub fn list(element: &DType, nullability: Nullability) -> Result<DType, Error> {
+        made(|out| ffi::dtype_list(&element.slot, nullability.into(), out)).map(DType::of)
+    }
+
+    /// Returns the type of lists of `size` elements.
+    ///
+    /// # Errors
+    /// As [`DType::list`].
+    pub fn fixed_size_list(element: &DType, size: u32, nullability: Nullability) -> Result<DType, Error> {
+        made(|out| ffi::dtype_fixed_size_list(&element.slot, size, nullability.into(), out)).map(DType::of)
+    }
+
+    /// Returns the type of maps. `key` and `value` may be the same type.
+    ///
+    /// # Errors
+    /// The library's error 9 if the key is nullable; [`Error::TooDeep`]; [`Error::OutOfMemory`].
+    pub fn map(key: &DType, value: &DType, keys_sorted: bool, nullability: Nullability) -> Result<DType, Error> {
+        if ptr::eq(key, value) {
+            return DType::map(key, &value.try_clone()?, keys_sorted, nullability);
+        }
+        made(|out| ffi::dtype_map(&key.slot, &value.slot, keys_sorted, nullability.into(), out)).map(DType::of)
+    }
+
+    /// Returns a struct of these fields. The iterator ends before the library is called.
+    ///
+    /// # Errors
+    /// [`Error::TooDeep`] if a field's type is 128 levels deep, and [`Error::OutOfMemory`].
+    pub fn struct_<N: AsRef<str>>(
+        fields: impl IntoIterator<Item = (N, DType)>,
+        nullability: Nullability,
+    ) -> Result<DType, Error> {
+        let (names, dtypes) = taken_apart(fields)?;
+        made(|out| ffi::dtype_struct(&names.text, &names.lengths, &dtypes, nullability.into(), out)).map(DType::of)
+    }
+
+    /// Returns a union of these variants, with the tags 0, 1, 2 and so on. The iterator ends before the library is called.
+    ///
+    /// # Errors
+    /// The library's errors 12, 14 and 15, if there is no variant, if there are more than 256, or if a name repeats;
+    /// [`Error::TooDeep`]; [`Error::OutOfMemory`].
+    pub fn union<N: AsRef<str>>(
+        variants: impl IntoIterator<Item = (N, DType)>,
+        nullability: Nullability,
+    ) -> Result<DType, Error> {
+        let (names, dtypes) = taken_apart(variants)?;
+        made(|out| ffi::dtype_union_consecutive(&names.text, &names.lengths, &dtypes, nullability.into(), out))
+            .map(DType::of)
+    }
+
+    /// Returns a union of these variants, each with its tag. The iterator ends before the library is called.
+    ///
+    /// # Errors
+    /// The library's errors 12, 13 and 15, if there is no variant, or if a tag or a name repeats; [`Error::TooDeep`];
+    /// [`Error::OutOfMemory`].
+    pub fn union_with_tags<N: AsRef<str>>(
+        variants: impl IntoIterator<Item = (N, u8, DType)>,
+        nullability: Nullability,
+    ) -> Result<DType, Error> {
+        let mut tags = Vec::new();
+        let (names, dtypes) = taken_apart(variants.into_iter().map(|(name, tag, dtype)| {
+            tags.push(tag);
+            (name, dtype)
+        }))?;
+        made(|out| ffi::dtype_union(&names.text, &names.lengths, &dtypes, &tags, nullability.into(), out))
+            .map(DType::of)
+    }
+
+    /// Returns an extension type: an id, metadata that only the extension understands, and the type in which it is stored.
+    ///
+    /// # Errors
+    /// [`Error::TooDeep`] if the storage type is 128 levels deep, and [`Error::OutOfMemory`].
+    pub fn extension(id: &str, metadata: &[u8], storage: &DType) -> Result<DType, Error> {
+        made(|out| ffi::dtype_extension(id.as_bytes(), metadata, &storage.slot, out)).map(DType::of)
+    }
+
+    /// Returns which kind of type it is.
+    pub fn kind(&self) -> Kind {
+        Kind::of(plain(|kind| ffi::dtype_kind(&self.slot, kind)))
+    }
+
+    /// Returns whether values may be null.
+    pub fn is_nullable(&self) -> bool {
+        holds(ffi::dtype_is_nullable(&self.slot))
+    }
+
+    /// Returns whether values may be null.
+    pub fn nullability(&self) -> Nullability {
+        self.is_nullable().into()
+    }
+
+    /// Returns whether there is a non-nullable type of this kind: not of the null type, nor of an extension over it.
+    pub fn can_be_nonnullable(&self) -> bool {
+        holds(ffi::dtype_can_be_nonnullable(&self.slot))
+    }
+
+    /// Returns the type with this nullability. What is inside keeps its own.
+    ///
+    /// # Errors
+    /// [`Error::Precondition`] if it can't be non-nullable, and [`Error::OutOfMemory`].
+    pub fn with_nullability(&self, nullability: Nullability) -> Result<DType, Error> {
+        made(|out| ffi::dtype_with_nullability(&self.slot, nullability.into(), out)).map(DType::of)
+    }
+
+    /// Returns the type as a nullable one.
+    pub fn as_nullable(&self) -> DType {
+        or_abort(self.try_as_nullable())
+    }
+
+    /// Returns the type as a nullable one, or that memory ran out.
+    pub fn try_as_nullable(&self) -> Result<DType, Error> {
+        self.with_nullability(Nullability::Nullable)
+    }
+
+    /// Returns the type as a non-nullable one.
+    ///
+    /// # Errors
+    /// As [`DType::with_nullability`].
+    pub fn as_nonnullable(&self) -> Result<DType, Error> {
+        self.with_nullability(Nullability::NonNullable)
+    }
+
+    /// Returns the type that is nullable if it is or `nullability` says so.
+    pub fn union_nullability(&self, nullability: Nullability) -> DType {
+        or_abort(self.try_union_nullability(nullability))
+    }
+
+    /// Returns the type that is nullable if it is or `nullability` says so, or that memory ran out.
+    pub fn try_union_nullability(&self, nullability: Nullability) -> Result<DType, Error> {
+        made(|out| ffi::dtype_union_nullability(&self.slot, nullability.into(), out)).map(DType::of)
+    }
+
+    /// Returns a copy, or that memory ran out.
+    pub fn try_clone(&self) -> Result<DType, Error> {
+        made(|out| ffi::dtype_copy(&self.slot, out)).map(DType::of)
+    }
+
+    /// Returns whether the types are equal but for nullabilities, also of what is inside.
+    pub fn eq_ignore_nullability(&self, other: &DType) -> bool {
+        ptr::eq(self, other) || holds(ffi::dtype_eq_ignore_nullability(&self.slot, &other.slot))
+    }
+
+    /// Feeds the hasher the same for types that are equal but for nullabilities.
+    pub fn hash_ignore_nullability<H: Hasher>(&self, state: &mut H) {
+        state.write_u64(plain(|hash| ffi::dtype_hash_ignore_nullability(&self.slot, hash)));
+    }
+
+    /// Returns whether this is `other` with fewer parts nullable, or the same.
+    pub fn eq_with_nullability_subset(&self, other: &DType) -> bool {
+        ptr::eq(self, other) || holds(ffi::dtype_nullability_subset(&self.slot, &other.slot))
+    }
+
+    /// Returns whether this is `other` with more parts nullable, or the same.
+    pub fn eq_with_nullability_superset(&self, other: &DType) -> bool {
+        ptr::eq(self, other) || holds(ffi::dtype_nullability_superset(&self.slot, &other.slot))
+    }
+
+    /// Returns the least type that takes the values of both, if there is one: they may differ in nullabilities alone.
+    ///
+    /// ```
+    /// # use vortex_logical_types::DType;
+    /// let (one, other): (DType, DType) = ("{a=i32, b=utf8?}".parse()?, "{a=i32?, b=utf8}".parse()?);
+    /// assert_eq!(one.merge_nullability(&other), Some("{a=i32?, b=utf8?}".parse()?));
+    /// assert_eq!(one.intersect_nullability(&other), Some("{a=i32, b=utf8}".parse()?));
+    /// assert_eq!(one.merge_nullability(&"{a=i64, b=utf8}".parse()?), None);
+    /// assert_eq!(one.merge_nullability(&one), Some(one.clone()));
+    /// # Ok::<(), vortex_logical_types::Error>(())
+    /// ```
+    pub fn merge_nullability(&self, other: &DType) -> Option<DType> {
+        or_abort(self.try_merge_nullability(other))
+    }
+
+    /// Returns the least type that takes the values of both, if there is one, or that memory ran out.
+    pub fn try_merge_nullability(&self, other: &DType) -> Result<Option<DType>, Error> {
+        self.with_other(other, ffi::dtype_merge_nullability)
+    }
+
+    /// Returns the greatest type whose values both take, if there is one: they may differ in nullabilities alone.
+    pub fn intersect_nullability(&self, other: &DType) -> Option<DType> {
+        or_abort(self.try_intersect_nullability(other))
+    }
+
+    /// Returns the greatest type whose values both take, if there is one, or that memory ran out.
+    pub fn try_intersect_nullability(&self, other: &DType) -> Result<Option<DType>, Error> {
+        self.with_other(other, ffi::dtype_intersect_nullability)
+    }
+
+    /// What a call makes of two types, which may be one.
+    pub(crate) fn with_other(
+        &self,
+        other: &DType,
+        call: impl FnOnce(&Slot, &Slot, &Slot) -> u32,
+    ) -> Result<Option<DType>, Error> {
+        let copy = if ptr::eq(self, other) { Some(other.try_clone()?) } else { None };
+        let other = copy.as_ref().unwrap_or(other);
+        Ok(found(|out| call(&self.slot, &other.slot, out))?.map(DType::of))
+    }
+
+    /// Returns the type as far as the paths of the set lead, with the fields in their order here, or `None` if no path
+    /// leads to a type.
+    pub fn project_paths(&self, set: &FieldPathSet) -> Option<DType> {
+        or_abort(self.try_project_paths(set))
+    }
+
+    /// Returns the type as far as the paths of the set lead, if one does, or that memory ran out.
+    pub fn try_project_paths(&self, set: &FieldPathSet) -> Result<Option<DType>, Error> {
+        Ok(found(|out| ffi::project_paths(&self.slot, &set.slot, out))?.map(DType::of))
+    }
+
+    /// Returns whether it is the type of booleans.
+    pub fn is_boolean(&self) -> bool {
+        self.kind() == Kind::Bool
+    }
+
+    /// Returns whether it is a primitive type.
+    pub fn is_primitive(&self) -> bool {
+        self.kind() == Kind::Primitive
+    }
+
+    /// Returns whether it is the type of an unsigned integer.
+    pub fn is_unsigned_int(&self) -> bool {
+        self.as_ptype_opt().is_some_and(PType::is_unsigned_int)
+    }
+
+    /// Returns whether it is the type of a signed integer.
+    pub fn is_signed_int(&self) -> bool {
+        self.as_ptype_opt().is_some_and(PType::is_signed_int)
+    }
+
+    /// Returns whether it is the type of an integer.
+    pub fn is_int(&self) -> bool {
+        self.as_ptype_opt().is_some_and(PType::is_int)
+    }
+
+    /// Returns whether it is the type of a floating-point number.
+    pub fn is_float(&self) -> bool {
+        self.as_ptype_opt().is_some_and(PType::is_float)
+    }
+
+    /// Returns whether it is a decimal type.
+    pub fn is_decimal(&self) -> bool {
+        self.kind() == Kind::Decimal
+    }
+
+    /// Returns whether it is the type of UTF-8 strings.
+    pub fn is_utf8(&self) -> bool {
+        self.kind() == Kind::Utf8
+    }
+
+    /// Returns whether it is the type of byte strings.
+    pub fn is_binary(&self) -> bool {
+        self.kind() == Kind::Binary
+    }
+
+    /// Returns whether it is the type of lists.
+    pub fn is_list(&self) -> bool {
+        self.kind() == Kind::List
+    }
+
+    /// Returns whether it is the type of lists of a fixed size.
+    pub fn is_fixed_size_list(&self) -> bool {
+        self.kind() == Kind::FixedSizeList
+    }
+
+    /// Returns whether it is the type of maps.
+    pub fn is_map(&self) -> bool {
+        self.kind() == Kind::Map
+    }
+
+    /// Returns whether it is a struct.
+    pub fn is_struct(&self) -> bool {
+        self.kind() == Kind::Struct
+    }
+
+    /// Returns whether it is a union.
+    pub fn is_union(&self) -> bool {
+        self.kind() == Kind::Union
+    }
+
+    /// Returns whether it is the type of variants.
+    pub fn is_variant(&self) -> bool {
+        self.kind() == Kind::Variant
+    }
+
+    /// Returns whether it is an extension type.
+    pub fn is_extension(&self) -> bool {
+        self.kind() == Kind::Extension
+    }
+
+    /// Returns the primitive type, if it is one.
+    pub fn as_ptype_opt(&self) -> Option<PType> {
+        or_abort(value(|ptype| ffi::dtype_ptype(&self.slot, ptype))).map(PType::of)
+    }
+
+    /// Returns the precision and the scale of a decimal type.
+    pub fn as_decimal_opt(&self) -> Option<DecimalDType> {
+        let mut decimal = DecimalDType { precision: 0, scale: 0 };
+        holds(ffi::dtype_decimal_parts(&self.slot, &mut decimal.precision, &mut decimal.scale)).then_some(decimal)
+    }
+
+    /// Returns the element type of a list.
+    pub fn as_list_element_opt(&self) -> Option<DType> {
+        if self.is_list() { self.as_any_size_list_element_opt() } else { None }
+    }
+
+    /// Returns the element type of a list of a fixed size.
+    pub fn as_fixed_size_list_element_opt(&self) -> Option<DType> {
+        if self.is_fixed_size_list() { self.as_any_size_list_element_opt() } else { None }
+    }
+
+    /// Returns the element type of a list, of a fixed size or not.
+    pub fn as_any_size_list_element_opt(&self) -> Option<DType> {
+        or_abort(self.try_as_any_size_list_element_opt())
+    }
+
+    /// Returns the element type of a list, of a fixed size or not, or that memory ran out.
+    pub fn try_as_any_size_list_element_opt(&self) -> Result<Option<DType>, Error> {
+        Ok(found(|out| ffi::dtype_element(&self.slot, out))?.map(DType::of))
+    }
+
+    /// Returns how many elements the lists of a fixed size have.
+    pub fn as_fixed_size_opt(&self) -> Option<u32> {
+        or_abort(value(|size| ffi::dtype_fixed_size(&self.slot, size)))
+    }
+
+    /// Returns the key and value types, if it is the type of maps.
+    pub fn as_map_opt(&self) -> Option<MapDType<'_>> {
+        self.is_map().then_some(MapDType { dtype: self })
+    }
+
+    /// Returns the fields, if it is a struct.
+    pub fn as_struct_fields_opt(&self) -> Option<StructFields<'_>> {
+        self.is_struct().then_some(StructFields { dtype: self })
+    }
+
+    /// Returns the variants, if it is a union.
+    pub fn as_union_variants_opt(&self) -> Option<UnionVariants<'_>> {
+        self.is_union().then_some(UnionVariants { dtype: self })
+    }
+
+    /// Returns the id, the metadata and the storage type, if it is an extension type.
+    pub fn as_extension_opt(&self) -> Option<ExtDTypeRef<'_>> {
+        self.is_extension().then_some(ExtDTypeRef { dtype: self })
+    }
+
+    /// Returns how many bytes a value takes, if all values take as many.
+    ///
+    /// # Errors
+    /// The library's error 19 if that is above [`usize::MAX`].
+    pub fn element_size(&self) -> Result<Option<usize>, Error> {
+        value(|size| ffi::dtype_element_size(&self.slot, size))
+    }
+
+    /// Returns the console's text of the type, from which [`FromStr`] reads the same type.
+    ///
+    /// ```
+    /// # use vortex_logical_types::{DType, Nullability};
+    /// let dtype = DType::struct_([("a, b", DType::null())], Nullability::Nullable)?;
+    /// assert_eq!(dtype.to_source(), r#"{"a, b"=null}?"#);
+    /// assert_eq!(dtype.to_string(), "{a, b=null}?");
+    /// # Ok::<(), vortex_logical_types::Error>(())
+    /// ```
+    pub fn to_source(&self) -> String {
+        or_abort(self.try_to_source())
+    }
+
+    /// Returns the console's text of the type, or that memory ran out.
+    pub fn try_to_source(&self) -> Result<String, Error> {
+        calls::text(|buffer, length| ffi::dtype_to_text(&self.slot, buffer, length))
+    }
+}
+
+/// The names and the types of fields or variants. The iterator ends before this does.
+fn taken_apart<N: AsRef<str>>(fields: impl IntoIterator<Item = (N, DType)>) -> Result<(Names, Vec<Slot>), Error> {
+    let (mut names, mut dtypes) = (Names::default(), Vec::new());
+    for (name, dtype) in fields {
+        names.push(name.as_ref())?;
+        dtypes.try_reserve(1).map_err(|_| Error::OutOfMemory)?;
+        dtypes.push(dtype.slot);
+    }
+    Ok((names, dtypes))
+}
+
+/// Reads the console's text of a type, such as `{a=list(i32?), "b c"=decimal(10,2)}`.
+///
+/// # Errors
+/// [`Error::Unreadable`] with the position, [`Error::TooDeep`], [`Error::OutOfMemory`], and the library's errors where a
+/// type in the text can't be made, such as `decimal(0,0)`.
+impl FromStr for DType {
+    type Err = Error;
+
+    fn from_str(text: &str) -> Result<DType, Error> {
+        read(text, ffi::dtype_from_text).map(DType::of)
+    }
+}
+
+/// The text that the library displays.
+impl fmt::Display for DType {
+    fn fmt(&self, f: &mut fmt::Formatter<'_>) -> fmt::Result {
+        f.pad(&calls::text(|buffer, length| ffi::dtype_display(&self.slot, buffer, length)).map_err(|_| fmt::Error)?)
+    }
+}
+
+impl fmt::Debug for DType {
+    fn fmt(&self, f: &mut fmt::Formatter<'_>) -> fmt::Result {
+        write!(f, "DType({})", self.try_to_source().map_err(|_| fmt::Error)?)
+    }
+}
+
+impl Clone for DType {
+    fn clone(&self) -> DType {
+        or_abort(self.try_clone())
+    }
+}
+
+impl PartialEq for DType {
+    fn eq(&self, other: &DType) -> bool {
+        ptr::eq(self, other) || holds(ffi::dtype_eq(&self.slot, &other.slot))
+    }
+}
+
+impl Eq for DType {}
+
+impl Hash for DType {
+    fn hash<H: Hasher>(&self, state: &mut H) {
+        state.write_u64(plain(|hash| ffi::dtype_hash(&self.slot, hash)));
+    }
+}
+
+impl From<PType> for DType {
+    fn from(ptype: PType) -> DType {
+        DType::primitive(ptype, Nullability::NonNullable)
+    }
+}
+
+impl TryFrom<&str> for DType {
+    type Error = Error;
+
+    fn try_from(text: &str) -> Result<DType, Error> {
+        text.parse()
+    }
+}

@@ -1,0 +1,50 @@
+// SPDX-License-Identifier: Apache-2.0
+// SPDX-FileCopyrightText: Copyright the Vortex contributors
+
+//! The heap under the library: the three functions that it calls for memory, over those of the C library, which every
+//! Rust program on Linux links. (`std::alloc` wants the size of a block when it is freed, and the library doesn't pass
+//! it.)
+use std::ffi::c_void;
+
+/// Whether memory was found, and where. The pointer is never null, also not where there was none.
+#[repr(C)]
+struct Tried {
+    ok: bool,
+    at: *mut c_void,
+}
+
+unsafe extern "C" {
+    fn malloc(size: usize) -> *mut c_void;
+    fn realloc(at: *mut c_void, size: usize) -> *mut c_void;
+    fn free(at: *mut c_void);
+}
+
+static NOTHING: u8 = 0;
+
+fn tried(at: *mut c_void) -> Tried {
+    if at.is_null() {
+        Tried { ok: false, at: (&raw const NOTHING).cast_mut().cast() }
+    } else {
+        Tried { ok: true, at }
+    }
+}
+
+/// A block of `size` bytes; of no bytes one of `align` bytes, so that `malloc` has no reason to return null.
+#[unsafe(no_mangle)]
+extern "C" fn rattle_alloc(size: usize, align: usize) -> Tried {
+    // SAFETY: any size may be given; the library asks for no alignment above the 16 bytes that malloc promises.
+    tried(unsafe { malloc(if size == 0 { align } else { size }) })
+}
+
+/// The block with `size` bytes, of which the first `kept` are as before. Where there is no memory the block stays.
+#[unsafe(no_mangle)]
+unsafe extern "C" fn rattle_realloc(at: *mut c_void, _kept: usize, size: usize, align: usize) -> Tried {
+    // SAFETY: the library gives a block that `rattle_alloc` or this function returned and that it owns.
+    tried(unsafe { realloc(at, if size == 0 { align } else { size }) })
+}
+
+#[unsafe(no_mangle)]
+unsafe extern "C" fn rattle_dealloc(at: *mut c_void) {
+    // SAFETY: as above.
+    unsafe { free(at) }
+}

@@ -1,0 +1,146 @@
+// SPDX-License-Identifier: Apache-2.0
+// SPDX-FileCopyrightText: Copyright the Vortex contributors
+
+//! Masks: which paths a reader wants.
+use crate::calls::{self, found, holds, made, or_abort, plain};
+use crate::error::Error;
+use crate::ffi::{self, Slot};
+use crate::paths::{Field, FieldPath};
+use std::fmt;
+use std::ptr;
+
+/// Which paths match: all, those at and below a path, or exactly one.
+///
+/// ```
+/// use vortex_logical_types::{Field, FieldMask, FieldPath};
+///
+/// let mask = FieldMask::prefix(&"a.b".parse::<FieldPath>()?);
+/// assert_eq!(mask.starting_field()?, Some(Field::from("a")));
+/// let below = mask.step_into()?.step_into()?;
+/// assert!(below.matches_all() && below.matches_root());
+/// assert!(FieldMask::exact(&FieldPath::root()).step_into().is_err());
+/// # Ok::<(), vortex_logical_types::Error>(())
+/// ```
+pub struct FieldMask {
+    slot: Slot,
+}
+
+/// Which form a [`FieldMask`] has.
+#[derive(Debug, Clone, Copy, PartialEq, Eq, Hash)]
+pub enum MaskKind {
+    /// All paths match.
+    All,
+    /// A path matches if it begins with the mask's.
+    Prefix,
+    /// The mask's path alone matches.
+    Exact,
+}
+
+impl FieldMask {
+    fn of(slot: Slot) -> FieldMask {
+        FieldMask { slot }
+    }
+
+    /// Returns the mask that all paths match.
+    pub fn all() -> FieldMask {
+        or_abort(FieldMask::try_all())
+    }
+
+    /// Returns the mask that all paths match, or that memory ran out.
+    pub fn try_all() -> Result<FieldMask, Error> {
+        made(ffi::mask_all).map(FieldMask::of)
+    }
+
+    /// Returns the mask that a path matches if it begins with this one.
+    pub fn prefix(path: &FieldPath) -> FieldMask {
+        or_abort(FieldMask::try_prefix(path))
+    }
+
+    /// Returns the mask that a path matches if it begins with this one, or that memory ran out.
+    pub fn try_prefix(path: &FieldPath) -> Result<FieldMask, Error> {
+        made(|out| ffi::mask_prefix(&path.slot, out)).map(FieldMask::of)
+    }
+
+    /// Returns the mask that this path alone matches.
+    pub fn exact(path: &FieldPath) -> FieldMask {
+        or_abort(FieldMask::try_exact(path))
+    }
+
+    /// Returns the mask that this path alone matches, or that memory ran out.
+    pub fn try_exact(path: &FieldPath) -> Result<FieldMask, Error> {
+        made(|out| ffi::mask_exact(&path.slot, out)).map(FieldMask::of)
+    }
+
+    /// Returns which form it has.
+    pub fn kind(&self) -> MaskKind {
+        match plain(|kind: &mut u32| ffi::mask_kind(&self.slot, kind)) {
+            0 => MaskKind::All,
+            1 => MaskKind::Prefix,
+            _ => MaskKind::Exact,
+        }
+    }
+
+    /// Returns the path, unless all paths match.
+    pub fn path(&self) -> Option<FieldPath> {
+        or_abort(self.try_path())
+    }
+
+    /// Returns the path, unless all paths match, or that memory ran out.
+    pub fn try_path(&self) -> Result<Option<FieldPath>, Error> {
+        Ok(found(|out| ffi::mask_path(&self.slot, out))?.map(FieldPath::of))
+    }
+
+    /// Returns the mask after one step.
+    ///
+    /// # Errors
+    /// The library's error 20 for the mask of exactly the root, and [`Error::OutOfMemory`].
+    pub fn step_into(&self) -> Result<FieldMask, Error> {
+        made(|out| ffi::mask_step_into(&self.slot, out)).map(FieldMask::of)
+    }
+
+    /// Returns the first step, if the path has one.
+    ///
+    /// # Errors
+    /// The library's error 21 for the mask that all paths match, and [`Error::OutOfMemory`].
+    pub fn starting_field(&self) -> Result<Option<Field>, Error> {
+        calls::step_found(|buffer, length| ffi::mask_starting_field(&self.slot, buffer, length))
+    }
+
+    /// Returns whether all paths match.
+    pub fn matches_all(&self) -> bool {
+        holds(ffi::mask_matches_all(&self.slot))
+    }
+
+    /// Returns whether the root matches.
+    pub fn matches_root(&self) -> bool {
+        holds(ffi::mask_matches_root(&self.slot))
+    }
+
+    /// Returns a copy, or that memory ran out.
+    pub fn try_clone(&self) -> Result<FieldMask, Error> {
+        made(|out| ffi::mask_copy(&self.slot, out)).map(FieldMask::of)
+    }
+}
+
+impl Clone for FieldMask {
+    fn clone(&self) -> FieldMask {
+        or_abort(self.try_clone())
+    }
+}
+
+impl PartialEq for FieldMask {
+    fn eq(&self, other: &FieldMask) -> bool {
+        ptr::eq(self, other) || holds(ffi::mask_eq(&self.slot, &other.slot))
+    }
+}
+
+impl Eq for FieldMask {}
+
+impl fmt::Debug for FieldMask {
+    fn fmt(&self, f: &mut fmt::Formatter<'_>) -> fmt::Result {
+        match self.try_path().map_err(|_| fmt::Error)? {
+            None => write!(f, "{:?}", self.kind()),
+            Some(path) => write!(f, "{:?}({})", self.kind(), path.try_to_source().map_err(|_| fmt::Error)?),
+        }
+    }
+}

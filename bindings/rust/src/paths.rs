@@ -1,0 +1,279 @@
+// SPDX-License-Identifier: Apache-2.0
+// SPDX-FileCopyrightText: Copyright the Vortex contributors
+
+//! Paths into types.
+use crate::calls::{self, Names, found, holds, made, or_abort, plain, read};
+use crate::dtype::DType;
+use crate::error::Error;
+use crate::ffi::{self, Slot};
+use std::fmt;
+use std::hash::{Hash, Hasher};
+use std::ptr;
+use std::str::FromStr;
+
+/// A step of a path: into a field of a struct, or into the element of a list.
+#[derive(Debug, Clone, PartialEq, Eq, Hash)]
+pub enum Field {
+    /// Into the field of this name.
+    Name(String),
+    /// Into the element.
+    ElementType,
+}
+
+impl Field {
+    /// Returns the name, if it is one.
+    pub fn as_name(&self) -> Option<&str> {
+        match self {
+            Field::Name(name) => Some(name),
+            Field::ElementType => None,
+        }
+    }
+
+    /// Returns whether it is a name.
+    pub fn is_named(&self) -> bool {
+        self.as_name().is_some()
+    }
+}
+
+impl From<&str> for Field {
+    fn from(name: &str) -> Field {
+        Field::Name(name.to_owned())
+    }
+}
+
+impl From<String> for Field {
+    fn from(name: String) -> Field {
+        Field::Name(name)
+    }
+}
+
+/// A path into a type: steps, from the root.
+///
+/// ```
+/// use vortex_logical_types::{DType, Field, FieldPath};
+///
+/// let path = FieldPath::from_name("lines").push(Field::ElementType).push("sku");
+/// assert_eq!(path, "lines.[].sku".parse()?);
+/// assert_eq!(path.to_string(), "$lines.[].$sku");
+///
+/// let orders: DType = "{lines=list({sku=utf8?})}".parse()?;
+/// assert_eq!(path.resolve(&orders), Some("utf8?".parse()?));
+/// assert!(!FieldPath::from_name("sku").exists_in(&orders));
+/// # Ok::<(), vortex_logical_types::Error>(())
+/// ```
+pub struct FieldPath {
+    pub(crate) slot: Slot,
+}
+
+impl FieldPath {
+    pub(crate) fn of(slot: Slot) -> FieldPath {
+        FieldPath { slot }
+    }
+
+    /// Returns the path of no step.
+    pub fn root() -> FieldPath {
+        or_abort(FieldPath::try_root())
+    }
+
+    /// Returns the path of no step, or that memory ran out.
+    pub fn try_root() -> Result<FieldPath, Error> {
+        made(ffi::path_root).map(FieldPath::of)
+    }
+
+    /// Returns the path of one step, into the field of this name.
+    pub fn from_name(name: &str) -> FieldPath {
+        or_abort(FieldPath::try_from_name(name))
+    }
+
+    /// Returns the path of one step, into the field of this name, or that memory ran out.
+    pub fn try_from_name(name: &str) -> Result<FieldPath, Error> {
+        FieldPath::of_steps(name.as_bytes(), &[name.len()])
+    }
+
+    /// Returns the path of one step.
+    pub fn from_field(field: impl Into<Field>) -> FieldPath {
+        or_abort(FieldPath::try_from_iter([field.into()]))
+    }
+
+    /// Returns the path of these steps, or that memory ran out. The iterator ends before the library is called.
+    pub fn try_from_iter(parts: impl IntoIterator<Item = impl Into<Field>>) -> Result<FieldPath, Error> {
+        let mut steps = Names::default();
+        for part in parts {
+            match part.into() {
+                Field::Name(name) => steps.push(&name)?,
+                Field::ElementType => steps.push_element()?,
+            }
+        }
+        FieldPath::of_steps(&steps.text, &steps.lengths)
+    }
+
+    fn of_steps(names: &[u8], lengths: &[usize]) -> Result<FieldPath, Error> {
+        made(|out| ffi::path_from_steps(names, lengths, out)).map(FieldPath::of)
+    }
+
+    /// Returns the path that a path message of these parts says: a name, or `None` for a part without a kind.
+    ///
+    /// # Errors
+    /// The library's error 36 if a part has no kind, and [`Error::OutOfMemory`].
+    pub fn from_message<N: AsRef<str>>(parts: impl IntoIterator<Item = Option<N>>) -> Result<FieldPath, Error> {
+        let mut names = Names::default();
+        for part in parts {
+            match part {
+                Some(name) => names.push(name.as_ref())?,
+                None => names.push_element()?,
+            }
+        }
+        made(|out| ffi::path_from_message(&names.text, &names.lengths, out)).map(FieldPath::of)
+    }
+
+    /// Returns the steps.
+    pub fn parts(&self) -> Vec<Field> {
+        or_abort(self.try_parts())
+    }
+
+    /// Returns the steps, or that memory ran out.
+    pub fn try_parts(&self) -> Result<Vec<Field>, Error> {
+        let mut parts = Vec::new();
+        parts.try_reserve_exact(self.len()).map_err(|_| Error::OutOfMemory)?;
+        for index in 0..self.len() {
+            parts.extend(calls::step_found(|buffer, length| ffi::path_step(&self.slot, index, buffer, length))?);
+        }
+        Ok(parts)
+    }
+
+    /// Returns the number of steps.
+    #[allow(clippy::len_without_is_empty)]
+    pub fn len(&self) -> usize {
+        plain(|count| ffi::path_len(&self.slot, count))
+    }
+
+    /// Returns whether there is no step.
+    pub fn is_root(&self) -> bool {
+        self.len() == 0
+    }
+
+    /// Returns the path with one more step.
+    pub fn push(self, field: impl Into<Field>) -> FieldPath {
+        or_abort(self.try_push(field))
+    }
+
+    /// Returns the path with one more step, or that memory ran out.
+    pub fn try_push(&self, field: impl Into<Field>) -> Result<FieldPath, Error> {
+        match field.into() {
+            Field::Name(name) => made(|out| ffi::path_push_name(&self.slot, name.as_bytes(), out)),
+            Field::ElementType => made(|out| ffi::path_push_element(&self.slot, out)),
+        }
+        .map(FieldPath::of)
+    }
+
+    /// Returns whether the first step is this name.
+    ///
+    /// # Errors
+    /// [`Error::Precondition`] if the first step is the element.
+    pub fn starts_with_name(&self, name: &str) -> Result<bool, Error> {
+        calls::done(ffi::path_starts_with_name(&self.slot, name.as_bytes()))
+    }
+
+    /// Returns the path without its first step, if it has one.
+    pub fn step_into(&self) -> Option<FieldPath> {
+        or_abort(self.try_step_into())
+    }
+
+    /// Returns the path without its first step, if it has one, or that memory ran out.
+    pub fn try_step_into(&self) -> Result<Option<FieldPath>, Error> {
+        Ok(found(|out| ffi::path_step_into(&self.slot, out))?.map(FieldPath::of))
+    }
+
+    /// Returns the type at the path, if there is one.
+    pub fn resolve(&self, dtype: &DType) -> Option<DType> {
+        or_abort(self.try_resolve(dtype))
+    }
+
+    /// Returns the type at the path, if there is one, or that memory ran out.
+    pub fn try_resolve(&self, dtype: &DType) -> Result<Option<DType>, Error> {
+        Ok(found(|out| ffi::path_resolve(&dtype.slot, &self.slot, out))?.map(DType::of))
+    }
+
+    /// Returns whether there is a type at the path.
+    pub fn exists_in(&self, dtype: &DType) -> bool {
+        holds(ffi::path_exists_in(&dtype.slot, &self.slot))
+    }
+
+    /// Returns whether one of the paths is a prefix of the other.
+    pub fn overlap(&self, other: &FieldPath) -> bool {
+        ptr::eq(self, other) || holds(ffi::path_overlap(&self.slot, &other.slot))
+    }
+
+    /// Returns a copy, or that memory ran out.
+    pub fn try_clone(&self) -> Result<FieldPath, Error> {
+        made(|out| ffi::path_copy(&self.slot, out)).map(FieldPath::of)
+    }
+
+    /// Returns the console's text of the path, from which [`FromStr`] reads the same path: `a.[].b`, or `.` for the root.
+    pub fn to_source(&self) -> String {
+        or_abort(self.try_to_source())
+    }
+
+    /// Returns the console's text of the path, or that memory ran out.
+    pub fn try_to_source(&self) -> Result<String, Error> {
+        calls::text(|buffer, length| ffi::path_to_text(&self.slot, buffer, length))
+    }
+}
+
+/// Reads the console's text of a path, such as `a.[]."b c"`, or `.` for the root.
+///
+/// # Errors
+/// [`Error::Unreadable`] with the position, and [`Error::OutOfMemory`].
+impl FromStr for FieldPath {
+    type Err = Error;
+
+    fn from_str(text: &str) -> Result<FieldPath, Error> {
+        read(text, ffi::path_from_text).map(FieldPath::of)
+    }
+}
+
+/// The text that the library displays, such as `$a.[].$b`.
+impl fmt::Display for FieldPath {
+    fn fmt(&self, f: &mut fmt::Formatter<'_>) -> fmt::Result {
+        f.pad(&calls::text(|buffer, length| ffi::path_display(&self.slot, buffer, length)).map_err(|_| fmt::Error)?)
+    }
+}
+
+impl fmt::Debug for FieldPath {
+    fn fmt(&self, f: &mut fmt::Formatter<'_>) -> fmt::Result {
+        write!(f, "FieldPath({})", self.try_to_source().map_err(|_| fmt::Error)?)
+    }
+}
+
+impl Clone for FieldPath {
+    fn clone(&self) -> FieldPath {
+        or_abort(self.try_clone())
+    }
+}
+
+impl PartialEq for FieldPath {
+    fn eq(&self, other: &FieldPath) -> bool {
+        ptr::eq(self, other) || holds(ffi::path_eq(&self.slot, &other.slot))
+    }
+}
+
+impl Eq for FieldPath {}
+
+impl Hash for FieldPath {
+    fn hash<H: Hasher>(&self, state: &mut H) {
+        state.write_u64(plain(|hash| ffi::path_hash(&self.slot, hash)));
+    }
+}
+
+impl From<Field> for FieldPath {
+    fn from(field: Field) -> FieldPath {
+        FieldPath::from_field(field)
+    }
+}
+
+/// The iterator ends before the library is called.
+impl<F: Into<Field>> FromIterator<F> for FieldPath {
+    fn from_iter<I: IntoIterator<Item = F>>(parts: I) -> FieldPath {
+        or_abort(FieldPath::try_from_iter(parts))
+    }
+}

@@ -1,0 +1,221 @@
+// SPDX-License-Identifier: Apache-2.0
+// SPDX-FileCopyrightText: Copyright the Vortex contributors
+
+//! Values without parts: nullability, primitive types, decimals, kinds of types. They are plain Rust, and no call is made.
+use std::fmt;
+use std::ops::{BitOr, BitOrAssign};
+
+/// Whether values may be null.
+#[derive(Debug, Clone, Copy, PartialEq, Eq, Hash, Default)]
+pub enum Nullability {
+    /// No value is null.
+    #[default]
+    NonNullable,
+    /// Values may be null.
+    Nullable,
+}
+
+impl Nullability {
+    /// Returns whether values may be null.
+    pub fn is_nullable(&self) -> bool {
+        *self == Nullability::Nullable
+    }
+}
+
+impl From<bool> for Nullability {
+    fn from(is_nullable: bool) -> Nullability {
+        if is_nullable { Nullability::Nullable } else { Nullability::NonNullable }
+    }
+}
+
+impl From<Nullability> for bool {
+    fn from(nullability: Nullability) -> bool {
+        nullability.is_nullable()
+    }
+}
+
+/// Nullable if one of them is.
+impl BitOr for Nullability {
+    type Output = Nullability;
+
+    fn bitor(self, other: Nullability) -> Nullability {
+        Nullability::from(self.is_nullable() || other.is_nullable())
+    }
+}
+
+impl BitOrAssign for Nullability {
+    fn bitor_assign(&mut self, other: Nullability) {
+        *self = *self | other;
+    }
+}
+
+/// What stands behind a type: `?` if it is nullable, else nothing.
+impl fmt::Display for Nullability {
+    fn fmt(&self, f: &mut fmt::Formatter<'_>) -> fmt::Result {
+        f.write_str(if self.is_nullable() { "?" } else { "" })
+    }
+}
+
+/// A primitive type. The order is that of the numbers, 0 to 10, which messages have.
+#[derive(Debug, Clone, Copy, PartialEq, Eq, PartialOrd, Ord, Hash)]
+#[allow(missing_docs)]
+pub enum PType {
+    U8,
+    U16,
+    U32,
+    U64,
+    I8,
+    I16,
+    I32,
+    I64,
+    F16,
+    F32,
+    F64,
+}
+
+impl PType {
+    /// All primitive types, in the order of their numbers.
+    pub const ALL: [PType; 11] = [
+        PType::U8,
+        PType::U16,
+        PType::U32,
+        PType::U64,
+        PType::I8,
+        PType::I16,
+        PType::I32,
+        PType::I64,
+        PType::F16,
+        PType::F32,
+        PType::F64,
+    ];
+
+    /// Returns the number that a message has for it, 0 to 10.
+    pub fn number(&self) -> u32 {
+        *self as u32
+    }
+
+    pub(crate) fn of(number: u32) -> PType {
+        PType::ALL[number as usize]
+    }
+
+    /// Returns whether it is an unsigned integer.
+    pub fn is_unsigned_int(self) -> bool {
+        self <= PType::U64
+    }
+
+    /// Returns whether it is a signed integer.
+    pub fn is_signed_int(self) -> bool {
+        (PType::I8..=PType::I64).contains(&self)
+    }
+
+    /// Returns whether it is an integer.
+    pub fn is_int(self) -> bool {
+        self <= PType::I64
+    }
+
+    /// Returns whether it is a floating-point number.
+    pub fn is_float(self) -> bool {
+        self >= PType::F16
+    }
+
+    /// Returns how many bytes a value takes.
+    pub fn byte_width(&self) -> usize {
+        match self {
+            PType::U8 | PType::I8 => 1,
+            PType::U16 | PType::I16 | PType::F16 => 2,
+            PType::U32 | PType::I32 | PType::F32 => 4,
+            PType::U64 | PType::I64 | PType::F64 => 8,
+        }
+    }
+
+    /// Returns how many bits a value takes.
+    pub fn bit_width(&self) -> usize {
+        self.byte_width() * 8
+    }
+}
+
+/// The name in lower case, such as `u8`.
+impl fmt::Display for PType {
+    fn fmt(&self, f: &mut fmt::Formatter<'_>) -> fmt::Result {
+        f.write_str(match self {
+            PType::U8 => "u8",
+            PType::U16 => "u16",
+            PType::U32 => "u32",
+            PType::U64 => "u64",
+            PType::I8 => "i8",
+            PType::I16 => "i16",
+            PType::I32 => "i32",
+            PType::I64 => "i64",
+            PType::F16 => "f16",
+            PType::F32 => "f32",
+            PType::F64 => "f64",
+        })
+    }
+}
+
+/// What a decimal type says: how many digits a value has, and how many of them are behind the point.
+#[derive(Debug, Clone, Copy, PartialEq, Eq, Hash)]
+pub struct DecimalDType {
+    pub(crate) precision: u8,
+    pub(crate) scale: i8,
+}
+
+impl DecimalDType {
+    /// Returns the number of digits, 1 to 76.
+    pub fn precision(&self) -> u8 {
+        self.precision
+    }
+
+    /// Returns the number of digits behind the point; it may be negative.
+    pub fn scale(&self) -> i8 {
+        self.scale
+    }
+}
+
+/// Such as `decimal(10,2)`.
+impl fmt::Display for DecimalDType {
+    fn fmt(&self, f: &mut fmt::Formatter<'_>) -> fmt::Result {
+        write!(f, "decimal({},{})", self.precision, self.scale)
+    }
+}
+
+/// Which kind of type a [`DType`](crate::DType) is. The order is that of the numbers which the C interface has.
+#[derive(Debug, Clone, Copy, PartialEq, Eq, PartialOrd, Ord, Hash)]
+#[allow(missing_docs)]
+pub enum Kind {
+    Null,
+    Bool,
+    Primitive,
+    Decimal,
+    Utf8,
+    Binary,
+    List,
+    FixedSizeList,
+    Map,
+    Struct,
+    Union,
+    Variant,
+    Extension,
+}
+
+impl Kind {
+    const ALL: [Kind; 13] = [
+        Kind::Null,
+        Kind::Bool,
+        Kind::Primitive,
+        Kind::Decimal,
+        Kind::Utf8,
+        Kind::Binary,
+        Kind::List,
+        Kind::FixedSizeList,
+        Kind::Map,
+        Kind::Struct,
+        Kind::Union,
+        Kind::Variant,
+        Kind::Extension,
+    ];
+
+    pub(crate) fn of(number: u32) -> Kind {
+        Kind::ALL[number as usize]
+    }
+}

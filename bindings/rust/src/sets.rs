@@ -1,0 +1,279 @@
+// SPDX-License-Identifier: Apache-2.0
+// SPDX-FileCopyrightText: Copyright the Vortex contributors
+
+//! Sets of paths.
+use crate::calls::{done, found, holds, made, or_abort, plain};
+use crate::dtype::DType;
+use crate::error::Error;
+use crate::ffi::{self, Slot};
+use crate::paths::{Field, FieldPath};
+use std::borrow::Borrow;
+use std::fmt;
+
+/// A set of paths.
+///
+/// ```
+/// use vortex_logical_types::{DType, FieldPath, FieldPathSet};
+///
+/// let mut set = FieldPathSet::new();
+/// for path in ["a.b", "x", "a", "a"] {
+///     set.insert(path.parse::<FieldPath>()?);
+/// }
+/// assert_eq!(set.len(), 3);
+/// assert!(set.contains(&FieldPath::from_name("x")));
+/// // The cover has the paths that no other path of the set begins.
+/// assert_eq!(set.cover().map(|it| it.to_source()).collect::<Vec<_>>(), ["a", "x"]);
+/// # Ok::<(), vortex_logical_types::Error>(())
+/// ```
+pub struct FieldPathSet {
+    pub(crate) slot: Slot,
+}
+
+/// What a set of paths says below a path: see [`FieldPathSet::below`].
+#[derive(Debug, Clone, Copy, PartialEq, Eq, Hash)]
+pub struct Below {
+    /// Whether the path itself is in the set.
+    pub is_end: bool,
+    /// Whether a path of the set goes on with the step into the element.
+    pub has_element: bool,
+    /// By how many names paths of the set go on.
+    pub name_count: usize,
+}
+
+impl FieldPathSet {
+    /// Returns the empty set.
+    pub fn new() -> FieldPathSet {
+        or_abort(FieldPathSet::try_new())
+    }
+
+    /// Returns the empty set, or that memory ran out.
+    pub fn try_new() -> Result<FieldPathSet, Error> {
+        made(ffi::set_new).map(|slot| FieldPathSet { slot })
+    }
+
+    /// Returns the set of these paths, or that memory ran out. The iterator ends before the library is called.
+    pub fn try_from_iter(paths: impl IntoIterator<Item = impl Borrow<FieldPath>>) -> Result<FieldPathSet, Error> {
+        let mut set = FieldPathSet::try_new()?;
+        set.try_extend(paths)?;
+        Ok(set)
+    }
+
+    /// Inserts a path. If it is there already, nothing changes.
+    pub fn insert(&mut self, path: impl Borrow<FieldPath>) {
+        or_abort(self.try_insert(path));
+    }
+
+    /// Inserts a path, or says that memory ran out. Then the set is as it was.
+    pub fn try_insert(&mut self, path: impl Borrow<FieldPath>) -> Result<(), Error> {
+        inserted(ffi::set_insert(&self.slot, &path.borrow().slot))
+    }
+
+    /// Inserts paths, or says that memory ran out; then the set has the paths before the one that failed. The iterator ends
+    /// before the first path is inserted.
+    pub fn try_extend(&mut self, paths: impl IntoIterator<Item = impl Borrow<FieldPath>>) -> Result<(), Error> {
+        let mut given = Vec::new();
+        for path in paths {
+            given.try_reserve(1).map_err(|_| Error::OutOfMemory)?;
+            given.push(path);
+        }
+        given.iter().try_for_each(|path| inserted(ffi::set_insert(&self.slot, &path.borrow().slot)))
+    }
+
+    /// Returns whether the path is in the set.
+    pub fn contains(&self, path: &FieldPath) -> bool {
+        holds(ffi::set_contains(&self.slot, &path.slot))
+    }
+
+    /// Returns how many paths are in the set.
+    pub fn len(&self) -> usize {
+        plain(|count| ffi::set_len(&self.slot, count))
+    }
+
+    /// Returns whether no path is in the set.
+    pub fn is_empty(&self) -> bool {
+        self.len() == 0
+    }
+
+    /// Returns the paths of the set, each once.
+    pub fn iter(&self) -> Paths {
+        or_abort(self.try_iter())
+    }
+
+    /// Returns the paths of the set, each once, or that memory ran out.
+    pub fn try_iter(&self) -> Result<Paths, Error> {
+        made(|out| ffi::set_members(&self.slot, out)).map(Paths::of)
+    }
+
+    /// Returns the cover: the fewest paths of the set such that each path of it begins with one of them.
+    pub fn cover(&self) -> Paths {
+        or_abort(self.try_cover())
+    }
+
+    /// Returns the cover, or that memory ran out.
+    pub fn try_cover(&self) -> Result<Paths, Error> {
+        made(|out| ffi::set_cover(&self.slot, out)).map(Paths::of)
+    }
+
+    /// Returns the paths of the cover at which the type has nothing.
+    pub fn unresolved(&self, dtype: &DType) -> Paths {
+        or_abort(self.try_unresolved(dtype))
+    }
+
+    /// Returns the paths of the cover at which the type has nothing, or that memory ran out.
+    pub fn try_unresolved(&self, dtype: &DType) -> Result<Paths, Error> {
+        made(|out| ffi::set_unresolved(&self.slot, &dtype.slot, out)).map(Paths::of)
+    }
+
+    /// Returns what the set says below a path, or `None` if no path of the set begins with it. Nothing is copied.
+    ///
+    /// ```
+    /// # use vortex_logical_types::{Below, FieldPath, FieldPathSet};
+    /// let set: FieldPathSet = ["a", "a.[]", "a.b", "a.c.d"].iter().map(|it| it.parse()).collect::<Result<_, _>>()?;
+    /// let below = set.below(&FieldPath::from_name("a"));
+    /// assert_eq!(below, Some(Below { is_end: true, has_element: true, name_count: 2 }));
+    /// assert_eq!(set.below(&FieldPath::from_name("b")), None);
+    /// # Ok::<(), vortex_logical_types::Error>(())
+    /// ```
+    pub fn below(&self, path: &FieldPath) -> Option<Below> {
+        let mut below = Below { is_end: false, has_element: false, name_count: 0 };
+        let Below { is_end, has_element, name_count } = &mut below;
+        holds(ffi::set_below(&self.slot, &path.slot, is_end, has_element, name_count)).then_some(below)
+    }
+
+    /// Returns the names by which paths of the set go on below a path, or `None` if no path of the set begins with it.
+    pub fn names_below(&self, path: &FieldPath) -> Option<Vec<String>> {
+        or_abort(self.try_names_below(path))
+    }
+
+    /// Returns the names by which paths of the set go on below a path, or that memory ran out.
+    pub fn try_names_below(&self, path: &FieldPath) -> Result<Option<Vec<String>>, Error> {
+        let Some(paths) = found(|out| ffi::set_names_below(&self.slot, &path.slot, out))?.map(Paths::of) else {
+            return Ok(None);
+        };
+        let mut names = Vec::new();
+        names.try_reserve_exact(paths.len()).map_err(|_| Error::OutOfMemory)?;
+        for index in paths.next..paths.end {
+            names.extend(paths.get(index)?.try_parts()?.into_iter().filter_map(|step| match step {
+                Field::Name(name) => Some(name),
+                Field::ElementType => None,
+            }));
+        }
+        Ok(Some(names))
+    }
+
+    /// Returns a copy, or that memory ran out.
+    pub fn try_clone(&self) -> Result<FieldPathSet, Error> {
+        made(|out| ffi::set_copy(&self.slot, out)).map(|slot| FieldPathSet { slot })
+    }
+}
+
+fn inserted(code: u32) -> Result<(), Error> {
+    done(code).map(|_| ())
+}
+
+impl Default for FieldPathSet {
+    fn default() -> FieldPathSet {
+        FieldPathSet::new()
+    }
+}
+
+impl fmt::Debug for FieldPathSet {
+    fn fmt(&self, f: &mut fmt::Formatter<'_>) -> fmt::Result {
+        f.debug_set().entries(self.try_iter().map_err(|_| fmt::Error)?).finish()
+    }
+}
+
+impl Clone for FieldPathSet {
+    fn clone(&self) -> FieldPathSet {
+        or_abort(self.try_clone())
+    }
+}
+
+/// The iterator ends before the library is called.
+impl<P: Borrow<FieldPath>> FromIterator<P> for FieldPathSet {
+    fn from_iter<I: IntoIterator<Item = P>>(paths: I) -> FieldPathSet {
+        or_abort(FieldPathSet::try_from_iter(paths))
+    }
+}
+
+/// The iterator ends before the first path is inserted.
+impl<P: Borrow<FieldPath>> Extend<P> for FieldPathSet {
+    fn extend<I: IntoIterator<Item = P>>(&mut self, paths: I) {
+        or_abort(self.try_extend(paths));
+    }
+}
+
+/// The cover of the set, as [`FieldPathSet::cover`].
+impl IntoIterator for FieldPathSet {
+    type Item = FieldPath;
+    type IntoIter = Paths;
+
+    fn into_iter(self) -> Paths {
+        self.cover()
+    }
+}
+
+/// A list of paths that the library made, as an iterator.
+pub struct Paths {
+    list: Slot,
+    next: usize,
+    end: usize,
+}
+
+impl Paths {
+    fn of(list: Slot) -> Paths {
+        let end = plain(|count| ffi::paths_len(&list, count));
+        Paths { list, next: 0, end }
+    }
+
+    fn get(&self, index: usize) -> Result<FieldPath, Error> {
+        made(|out| ffi::paths_get(&self.list, index, out)).map(FieldPath::of)
+    }
+
+    /// Returns the next path, or that memory ran out. Then the same path is the next again.
+    pub fn try_next(&mut self) -> Result<Option<FieldPath>, Error> {
+        if self.next == self.end {
+            return Ok(None);
+        }
+        let path = self.get(self.next)?;
+        self.next += 1;
+        Ok(Some(path))
+    }
+}
+
+impl Iterator for Paths {
+    type Item = FieldPath;
+
+    fn next(&mut self) -> Option<FieldPath> {
+        or_abort(self.try_next())
+    }
+
+    fn size_hint(&self) -> (usize, Option<usize>) {
+        (self.end - self.next, Some(self.end - self.next))
+    }
+}
+
+impl DoubleEndedIterator for Paths {
+    fn next_back(&mut self) -> Option<FieldPath> {
+        if self.next == self.end {
+            return None;
+        }
+        let path = or_abort(self.get(self.end - 1));
+        self.end -= 1;
+        Some(path)
+    }
+}
+
+impl ExactSizeIterator for Paths {}
+
+impl std::iter::FusedIterator for Paths {}
+
+impl fmt::Debug for Paths {
+    fn fmt(&self, f: &mut fmt::Formatter<'_>) -> fmt::Result {
+        let mut list = f.debug_list();
+        for index in self.next..self.end {
+            list.entry(&self.get(index).map_err(|_| fmt::Error)?);
+        }
+        list.finish()
+    }
+}

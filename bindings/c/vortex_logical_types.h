@@ -110,12 +110,34 @@ typedef struct {
     int32_t value;
 } vlt_node;
 
-/* Writes the answer of the console to one line, which is given without its newline. The answer is a text also if the
- * line can't be read, or if the call that it names returns an error.
- *
- * Returns 1 if the line has no answer, because it is blank, a comment or `exit`. No line knows the sets and sessions that
- * an earlier line named. */
-uint32_t vlt_answer(const uint8_t *line, size_t line_len, uint8_t *buffer, size_t buffer_len, size_t *length);
+/* Puts the null type. */
+uint32_t vlt_dtype_null(vlt_slot *out);
+
+/* Puts the type of booleans. */
+uint32_t vlt_dtype_bool(bool nullable, vlt_slot *out);
+
+/* Puts the type of texts. */
+uint32_t vlt_dtype_utf8(bool nullable, vlt_slot *out);
+
+/* Puts the type of byte strings. */
+uint32_t vlt_dtype_binary(bool nullable, vlt_slot *out);
+
+/* Puts the type of values that carry their own types. */
+uint32_t vlt_dtype_variant(bool nullable, vlt_slot *out);
+
+/* Puts a primitive type, by its number from 0 to 10. */
+uint32_t vlt_dtype_primitive(uint32_t number, bool nullable, vlt_slot *out);
+
+/* Puts a decimal type of this precision and scale. If the library accepts none of these, it returns 101 to 104. */
+uint32_t vlt_dtype_decimal(uint8_t precision, int8_t scale, bool nullable, vlt_slot *out);
+
+/* Puts the type of lists of this element type.
+ * If the element has 128 levels, it returns 6. */
+uint32_t vlt_dtype_list(vlt_slot *element, bool nullable, vlt_slot *out);
+
+/* Puts the type of lists of exactly `size` elements of this type.
+ * If the element has 128 levels, it returns 6. */
+uint32_t vlt_dtype_fixed_size_list(vlt_slot *element, uint32_t size, bool nullable, vlt_slot *out);
 
 /* Returns the version of this interface: 1. */
 uint32_t vlt_abi_version(void);
@@ -126,6 +148,67 @@ void vlt_free(vlt_slot *slot);
 /* Returns the kind of the object in the slot: 0 none, 1 a type, 2 a path, 3 a set of paths, 4 a list of paths, 5 a mask,
  * 6 the message of a type. */
 uint32_t vlt_kind(vlt_slot *slot);
+
+/* Puts the mask that selects everything. */
+uint32_t vlt_mask_all(vlt_slot *out);
+
+/* Puts the mask of the path and of everything below it. */
+uint32_t vlt_mask_prefix(vlt_slot *path, vlt_slot *out);
+
+/* Puts the mask of the path alone. */
+uint32_t vlt_mask_exact(vlt_slot *path, vlt_slot *out);
+
+/* Writes which mask it is: 0 of everything, 1 of a path and what is below it, 2 of a path alone. */
+uint32_t vlt_mask_kind(vlt_slot *mask, uint32_t *kind);
+
+/* Puts the path of the mask; the mask of everything has none. */
+uint32_t vlt_mask_path(vlt_slot *mask, vlt_slot *out);
+
+/* Puts a copy of the mask. */
+uint32_t vlt_mask_copy(vlt_slot *mask, vlt_slot *out);
+
+/* Puts the mask after the first step of its path. Of the mask of the root alone it returns 120. */
+uint32_t vlt_mask_step_into(vlt_slot *mask, vlt_slot *out);
+
+/* Writes the first step of the mask's path, as `vlt_path_step` does. Of the mask of everything it returns 121. */
+uint32_t vlt_mask_starting_field(vlt_slot *mask, uint8_t *buffer, size_t buffer_len, size_t *length);
+
+/* Returns 0 if every path is in the mask. */
+uint32_t vlt_mask_matches_all(vlt_slot *mask);
+
+/* Returns 0 if the root is in the mask. */
+uint32_t vlt_mask_matches_root(vlt_slot *mask);
+
+/* Returns 0 if the masks are equal. */
+uint32_t vlt_mask_eq(vlt_slot *one, vlt_slot *other);
+
+/* Puts the type that the message describes. Returns 100 and the number of the first error in the message; an extension is one (135) unless `allow_unknown`. */
+uint32_t vlt_message_read(vlt_slot *proto, bool allow_unknown, vlt_slot *out);
+
+/* Puts the message of the type. */
+uint32_t vlt_message_write(vlt_slot *dtype, vlt_slot *out);
+
+/* Puts the message of the type that the message describes, in which missing metadata is empty. Returns the errors of `vlt_message_read`. */
+uint32_t vlt_message_normal(vlt_slot *proto, bool allow_unknown, vlt_slot *out);
+
+/* Returns 0 if the messages are equal in every field. */
+uint32_t vlt_message_eq(vlt_slot *one, vlt_slot *other);
+
+/* Puts a copy of the message. */
+uint32_t vlt_message_copy(vlt_slot *proto, vlt_slot *out);
+
+/* Puts the type with this outer nullability; for an extension it is that of its storage. If the type can't be
+ * non-nullable, it returns 5. */
+uint32_t vlt_dtype_with_nullability(vlt_slot *dtype, bool nullable, vlt_slot *out);
+
+/* Puts the type that is nullable if it was or if `nullable` is true. */
+uint32_t vlt_dtype_union_nullability(vlt_slot *dtype, bool nullable, vlt_slot *out);
+
+/* Writes a hash of the type, which is the same for equal types. It may differ from version to version. */
+uint32_t vlt_dtype_hash(vlt_slot *dtype, uint64_t *hash);
+
+/* Writes a hash of the type, which is the same for types that are equal when every nullability in them is ignored. */
+uint32_t vlt_dtype_hash_ignore_nullability(vlt_slot *dtype, uint64_t *hash);
 
 /* Puts the element type of a list or of a fixed-size list. */
 uint32_t vlt_dtype_element(vlt_slot *dtype, vlt_slot *out);
@@ -141,6 +224,116 @@ uint32_t vlt_dtype_storage(vlt_slot *dtype, vlt_slot *out);
 
 /* Writes the number of a primitive type: 0 u8, 1 u16, 2 u32, 3 u64, 4 i8, 5 i16, 6 i32, 7 i64, 8 f16, 9 f32, 10 f64. */
 uint32_t vlt_dtype_ptype(vlt_slot *dtype, uint32_t *number);
+
+/* Writes the id of an extension. */
+uint32_t vlt_dtype_id(vlt_slot *dtype, uint8_t *buffer, size_t buffer_len, size_t *length);
+
+/* Writes the metadata of an extension. */
+uint32_t vlt_dtype_metadata(vlt_slot *dtype, uint8_t *buffer, size_t buffer_len, size_t *length);
+
+/* Writes the size of a fixed-size list. */
+uint32_t vlt_dtype_fixed_size(vlt_slot *dtype, uint32_t *size);
+
+/* Writes the precision and the scale of a decimal. */
+uint32_t vlt_dtype_decimal_parts(vlt_slot *dtype, uint8_t *precision, int8_t *scale);
+
+/* Returns 0 if the keys of the map are declared sorted, and 5 if the type is no map. */
+uint32_t vlt_dtype_keys_sorted(vlt_slot *dtype);
+
+/* Puts the path with no step, the root. */
+uint32_t vlt_path_root(vlt_slot *out);
+
+/* Writes the number of steps. */
+uint32_t vlt_path_len(vlt_slot *path, size_t *count);
+
+/* Writes the step at this position: a name, or `ELEMENT` as the length for the step into the element. */
+uint32_t vlt_path_step(vlt_slot *path, size_t index, uint8_t *buffer, size_t buffer_len, size_t *length);
+
+/* Puts the path with one more step, into the field of this name. */
+uint32_t vlt_path_push_name(vlt_slot *path, const uint8_t *name, size_t name_len, vlt_slot *out);
+
+/* Puts the path with one more step, into the element. */
+uint32_t vlt_path_push_element(vlt_slot *path, vlt_slot *out);
+
+/* Puts the path without its first step; the root has none. */
+uint32_t vlt_path_step_into(vlt_slot *path, vlt_slot *out);
+
+/* Puts a copy of the path. */
+uint32_t vlt_path_copy(vlt_slot *path, vlt_slot *out);
+
+/* Returns 0 if the paths are equal. */
+uint32_t vlt_path_eq(vlt_slot *one, vlt_slot *other);
+
+/* Returns 0 if one path is a prefix of the other. */
+uint32_t vlt_path_overlap(vlt_slot *one, vlt_slot *other);
+
+/* Puts the type at the path in the type. */
+uint32_t vlt_path_resolve(vlt_slot *dtype, vlt_slot *path, vlt_slot *out);
+
+/* Returns 0 if there is a type at the path in the type. */
+uint32_t vlt_path_exists_in(vlt_slot *dtype, vlt_slot *path);
+
+/* Writes the path as the library displays it. */
+uint32_t vlt_path_display(vlt_slot *path, uint8_t *buffer, size_t buffer_len, size_t *length);
+
+/* Returns 0 if the first step is into the field of this name, and 5 if it is into the element. */
+uint32_t vlt_path_starts_with_name(vlt_slot *path, const uint8_t *name, size_t name_len);
+
+/* Puts the type as far as the paths of the set lead; there is none if no path of the set is in the type. */
+uint32_t vlt_project_paths(vlt_slot *dtype, vlt_slot *paths, vlt_slot *out);
+
+/* Puts the empty set. */
+uint32_t vlt_set_new(vlt_slot *out);
+
+/* Inserts a copy of the path. After an error the set is unchanged. */
+uint32_t vlt_set_insert(vlt_slot *paths, vlt_slot *path);
+
+/* Returns 0 if the path is in the set. */
+uint32_t vlt_set_contains(vlt_slot *paths, vlt_slot *path);
+
+/* Puts a copy of the set. */
+uint32_t vlt_set_copy(vlt_slot *paths, vlt_slot *out);
+
+/* Puts the list of the fewest paths that cover those of the set, each once, in no promised order. */
+uint32_t vlt_set_cover(vlt_slot *paths, vlt_slot *out);
+
+/* Puts the list of the paths of the set, each once, in no promised order. */
+uint32_t vlt_set_members(vlt_slot *paths, vlt_slot *out);
+
+/* Puts the list of the paths of the set at which there is no type in the type, each once, in no promised order. */
+uint32_t vlt_set_unresolved(vlt_slot *paths, vlt_slot *dtype, vlt_slot *out);
+
+/* Writes how many paths are in the set. */
+uint32_t vlt_set_len(vlt_slot *paths, size_t *count);
+
+/* Writes how many paths are in the list. */
+uint32_t vlt_paths_len(vlt_slot *paths, size_t *count);
+
+/* Puts a copy of the path at this position of the list. */
+uint32_t vlt_paths_get(vlt_slot *paths, size_t index, vlt_slot *out);
+
+/* Writes the number of fields. */
+uint32_t vlt_struct_nfields(vlt_slot *dtype, size_t *count);
+
+/* Puts the type of the field at the position, if it is below the number of fields. */
+uint32_t vlt_struct_field_by_index(vlt_slot *dtype, size_t index, vlt_slot *out);
+
+/* Writes the position of the first field of the name, if there is one. */
+uint32_t vlt_struct_find(vlt_slot *dtype, const uint8_t *name, size_t name_len, size_t *index);
+
+/* Puts the type of the first field of the name, if there is one. */
+uint32_t vlt_struct_field(vlt_slot *dtype, const uint8_t *name, size_t name_len, vlt_slot *out);
+
+/* Reads a type from its text in the form of the console, for example `{a=i32, b=list(utf8)?}`, and puts it.
+ *
+ * If the text can't be read, `position` is the first byte that doesn't fit, counted from 1. */
+uint32_t vlt_dtype_from_text(const uint8_t *text, size_t text_len, vlt_slot *out, size_t *position);
+
+/* Writes a type in the form of the console, which reads back as the same type. */
+uint32_t vlt_dtype_to_text(vlt_slot *dtype, uint8_t *buffer, size_t buffer_len, size_t *length);
+
+/* Writes a type as the library displays it. */
+uint32_t vlt_dtype_display(vlt_slot *dtype, uint8_t *buffer, size_t buffer_len, size_t *length);
 
 /* Puts a copy of the type. */
 uint32_t vlt_dtype_copy(vlt_slot *dtype, vlt_slot *out);
@@ -173,8 +366,28 @@ uint32_t vlt_dtype_is_nullable(vlt_slot *dtype);
 /* Returns 0 if the type can be made non-nullable: not null, nor an extension over it. */
 uint32_t vlt_dtype_can_be_nonnullable(vlt_slot *dtype);
 
-/* Puts the path of no step. */
-uint32_t vlt_path_root(vlt_slot *out);
+/* Writes the number of variants. */
+uint32_t vlt_union_len(vlt_slot *dtype, size_t *count);
+
+/* Puts the type of the variant at the position, if it is below the number of variants. */
+uint32_t vlt_union_variant_by_index(vlt_slot *dtype, size_t index, vlt_slot *out);
+
+/* Writes the position of the variant of the name, if there is one. */
+uint32_t vlt_union_find(vlt_slot *dtype, const uint8_t *name, size_t name_len, size_t *index);
+
+/* Puts the type of the variant of the name, if there is one. */
+uint32_t vlt_union_variant(vlt_slot *dtype, const uint8_t *name, size_t name_len, vlt_slot *out);
+
+/* Writes the position of the variant of the tag, if there is one. */
+uint32_t vlt_union_tag_to_child_index(vlt_slot *dtype, uint8_t tag, size_t *index);
+
+/* Writes the tag of the variant at the position, if it is below the number of variants. */
+uint32_t vlt_union_child_index_to_tag(vlt_slot *dtype, size_t index, uint8_t *tag);
+
+/* Writes the answer of the console to one line (without its newline); empty where the line is blank or a comment.
+ * 0 where a call was answered, also by an error or a condition of its own; 4 where the line can't be read (the answer says
+ * where); 7, 100. Nothing is kept from line to line. */
+uint32_t vlt_answer(const uint8_t *line, size_t line_len, uint8_t *buffer, size_t buffer_len, size_t *length);
 
 /* Puts the path of these steps. 3 where a name isn't UTF-8, 9 where the lengths don't add up. */
 uint32_t vlt_path_from_steps(
@@ -186,44 +399,8 @@ uint32_t vlt_path_from_text(const uint8_t *text, size_t text_len, vlt_slot *out,
 /* Writes a path in the console's form, which reads back as the same path. */
 uint32_t vlt_path_to_text(vlt_slot *path, uint8_t *buffer, size_t buffer_len, size_t *length);
 
-/* Writes a path as the library displays it. */
-uint32_t vlt_path_display(vlt_slot *path, uint8_t *buffer, size_t buffer_len, size_t *length);
-
-/* Writes the number of steps. */
-uint32_t vlt_path_len(vlt_slot *path, size_t *count);
-
-/* Writes the step at the position (a name, or VLT_ELEMENT as the length); 1 past the end. */
-uint32_t vlt_path_step(vlt_slot *path, size_t index, uint8_t *buffer, size_t buffer_len, size_t *length);
-
-/* Puts the path with one more step, of this name. */
-uint32_t vlt_path_push_name(vlt_slot *path, const uint8_t *name, size_t name_len, vlt_slot *out);
-
-/* Puts the path with one more step, into the element. */
-uint32_t vlt_path_push_element(vlt_slot *path, vlt_slot *out);
-
-/* Puts the path without its first step; 1 where it has none. */
-uint32_t vlt_path_step_into(vlt_slot *path, vlt_slot *out);
-
-/* Puts a copy. */
-uint32_t vlt_path_copy(vlt_slot *path, vlt_slot *out);
-
-/* Returns 0 where the paths are equal. */
-uint32_t vlt_path_eq(vlt_slot *one, vlt_slot *other);
-
 /* Writes a hash: the same of equal paths. It may differ from version to version. */
 uint32_t vlt_path_hash(vlt_slot *path, uint64_t *hash);
-
-/* Returns 0 where one path is a prefix of the other. */
-uint32_t vlt_path_overlap(vlt_slot *one, vlt_slot *other);
-
-/* Returns 0 where the first step is this name; 5 where it is the element. */
-uint32_t vlt_path_starts_with_name(vlt_slot *path, const uint8_t *name, size_t name_len);
-
-/* Puts the type at the path; 1 where there is none. */
-uint32_t vlt_path_resolve(vlt_slot *dtype, vlt_slot *path, vlt_slot *out);
-
-/* Returns 0 where there is a type at the path. */
-uint32_t vlt_path_exists_in(vlt_slot *dtype, vlt_slot *path);
 
 /* Puts the path of a path message of these parts, a name each; VLT_ELEMENT stands for a part without a kind: 136. */
 uint32_t vlt_path_from_message(
@@ -234,21 +411,6 @@ uint32_t vlt_message_from_text(const uint8_t *text, size_t text_len, vlt_slot *o
 
 /* Writes a message in the console's form, which reads back as the same message. */
 uint32_t vlt_message_to_text(vlt_slot *message, uint8_t *buffer, size_t buffer_len, size_t *length);
-
-/* Puts the type of a message. 1xx: the first error. Extensions of every id are kept where `allow_unknown`, else 135. */
-uint32_t vlt_message_read(vlt_slot *message, bool allow_unknown, vlt_slot *out);
-
-/* Puts the message of a type. */
-uint32_t vlt_message_write(vlt_slot *dtype, vlt_slot *out);
-
-/* Puts the normal form of a message: what is written of the type that is read from it. */
-uint32_t vlt_message_normal(vlt_slot *message, bool allow_unknown, vlt_slot *out);
-
-/* Returns 0 where the messages are equal in all fields. */
-uint32_t vlt_message_eq(vlt_slot *one, vlt_slot *other);
-
-/* Puts a copy. */
-uint32_t vlt_message_copy(vlt_slot *message, vlt_slot *out);
 
 /* Puts the message of these nodes. 9 where they aren't one message with exactly this pool, 3 where a text isn't UTF-8,
  * 6 where it is deeper than 128 levels. */
@@ -270,74 +432,11 @@ uint32_t vlt_dtype_to_nodes(
         vlt_slot *dtype, vlt_node *nodes, size_t nodes_len, size_t *node_count, uint8_t *texts, size_t texts_len,
         size_t *text_length);
 
-/* Puts the type as far as the paths of the set lead; 1 where none does. */
-uint32_t vlt_project_paths(vlt_slot *dtype, vlt_slot *set, vlt_slot *out);
-
-/* Puts the mask of all. */
-uint32_t vlt_mask_all(vlt_slot *out);
-
-/* Puts the mask of everything at and below a path. */
-uint32_t vlt_mask_prefix(vlt_slot *path, vlt_slot *out);
-
-/* Puts the mask of exactly a path. */
-uint32_t vlt_mask_exact(vlt_slot *path, vlt_slot *out);
-
-/* Writes which it is: 0 all, 1 prefix, 2 exact. */
-uint32_t vlt_mask_kind(vlt_slot *mask, uint32_t *kind);
-
-/* Puts the path of a prefix or an exact mask; 1 where it is of all. */
-uint32_t vlt_mask_path(vlt_slot *mask, vlt_slot *out);
-
-/* Puts the mask after one step. 120 of the exact root. */
-uint32_t vlt_mask_step_into(vlt_slot *mask, vlt_slot *out);
-
-/* Writes the first step (a name, or VLT_ELEMENT as the length); 1 where there is none; 121 of the mask of all. */
-uint32_t vlt_mask_starting_field(vlt_slot *mask, uint8_t *buffer, size_t buffer_len, size_t *length);
-
-/* Returns 0 where everything matches. */
-uint32_t vlt_mask_matches_all(vlt_slot *mask);
-
-/* Returns 0 where the root matches. */
-uint32_t vlt_mask_matches_root(vlt_slot *mask);
-
-/* Returns 0 where the masks are equal. */
-uint32_t vlt_mask_eq(vlt_slot *one, vlt_slot *other);
-
-/* Puts a copy. */
-uint32_t vlt_mask_copy(vlt_slot *mask, vlt_slot *out);
-
-/* Writes how many paths are in the list. */
-uint32_t vlt_paths_len(vlt_slot *paths, size_t *count);
-
-/* Puts a copy of the path at the position; 1 past the end. */
-uint32_t vlt_paths_get(vlt_slot *paths, size_t index, vlt_slot *out);
-
-/* Puts the empty set. */
-uint32_t vlt_set_new(vlt_slot *out);
-
-/* Inserts a copy of the path. */
-uint32_t vlt_set_insert(vlt_slot *set, vlt_slot *path);
-
 /* Inserts copies of the paths in these slots, in order, and writes how many were inserted (fewer only on an error). */
 uint32_t vlt_set_extend(vlt_slot *set, vlt_slot *paths, size_t paths_len, size_t *inserted);
 
 /* Inserts copies of the paths of a list. */
 uint32_t vlt_set_extend_from_list(vlt_slot *set, vlt_slot *paths);
-
-/* Returns 0 where the path is in the set. */
-uint32_t vlt_set_contains(vlt_slot *set, vlt_slot *path);
-
-/* Writes how many paths are in the set. */
-uint32_t vlt_set_len(vlt_slot *set, size_t *count);
-
-/* Puts the list of the paths in the set, each once. */
-uint32_t vlt_set_members(vlt_slot *set, vlt_slot *out);
-
-/* Puts the list of the fewest paths that cover those of the set. */
-uint32_t vlt_set_cover(vlt_slot *set, vlt_slot *out);
-
-/* Puts the list of the paths of the cover at which the type has nothing. */
-uint32_t vlt_set_unresolved(vlt_slot *set, vlt_slot *dtype, vlt_slot *out);
 
 /* Writes what the set wants below a path: whether the path itself is in it, whether one goes on with the element, and by
  * how many names paths go on; 1 where no path of the set begins with the path. */
@@ -346,44 +445,8 @@ uint32_t vlt_set_below(vlt_slot *set, vlt_slot *path, bool *is_end, bool *has_el
 /* Puts the names by which paths of the set go on below a path: a list of paths of one step; 1 where none begins with it. */
 uint32_t vlt_set_names_below(vlt_slot *set, vlt_slot *path, vlt_slot *out);
 
-/* Puts a copy of the set. */
-uint32_t vlt_set_copy(vlt_slot *set, vlt_slot *out);
-
 /* Writes what a result means: the library's text of the error from 100 on. 9 where no export returns the number. */
 uint32_t vlt_error_text(uint32_t code, uint8_t *buffer, size_t buffer_len, size_t *length);
-
-/* Reads a type from the console's form. 4 with the byte's position where it can't be read, 6 where it is too deep. */
-uint32_t vlt_dtype_from_text(const uint8_t *text, size_t text_len, vlt_slot *out, size_t *position);
-
-/* Writes a type in the console's form, which reads back as the same type. */
-uint32_t vlt_dtype_to_text(vlt_slot *dtype, uint8_t *buffer, size_t buffer_len, size_t *length);
-
-/* Writes a type as the library displays it. */
-uint32_t vlt_dtype_display(vlt_slot *dtype, uint8_t *buffer, size_t buffer_len, size_t *length);
-
-/* Makes the null type. */
-uint32_t vlt_dtype_null(vlt_slot *out);
-
-/* Makes the type of booleans. */
-uint32_t vlt_dtype_bool(bool nullable, vlt_slot *out);
-
-/* Makes a primitive type. 9 where `ptype` is above 10. */
-uint32_t vlt_dtype_primitive(uint32_t ptype, bool nullable, vlt_slot *out);
-
-/* Makes a decimal type. 101 to 104 where precision or scale isn't accepted. */
-uint32_t vlt_dtype_decimal(uint8_t precision, int8_t scale, bool nullable, vlt_slot *out);
-
-/* Makes the type of UTF-8 strings. */
-uint32_t vlt_dtype_utf8(bool nullable, vlt_slot *out);
-
-/* Makes the type of byte strings. */
-uint32_t vlt_dtype_binary(bool nullable, vlt_slot *out);
-
-/* Makes the type of lists of `element`. 6 where that would be deeper than 128 levels (so below). */
-uint32_t vlt_dtype_list(vlt_slot *element, bool nullable, vlt_slot *out);
-
-/* Makes the type of lists of `size` elements. */
-uint32_t vlt_dtype_fixed_size_list(vlt_slot *element, uint32_t size, bool nullable, vlt_slot *out);
 
 /* Makes the type of maps. 109 where the key is nullable. */
 uint32_t vlt_dtype_map(vlt_slot *key, vlt_slot *value, bool keys_sorted, bool nullable, vlt_slot *out);
@@ -403,61 +466,19 @@ uint32_t vlt_dtype_union_consecutive(
         const uint8_t *names, size_t names_len, const size_t *name_lengths, size_t name_lengths_len, vlt_slot *dtypes,
         size_t dtypes_len, bool nullable, vlt_slot *out);
 
-/* Makes the type of variants. */
-uint32_t vlt_dtype_variant(bool nullable, vlt_slot *out);
-
 /* Makes an extension type of an id, metadata and a storage type. */
 uint32_t vlt_dtype_extension(
         const uint8_t *id, size_t id_len, const uint8_t *metadata, size_t metadata_len, vlt_slot *storage,
         vlt_slot *out);
 
-/* Makes the type with this nullability. 5 where it can't be non-nullable. */
-uint32_t vlt_dtype_with_nullability(vlt_slot *dtype, bool nullable, vlt_slot *out);
-
-/* Makes the type that is nullable where it or `nullable` is. */
-uint32_t vlt_dtype_union_nullability(vlt_slot *dtype, bool nullable, vlt_slot *out);
-
-/* Writes precision and scale; 1 where it is no decimal. */
-uint32_t vlt_dtype_decimal_parts(vlt_slot *dtype, uint8_t *precision, int8_t *scale);
-
-/* Writes the size of a fixed-size list; else 1. */
-uint32_t vlt_dtype_fixed_size(vlt_slot *dtype, uint32_t *size);
-
-/* Returns 0 where the keys of the map are said to be sorted, 5 where it is no map. */
-uint32_t vlt_dtype_keys_sorted(vlt_slot *dtype);
-
 /* Puts the type of a map's entries; else 1. */
 uint32_t vlt_dtype_entries(vlt_slot *dtype, vlt_slot *out);
-
-/* Writes the id of an extension; else 1. */
-uint32_t vlt_dtype_id(vlt_slot *dtype, uint8_t *buffer, size_t buffer_len, size_t *length);
-
-/* Writes the metadata's bytes of an extension; else 1. */
-uint32_t vlt_dtype_metadata(vlt_slot *dtype, uint8_t *buffer, size_t buffer_len, size_t *length);
 
 /* Writes how many bytes a value takes where all take as many; 1 where they don't; 119 above `usize`. */
 uint32_t vlt_dtype_element_size(vlt_slot *dtype, size_t *size);
 
-/* Writes a hash: the same of equal types. It may differ from version to version. */
-uint32_t vlt_dtype_hash(vlt_slot *dtype, uint64_t *hash);
-
-/* Writes a hash: the same of types that are equal but for nullabilities. */
-uint32_t vlt_dtype_hash_ignore_nullability(vlt_slot *dtype, uint64_t *hash);
-
-/* Writes the number of fields. */
-uint32_t vlt_struct_nfields(vlt_slot *dtype, size_t *count);
-
 /* Writes the name of the field at the position; 1 past the end. */
 uint32_t vlt_struct_field_name(vlt_slot *dtype, size_t index, uint8_t *buffer, size_t buffer_len, size_t *length);
-
-/* Puts the type of the field at the position; 1 past the end. */
-uint32_t vlt_struct_field_by_index(vlt_slot *dtype, size_t index, vlt_slot *out);
-
-/* Writes the position of the first field of the name; 1 where there is none. */
-uint32_t vlt_struct_find(vlt_slot *dtype, const uint8_t *name, size_t name_len, size_t *index);
-
-/* Puts the type of the first field of the name; 1 where there is none. */
-uint32_t vlt_struct_field(vlt_slot *dtype, const uint8_t *name, size_t name_len, vlt_slot *out);
 
 /* Makes the struct of the fields of these names, in their order. 116 where one isn't there. */
 uint32_t vlt_struct_project(
@@ -473,26 +494,8 @@ uint32_t vlt_struct_disjoint_merge(vlt_slot *one, vlt_slot *other, vlt_slot *out
 /* Writes the fields, a line each, as the library indents them. */
 uint32_t vlt_struct_indented(vlt_slot *dtype, uint8_t *buffer, size_t buffer_len, size_t *length);
 
-/* Writes the number of variants. */
-uint32_t vlt_union_len(vlt_slot *dtype, size_t *count);
-
 /* Writes the name of the variant at the position; 1 past the end. */
 uint32_t vlt_union_variant_name(vlt_slot *dtype, size_t index, uint8_t *buffer, size_t buffer_len, size_t *length);
-
-/* Puts the type of the variant at the position; 1 past the end. */
-uint32_t vlt_union_variant_by_index(vlt_slot *dtype, size_t index, vlt_slot *out);
-
-/* Writes the position of the variant of the name; 1 where there is none. */
-uint32_t vlt_union_find(vlt_slot *dtype, const uint8_t *name, size_t name_len, size_t *index);
-
-/* Puts the type of the variant of the name; 1 where there is none. */
-uint32_t vlt_union_variant(vlt_slot *dtype, const uint8_t *name, size_t name_len, vlt_slot *out);
-
-/* Writes the tag of the variant at the position; 1 past the end. */
-uint32_t vlt_union_child_index_to_tag(vlt_slot *dtype, size_t index, uint8_t *tag);
-
-/* Writes the position of the variant of the tag; 1 where there is none. */
-uint32_t vlt_union_tag_to_child_index(vlt_slot *dtype, uint8_t tag, size_t *index);
 
 /* Returns 0 where the tags are 0, 1, 2 .. in order. */
 uint32_t vlt_union_is_consecutive(vlt_slot *dtype);
@@ -502,15 +505,119 @@ uint32_t vlt_union_is_consecutive(vlt_slot *dtype);
  * that they differ. It returns VLT_RANGE for a null pointer with a length above 0, and passes a pointer
  * that isn't null if the length is 0. */
 
-static inline uint32_t vlt_checked_answer(
-        const uint8_t *line, size_t line_len, uint8_t *buffer, size_t buffer_len, size_t *length) {
-    if ((!line && line_len) || (!buffer && buffer_len))
-        return VLT_RANGE;
-    return vlt_answer(
-            line ? line : (const uint8_t *)vlt_no_items(), line_len, buffer ? buffer : (uint8_t *)vlt_no_items(),
-            buffer_len, length);
+static inline uint32_t vlt_checked_dtype_list(vlt_slot *element, bool nullable, vlt_slot *out) {
+    if (element == out)
+        return VLT_SAME_SLOT;
+    return vlt_dtype_list(element, nullable, out);
 }
-#define vlt_answer vlt_checked_answer
+#define vlt_dtype_list vlt_checked_dtype_list
+
+static inline uint32_t vlt_checked_dtype_fixed_size_list(
+        vlt_slot *element, uint32_t size, bool nullable, vlt_slot *out) {
+    if (element == out)
+        return VLT_SAME_SLOT;
+    return vlt_dtype_fixed_size_list(element, size, nullable, out);
+}
+#define vlt_dtype_fixed_size_list vlt_checked_dtype_fixed_size_list
+
+static inline uint32_t vlt_checked_mask_prefix(vlt_slot *path, vlt_slot *out) {
+    if (path == out)
+        return VLT_SAME_SLOT;
+    return vlt_mask_prefix(path, out);
+}
+#define vlt_mask_prefix vlt_checked_mask_prefix
+
+static inline uint32_t vlt_checked_mask_exact(vlt_slot *path, vlt_slot *out) {
+    if (path == out)
+        return VLT_SAME_SLOT;
+    return vlt_mask_exact(path, out);
+}
+#define vlt_mask_exact vlt_checked_mask_exact
+
+static inline uint32_t vlt_checked_mask_path(vlt_slot *mask, vlt_slot *out) {
+    if (mask == out)
+        return VLT_SAME_SLOT;
+    return vlt_mask_path(mask, out);
+}
+#define vlt_mask_path vlt_checked_mask_path
+
+static inline uint32_t vlt_checked_mask_copy(vlt_slot *mask, vlt_slot *out) {
+    if (mask == out)
+        return VLT_SAME_SLOT;
+    return vlt_mask_copy(mask, out);
+}
+#define vlt_mask_copy vlt_checked_mask_copy
+
+static inline uint32_t vlt_checked_mask_step_into(vlt_slot *mask, vlt_slot *out) {
+    if (mask == out)
+        return VLT_SAME_SLOT;
+    return vlt_mask_step_into(mask, out);
+}
+#define vlt_mask_step_into vlt_checked_mask_step_into
+
+static inline uint32_t vlt_checked_mask_starting_field(
+        vlt_slot *mask, uint8_t *buffer, size_t buffer_len, size_t *length) {
+    if (!buffer && buffer_len)
+        return VLT_RANGE;
+    return vlt_mask_starting_field(mask, buffer ? buffer : (uint8_t *)vlt_no_items(), buffer_len, length);
+}
+#define vlt_mask_starting_field vlt_checked_mask_starting_field
+
+static inline uint32_t vlt_checked_mask_eq(vlt_slot *one, vlt_slot *other) {
+    if (one == other)
+        return VLT_SAME_SLOT;
+    return vlt_mask_eq(one, other);
+}
+#define vlt_mask_eq vlt_checked_mask_eq
+
+static inline uint32_t vlt_checked_message_read(vlt_slot *proto, bool allow_unknown, vlt_slot *out) {
+    if (proto == out)
+        return VLT_SAME_SLOT;
+    return vlt_message_read(proto, allow_unknown, out);
+}
+#define vlt_message_read vlt_checked_message_read
+
+static inline uint32_t vlt_checked_message_write(vlt_slot *dtype, vlt_slot *out) {
+    if (dtype == out)
+        return VLT_SAME_SLOT;
+    return vlt_message_write(dtype, out);
+}
+#define vlt_message_write vlt_checked_message_write
+
+static inline uint32_t vlt_checked_message_normal(vlt_slot *proto, bool allow_unknown, vlt_slot *out) {
+    if (proto == out)
+        return VLT_SAME_SLOT;
+    return vlt_message_normal(proto, allow_unknown, out);
+}
+#define vlt_message_normal vlt_checked_message_normal
+
+static inline uint32_t vlt_checked_message_eq(vlt_slot *one, vlt_slot *other) {
+    if (one == other)
+        return VLT_SAME_SLOT;
+    return vlt_message_eq(one, other);
+}
+#define vlt_message_eq vlt_checked_message_eq
+
+static inline uint32_t vlt_checked_message_copy(vlt_slot *proto, vlt_slot *out) {
+    if (proto == out)
+        return VLT_SAME_SLOT;
+    return vlt_message_copy(proto, out);
+}
+#define vlt_message_copy vlt_checked_message_copy
+
+static inline uint32_t vlt_checked_dtype_with_nullability(vlt_slot *dtype, bool nullable, vlt_slot *out) {
+    if (dtype == out)
+        return VLT_SAME_SLOT;
+    return vlt_dtype_with_nullability(dtype, nullable, out);
+}
+#define vlt_dtype_with_nullability vlt_checked_dtype_with_nullability
+
+static inline uint32_t vlt_checked_dtype_union_nullability(vlt_slot *dtype, bool nullable, vlt_slot *out) {
+    if (dtype == out)
+        return VLT_SAME_SLOT;
+    return vlt_dtype_union_nullability(dtype, nullable, out);
+}
+#define vlt_dtype_union_nullability vlt_checked_dtype_union_nullability
 
 static inline uint32_t vlt_checked_dtype_element(vlt_slot *dtype, vlt_slot *out) {
     if (dtype == out)
@@ -539,6 +646,201 @@ static inline uint32_t vlt_checked_dtype_storage(vlt_slot *dtype, vlt_slot *out)
     return vlt_dtype_storage(dtype, out);
 }
 #define vlt_dtype_storage vlt_checked_dtype_storage
+
+static inline uint32_t vlt_checked_dtype_id(vlt_slot *dtype, uint8_t *buffer, size_t buffer_len, size_t *length) {
+    if (!buffer && buffer_len)
+        return VLT_RANGE;
+    return vlt_dtype_id(dtype, buffer ? buffer : (uint8_t *)vlt_no_items(), buffer_len, length);
+}
+#define vlt_dtype_id vlt_checked_dtype_id
+
+static inline uint32_t vlt_checked_dtype_metadata(vlt_slot *dtype, uint8_t *buffer, size_t buffer_len, size_t *length) {
+    if (!buffer && buffer_len)
+        return VLT_RANGE;
+    return vlt_dtype_metadata(dtype, buffer ? buffer : (uint8_t *)vlt_no_items(), buffer_len, length);
+}
+#define vlt_dtype_metadata vlt_checked_dtype_metadata
+
+static inline uint32_t vlt_checked_path_step(
+        vlt_slot *path, size_t index, uint8_t *buffer, size_t buffer_len, size_t *length) {
+    if (!buffer && buffer_len)
+        return VLT_RANGE;
+    return vlt_path_step(path, index, buffer ? buffer : (uint8_t *)vlt_no_items(), buffer_len, length);
+}
+#define vlt_path_step vlt_checked_path_step
+
+static inline uint32_t vlt_checked_path_push_name(vlt_slot *path, const uint8_t *name, size_t name_len, vlt_slot *out) {
+    if (path == out)
+        return VLT_SAME_SLOT;
+    if (!name && name_len)
+        return VLT_RANGE;
+    return vlt_path_push_name(path, name ? name : (const uint8_t *)vlt_no_items(), name_len, out);
+}
+#define vlt_path_push_name vlt_checked_path_push_name
+
+static inline uint32_t vlt_checked_path_push_element(vlt_slot *path, vlt_slot *out) {
+    if (path == out)
+        return VLT_SAME_SLOT;
+    return vlt_path_push_element(path, out);
+}
+#define vlt_path_push_element vlt_checked_path_push_element
+
+static inline uint32_t vlt_checked_path_step_into(vlt_slot *path, vlt_slot *out) {
+    if (path == out)
+        return VLT_SAME_SLOT;
+    return vlt_path_step_into(path, out);
+}
+#define vlt_path_step_into vlt_checked_path_step_into
+
+static inline uint32_t vlt_checked_path_copy(vlt_slot *path, vlt_slot *out) {
+    if (path == out)
+        return VLT_SAME_SLOT;
+    return vlt_path_copy(path, out);
+}
+#define vlt_path_copy vlt_checked_path_copy
+
+static inline uint32_t vlt_checked_path_eq(vlt_slot *one, vlt_slot *other) {
+    if (one == other)
+        return VLT_SAME_SLOT;
+    return vlt_path_eq(one, other);
+}
+#define vlt_path_eq vlt_checked_path_eq
+
+static inline uint32_t vlt_checked_path_overlap(vlt_slot *one, vlt_slot *other) {
+    if (one == other)
+        return VLT_SAME_SLOT;
+    return vlt_path_overlap(one, other);
+}
+#define vlt_path_overlap vlt_checked_path_overlap
+
+static inline uint32_t vlt_checked_path_resolve(vlt_slot *dtype, vlt_slot *path, vlt_slot *out) {
+    if (dtype == path || dtype == out || path == out)
+        return VLT_SAME_SLOT;
+    return vlt_path_resolve(dtype, path, out);
+}
+#define vlt_path_resolve vlt_checked_path_resolve
+
+static inline uint32_t vlt_checked_path_exists_in(vlt_slot *dtype, vlt_slot *path) {
+    if (dtype == path)
+        return VLT_SAME_SLOT;
+    return vlt_path_exists_in(dtype, path);
+}
+#define vlt_path_exists_in vlt_checked_path_exists_in
+
+static inline uint32_t vlt_checked_path_display(vlt_slot *path, uint8_t *buffer, size_t buffer_len, size_t *length) {
+    if (!buffer && buffer_len)
+        return VLT_RANGE;
+    return vlt_path_display(path, buffer ? buffer : (uint8_t *)vlt_no_items(), buffer_len, length);
+}
+#define vlt_path_display vlt_checked_path_display
+
+static inline uint32_t vlt_checked_path_starts_with_name(vlt_slot *path, const uint8_t *name, size_t name_len) {
+    if (!name && name_len)
+        return VLT_RANGE;
+    return vlt_path_starts_with_name(path, name ? name : (const uint8_t *)vlt_no_items(), name_len);
+}
+#define vlt_path_starts_with_name vlt_checked_path_starts_with_name
+
+static inline uint32_t vlt_checked_project_paths(vlt_slot *dtype, vlt_slot *paths, vlt_slot *out) {
+    if (dtype == paths || dtype == out || paths == out)
+        return VLT_SAME_SLOT;
+    return vlt_project_paths(dtype, paths, out);
+}
+#define vlt_project_paths vlt_checked_project_paths
+
+static inline uint32_t vlt_checked_set_insert(vlt_slot *paths, vlt_slot *path) {
+    if (paths == path)
+        return VLT_SAME_SLOT;
+    return vlt_set_insert(paths, path);
+}
+#define vlt_set_insert vlt_checked_set_insert
+
+static inline uint32_t vlt_checked_set_contains(vlt_slot *paths, vlt_slot *path) {
+    if (paths == path)
+        return VLT_SAME_SLOT;
+    return vlt_set_contains(paths, path);
+}
+#define vlt_set_contains vlt_checked_set_contains
+
+static inline uint32_t vlt_checked_set_copy(vlt_slot *paths, vlt_slot *out) {
+    if (paths == out)
+        return VLT_SAME_SLOT;
+    return vlt_set_copy(paths, out);
+}
+#define vlt_set_copy vlt_checked_set_copy
+
+static inline uint32_t vlt_checked_set_cover(vlt_slot *paths, vlt_slot *out) {
+    if (paths == out)
+        return VLT_SAME_SLOT;
+    return vlt_set_cover(paths, out);
+}
+#define vlt_set_cover vlt_checked_set_cover
+
+static inline uint32_t vlt_checked_set_members(vlt_slot *paths, vlt_slot *out) {
+    if (paths == out)
+        return VLT_SAME_SLOT;
+    return vlt_set_members(paths, out);
+}
+#define vlt_set_members vlt_checked_set_members
+
+static inline uint32_t vlt_checked_set_unresolved(vlt_slot *paths, vlt_slot *dtype, vlt_slot *out) {
+    if (paths == dtype || paths == out || dtype == out)
+        return VLT_SAME_SLOT;
+    return vlt_set_unresolved(paths, dtype, out);
+}
+#define vlt_set_unresolved vlt_checked_set_unresolved
+
+static inline uint32_t vlt_checked_paths_get(vlt_slot *paths, size_t index, vlt_slot *out) {
+    if (paths == out)
+        return VLT_SAME_SLOT;
+    return vlt_paths_get(paths, index, out);
+}
+#define vlt_paths_get vlt_checked_paths_get
+
+static inline uint32_t vlt_checked_struct_field_by_index(vlt_slot *dtype, size_t index, vlt_slot *out) {
+    if (dtype == out)
+        return VLT_SAME_SLOT;
+    return vlt_struct_field_by_index(dtype, index, out);
+}
+#define vlt_struct_field_by_index vlt_checked_struct_field_by_index
+
+static inline uint32_t vlt_checked_struct_find(vlt_slot *dtype, const uint8_t *name, size_t name_len, size_t *index) {
+    if (!name && name_len)
+        return VLT_RANGE;
+    return vlt_struct_find(dtype, name ? name : (const uint8_t *)vlt_no_items(), name_len, index);
+}
+#define vlt_struct_find vlt_checked_struct_find
+
+static inline uint32_t vlt_checked_struct_field(vlt_slot *dtype, const uint8_t *name, size_t name_len, vlt_slot *out) {
+    if (dtype == out)
+        return VLT_SAME_SLOT;
+    if (!name && name_len)
+        return VLT_RANGE;
+    return vlt_struct_field(dtype, name ? name : (const uint8_t *)vlt_no_items(), name_len, out);
+}
+#define vlt_struct_field vlt_checked_struct_field
+
+static inline uint32_t vlt_checked_dtype_from_text(
+        const uint8_t *text, size_t text_len, vlt_slot *out, size_t *position) {
+    if (!text && text_len)
+        return VLT_RANGE;
+    return vlt_dtype_from_text(text ? text : (const uint8_t *)vlt_no_items(), text_len, out, position);
+}
+#define vlt_dtype_from_text vlt_checked_dtype_from_text
+
+static inline uint32_t vlt_checked_dtype_to_text(vlt_slot *dtype, uint8_t *buffer, size_t buffer_len, size_t *length) {
+    if (!buffer && buffer_len)
+        return VLT_RANGE;
+    return vlt_dtype_to_text(dtype, buffer ? buffer : (uint8_t *)vlt_no_items(), buffer_len, length);
+}
+#define vlt_dtype_to_text vlt_checked_dtype_to_text
+
+static inline uint32_t vlt_checked_dtype_display(vlt_slot *dtype, uint8_t *buffer, size_t buffer_len, size_t *length) {
+    if (!buffer && buffer_len)
+        return VLT_RANGE;
+    return vlt_dtype_display(dtype, buffer ? buffer : (uint8_t *)vlt_no_items(), buffer_len, length);
+}
+#define vlt_dtype_display vlt_checked_dtype_display
 
 static inline uint32_t vlt_checked_dtype_copy(vlt_slot *dtype, vlt_slot *out) {
     if (dtype == out)
@@ -589,6 +891,39 @@ static inline uint32_t vlt_checked_dtype_intersect_nullability(vlt_slot *one, vl
 }
 #define vlt_dtype_intersect_nullability vlt_checked_dtype_intersect_nullability
 
+static inline uint32_t vlt_checked_union_variant_by_index(vlt_slot *dtype, size_t index, vlt_slot *out) {
+    if (dtype == out)
+        return VLT_SAME_SLOT;
+    return vlt_union_variant_by_index(dtype, index, out);
+}
+#define vlt_union_variant_by_index vlt_checked_union_variant_by_index
+
+static inline uint32_t vlt_checked_union_find(vlt_slot *dtype, const uint8_t *name, size_t name_len, size_t *index) {
+    if (!name && name_len)
+        return VLT_RANGE;
+    return vlt_union_find(dtype, name ? name : (const uint8_t *)vlt_no_items(), name_len, index);
+}
+#define vlt_union_find vlt_checked_union_find
+
+static inline uint32_t vlt_checked_union_variant(vlt_slot *dtype, const uint8_t *name, size_t name_len, vlt_slot *out) {
+    if (dtype == out)
+        return VLT_SAME_SLOT;
+    if (!name && name_len)
+        return VLT_RANGE;
+    return vlt_union_variant(dtype, name ? name : (const uint8_t *)vlt_no_items(), name_len, out);
+}
+#define vlt_union_variant vlt_checked_union_variant
+
+static inline uint32_t vlt_checked_answer(
+        const uint8_t *line, size_t line_len, uint8_t *buffer, size_t buffer_len, size_t *length) {
+    if ((!line && line_len) || (!buffer && buffer_len))
+        return VLT_RANGE;
+    return vlt_answer(
+            line ? line : (const uint8_t *)vlt_no_items(), line_len, buffer ? buffer : (uint8_t *)vlt_no_items(),
+            buffer_len, length);
+}
+#define vlt_answer vlt_checked_answer
+
 static inline uint32_t vlt_checked_path_from_steps(
         const uint8_t *names, size_t names_len, const size_t *name_lengths, size_t name_lengths_len, vlt_slot *out) {
     if ((!names && names_len) || (!name_lengths && name_lengths_len))
@@ -601,98 +936,18 @@ static inline uint32_t vlt_checked_path_from_steps(
 
 static inline uint32_t vlt_checked_path_from_text(
         const uint8_t *text, size_t text_len, vlt_slot *out, size_t *position) {
-    if ((!text && text_len))
+    if (!text && text_len)
         return VLT_RANGE;
     return vlt_path_from_text(text ? text : (const uint8_t *)vlt_no_items(), text_len, out, position);
 }
 #define vlt_path_from_text vlt_checked_path_from_text
 
 static inline uint32_t vlt_checked_path_to_text(vlt_slot *path, uint8_t *buffer, size_t buffer_len, size_t *length) {
-    if ((!buffer && buffer_len))
+    if (!buffer && buffer_len)
         return VLT_RANGE;
     return vlt_path_to_text(path, buffer ? buffer : (uint8_t *)vlt_no_items(), buffer_len, length);
 }
 #define vlt_path_to_text vlt_checked_path_to_text
-
-static inline uint32_t vlt_checked_path_display(vlt_slot *path, uint8_t *buffer, size_t buffer_len, size_t *length) {
-    if ((!buffer && buffer_len))
-        return VLT_RANGE;
-    return vlt_path_display(path, buffer ? buffer : (uint8_t *)vlt_no_items(), buffer_len, length);
-}
-#define vlt_path_display vlt_checked_path_display
-
-static inline uint32_t vlt_checked_path_step(
-        vlt_slot *path, size_t index, uint8_t *buffer, size_t buffer_len, size_t *length) {
-    if ((!buffer && buffer_len))
-        return VLT_RANGE;
-    return vlt_path_step(path, index, buffer ? buffer : (uint8_t *)vlt_no_items(), buffer_len, length);
-}
-#define vlt_path_step vlt_checked_path_step
-
-static inline uint32_t vlt_checked_path_push_name(vlt_slot *path, const uint8_t *name, size_t name_len, vlt_slot *out) {
-    if (path == out)
-        return VLT_SAME_SLOT;
-    if ((!name && name_len))
-        return VLT_RANGE;
-    return vlt_path_push_name(path, name ? name : (const uint8_t *)vlt_no_items(), name_len, out);
-}
-#define vlt_path_push_name vlt_checked_path_push_name
-
-static inline uint32_t vlt_checked_path_push_element(vlt_slot *path, vlt_slot *out) {
-    if (path == out)
-        return VLT_SAME_SLOT;
-    return vlt_path_push_element(path, out);
-}
-#define vlt_path_push_element vlt_checked_path_push_element
-
-static inline uint32_t vlt_checked_path_step_into(vlt_slot *path, vlt_slot *out) {
-    if (path == out)
-        return VLT_SAME_SLOT;
-    return vlt_path_step_into(path, out);
-}
-#define vlt_path_step_into vlt_checked_path_step_into
-
-static inline uint32_t vlt_checked_path_copy(vlt_slot *path, vlt_slot *out) {
-    if (path == out)
-        return VLT_SAME_SLOT;
-    return vlt_path_copy(path, out);
-}
-#define vlt_path_copy vlt_checked_path_copy
-
-static inline uint32_t vlt_checked_path_eq(vlt_slot *one, vlt_slot *other) {
-    if (one == other)
-        return VLT_SAME_SLOT;
-    return vlt_path_eq(one, other);
-}
-#define vlt_path_eq vlt_checked_path_eq
-
-static inline uint32_t vlt_checked_path_overlap(vlt_slot *one, vlt_slot *other) {
-    if (one == other)
-        return VLT_SAME_SLOT;
-    return vlt_path_overlap(one, other);
-}
-#define vlt_path_overlap vlt_checked_path_overlap
-
-static inline uint32_t vlt_checked_path_starts_with_name(vlt_slot *path, const uint8_t *name, size_t name_len) {
-    if ((!name && name_len))
-        return VLT_RANGE;
-    return vlt_path_starts_with_name(path, name ? name : (const uint8_t *)vlt_no_items(), name_len);
-}
-#define vlt_path_starts_with_name vlt_checked_path_starts_with_name
-
-static inline uint32_t vlt_checked_path_resolve(vlt_slot *dtype, vlt_slot *path, vlt_slot *out) {
-    if (dtype == path || dtype == out || path == out)
-        return VLT_SAME_SLOT;
-    return vlt_path_resolve(dtype, path, out);
-}
-#define vlt_path_resolve vlt_checked_path_resolve
-
-static inline uint32_t vlt_checked_path_exists_in(vlt_slot *dtype, vlt_slot *path) {
-    if (dtype == path)
-        return VLT_SAME_SLOT;
-    return vlt_path_exists_in(dtype, path);
-}
-#define vlt_path_exists_in vlt_checked_path_exists_in
 
 static inline uint32_t vlt_checked_path_from_message(
         const uint8_t *names, size_t names_len, const size_t *name_lengths, size_t name_lengths_len, vlt_slot *out) {
@@ -706,7 +961,7 @@ static inline uint32_t vlt_checked_path_from_message(
 
 static inline uint32_t vlt_checked_message_from_text(
         const uint8_t *text, size_t text_len, vlt_slot *out, size_t *position) {
-    if ((!text && text_len))
+    if (!text && text_len)
         return VLT_RANGE;
     return vlt_message_from_text(text ? text : (const uint8_t *)vlt_no_items(), text_len, out, position);
 }
@@ -714,46 +969,11 @@ static inline uint32_t vlt_checked_message_from_text(
 
 static inline uint32_t vlt_checked_message_to_text(
         vlt_slot *message, uint8_t *buffer, size_t buffer_len, size_t *length) {
-    if ((!buffer && buffer_len))
+    if (!buffer && buffer_len)
         return VLT_RANGE;
     return vlt_message_to_text(message, buffer ? buffer : (uint8_t *)vlt_no_items(), buffer_len, length);
 }
 #define vlt_message_to_text vlt_checked_message_to_text
-
-static inline uint32_t vlt_checked_message_read(vlt_slot *message, bool allow_unknown, vlt_slot *out) {
-    if (message == out)
-        return VLT_SAME_SLOT;
-    return vlt_message_read(message, allow_unknown, out);
-}
-#define vlt_message_read vlt_checked_message_read
-
-static inline uint32_t vlt_checked_message_write(vlt_slot *dtype, vlt_slot *out) {
-    if (dtype == out)
-        return VLT_SAME_SLOT;
-    return vlt_message_write(dtype, out);
-}
-#define vlt_message_write vlt_checked_message_write
-
-static inline uint32_t vlt_checked_message_normal(vlt_slot *message, bool allow_unknown, vlt_slot *out) {
-    if (message == out)
-        return VLT_SAME_SLOT;
-    return vlt_message_normal(message, allow_unknown, out);
-}
-#define vlt_message_normal vlt_checked_message_normal
-
-static inline uint32_t vlt_checked_message_eq(vlt_slot *one, vlt_slot *other) {
-    if (one == other)
-        return VLT_SAME_SLOT;
-    return vlt_message_eq(one, other);
-}
-#define vlt_message_eq vlt_checked_message_eq
-
-static inline uint32_t vlt_checked_message_copy(vlt_slot *message, vlt_slot *out) {
-    if (message == out)
-        return VLT_SAME_SLOT;
-    return vlt_message_copy(message, out);
-}
-#define vlt_message_copy vlt_checked_message_copy
 
 static inline uint32_t vlt_checked_message_from_nodes(
         const vlt_node *nodes, size_t nodes_len, const uint8_t *texts, size_t texts_len, vlt_slot *out) {
@@ -798,81 +1018,10 @@ static inline uint32_t vlt_checked_dtype_to_nodes(
 }
 #define vlt_dtype_to_nodes vlt_checked_dtype_to_nodes
 
-static inline uint32_t vlt_checked_project_paths(vlt_slot *dtype, vlt_slot *set, vlt_slot *out) {
-    if (dtype == set || dtype == out || set == out)
-        return VLT_SAME_SLOT;
-    return vlt_project_paths(dtype, set, out);
-}
-#define vlt_project_paths vlt_checked_project_paths
-
-static inline uint32_t vlt_checked_mask_prefix(vlt_slot *path, vlt_slot *out) {
-    if (path == out)
-        return VLT_SAME_SLOT;
-    return vlt_mask_prefix(path, out);
-}
-#define vlt_mask_prefix vlt_checked_mask_prefix
-
-static inline uint32_t vlt_checked_mask_exact(vlt_slot *path, vlt_slot *out) {
-    if (path == out)
-        return VLT_SAME_SLOT;
-    return vlt_mask_exact(path, out);
-}
-#define vlt_mask_exact vlt_checked_mask_exact
-
-static inline uint32_t vlt_checked_mask_path(vlt_slot *mask, vlt_slot *out) {
-    if (mask == out)
-        return VLT_SAME_SLOT;
-    return vlt_mask_path(mask, out);
-}
-#define vlt_mask_path vlt_checked_mask_path
-
-static inline uint32_t vlt_checked_mask_step_into(vlt_slot *mask, vlt_slot *out) {
-    if (mask == out)
-        return VLT_SAME_SLOT;
-    return vlt_mask_step_into(mask, out);
-}
-#define vlt_mask_step_into vlt_checked_mask_step_into
-
-static inline uint32_t vlt_checked_mask_starting_field(
-        vlt_slot *mask, uint8_t *buffer, size_t buffer_len, size_t *length) {
-    if ((!buffer && buffer_len))
-        return VLT_RANGE;
-    return vlt_mask_starting_field(mask, buffer ? buffer : (uint8_t *)vlt_no_items(), buffer_len, length);
-}
-#define vlt_mask_starting_field vlt_checked_mask_starting_field
-
-static inline uint32_t vlt_checked_mask_eq(vlt_slot *one, vlt_slot *other) {
-    if (one == other)
-        return VLT_SAME_SLOT;
-    return vlt_mask_eq(one, other);
-}
-#define vlt_mask_eq vlt_checked_mask_eq
-
-static inline uint32_t vlt_checked_mask_copy(vlt_slot *mask, vlt_slot *out) {
-    if (mask == out)
-        return VLT_SAME_SLOT;
-    return vlt_mask_copy(mask, out);
-}
-#define vlt_mask_copy vlt_checked_mask_copy
-
-static inline uint32_t vlt_checked_paths_get(vlt_slot *paths, size_t index, vlt_slot *out) {
-    if (paths == out)
-        return VLT_SAME_SLOT;
-    return vlt_paths_get(paths, index, out);
-}
-#define vlt_paths_get vlt_checked_paths_get
-
-static inline uint32_t vlt_checked_set_insert(vlt_slot *set, vlt_slot *path) {
-    if (set == path)
-        return VLT_SAME_SLOT;
-    return vlt_set_insert(set, path);
-}
-#define vlt_set_insert vlt_checked_set_insert
-
 static inline uint32_t vlt_checked_set_extend(vlt_slot *set, vlt_slot *paths, size_t paths_len, size_t *inserted) {
     if (vlt_is_among(set, paths, paths_len))
         return VLT_SAME_SLOT;
-    if ((!paths && paths_len))
+    if (!paths && paths_len)
         return VLT_RANGE;
     return vlt_set_extend(set, paths ? paths : (vlt_slot *)vlt_no_items(), paths_len, inserted);
 }
@@ -884,34 +1033,6 @@ static inline uint32_t vlt_checked_set_extend_from_list(vlt_slot *set, vlt_slot 
     return vlt_set_extend_from_list(set, paths);
 }
 #define vlt_set_extend_from_list vlt_checked_set_extend_from_list
-
-static inline uint32_t vlt_checked_set_contains(vlt_slot *set, vlt_slot *path) {
-    if (set == path)
-        return VLT_SAME_SLOT;
-    return vlt_set_contains(set, path);
-}
-#define vlt_set_contains vlt_checked_set_contains
-
-static inline uint32_t vlt_checked_set_members(vlt_slot *set, vlt_slot *out) {
-    if (set == out)
-        return VLT_SAME_SLOT;
-    return vlt_set_members(set, out);
-}
-#define vlt_set_members vlt_checked_set_members
-
-static inline uint32_t vlt_checked_set_cover(vlt_slot *set, vlt_slot *out) {
-    if (set == out)
-        return VLT_SAME_SLOT;
-    return vlt_set_cover(set, out);
-}
-#define vlt_set_cover vlt_checked_set_cover
-
-static inline uint32_t vlt_checked_set_unresolved(vlt_slot *set, vlt_slot *dtype, vlt_slot *out) {
-    if (set == dtype || set == out || dtype == out)
-        return VLT_SAME_SLOT;
-    return vlt_set_unresolved(set, dtype, out);
-}
-#define vlt_set_unresolved vlt_checked_set_unresolved
 
 static inline uint32_t vlt_checked_set_below(
         vlt_slot *set, vlt_slot *path, bool *is_end, bool *has_element, size_t *name_count) {
@@ -928,56 +1049,12 @@ static inline uint32_t vlt_checked_set_names_below(vlt_slot *set, vlt_slot *path
 }
 #define vlt_set_names_below vlt_checked_set_names_below
 
-static inline uint32_t vlt_checked_set_copy(vlt_slot *set, vlt_slot *out) {
-    if (set == out)
-        return VLT_SAME_SLOT;
-    return vlt_set_copy(set, out);
-}
-#define vlt_set_copy vlt_checked_set_copy
-
 static inline uint32_t vlt_checked_error_text(uint32_t code, uint8_t *buffer, size_t buffer_len, size_t *length) {
-    if ((!buffer && buffer_len))
+    if (!buffer && buffer_len)
         return VLT_RANGE;
     return vlt_error_text(code, buffer ? buffer : (uint8_t *)vlt_no_items(), buffer_len, length);
 }
 #define vlt_error_text vlt_checked_error_text
-
-static inline uint32_t vlt_checked_dtype_from_text(
-        const uint8_t *text, size_t text_len, vlt_slot *out, size_t *position) {
-    if ((!text && text_len))
-        return VLT_RANGE;
-    return vlt_dtype_from_text(text ? text : (const uint8_t *)vlt_no_items(), text_len, out, position);
-}
-#define vlt_dtype_from_text vlt_checked_dtype_from_text
-
-static inline uint32_t vlt_checked_dtype_to_text(vlt_slot *dtype, uint8_t *buffer, size_t buffer_len, size_t *length) {
-    if ((!buffer && buffer_len))
-        return VLT_RANGE;
-    return vlt_dtype_to_text(dtype, buffer ? buffer : (uint8_t *)vlt_no_items(), buffer_len, length);
-}
-#define vlt_dtype_to_text vlt_checked_dtype_to_text
-
-static inline uint32_t vlt_checked_dtype_display(vlt_slot *dtype, uint8_t *buffer, size_t buffer_len, size_t *length) {
-    if ((!buffer && buffer_len))
-        return VLT_RANGE;
-    return vlt_dtype_display(dtype, buffer ? buffer : (uint8_t *)vlt_no_items(), buffer_len, length);
-}
-#define vlt_dtype_display vlt_checked_dtype_display
-
-static inline uint32_t vlt_checked_dtype_list(vlt_slot *element, bool nullable, vlt_slot *out) {
-    if (element == out)
-        return VLT_SAME_SLOT;
-    return vlt_dtype_list(element, nullable, out);
-}
-#define vlt_dtype_list vlt_checked_dtype_list
-
-static inline uint32_t vlt_checked_dtype_fixed_size_list(
-        vlt_slot *element, uint32_t size, bool nullable, vlt_slot *out) {
-    if (element == out)
-        return VLT_SAME_SLOT;
-    return vlt_dtype_fixed_size_list(element, size, nullable, out);
-}
-#define vlt_dtype_fixed_size_list vlt_checked_dtype_fixed_size_list
 
 static inline uint32_t vlt_checked_dtype_map(
         vlt_slot *key, vlt_slot *value, bool keys_sorted, bool nullable, vlt_slot *out) {
@@ -1043,20 +1120,6 @@ static inline uint32_t vlt_checked_dtype_extension(
 }
 #define vlt_dtype_extension vlt_checked_dtype_extension
 
-static inline uint32_t vlt_checked_dtype_with_nullability(vlt_slot *dtype, bool nullable, vlt_slot *out) {
-    if (dtype == out)
-        return VLT_SAME_SLOT;
-    return vlt_dtype_with_nullability(dtype, nullable, out);
-}
-#define vlt_dtype_with_nullability vlt_checked_dtype_with_nullability
-
-static inline uint32_t vlt_checked_dtype_union_nullability(vlt_slot *dtype, bool nullable, vlt_slot *out) {
-    if (dtype == out)
-        return VLT_SAME_SLOT;
-    return vlt_dtype_union_nullability(dtype, nullable, out);
-}
-#define vlt_dtype_union_nullability vlt_checked_dtype_union_nullability
-
 static inline uint32_t vlt_checked_dtype_entries(vlt_slot *dtype, vlt_slot *out) {
     if (dtype == out)
         return VLT_SAME_SLOT;
@@ -1064,50 +1127,13 @@ static inline uint32_t vlt_checked_dtype_entries(vlt_slot *dtype, vlt_slot *out)
 }
 #define vlt_dtype_entries vlt_checked_dtype_entries
 
-static inline uint32_t vlt_checked_dtype_id(vlt_slot *dtype, uint8_t *buffer, size_t buffer_len, size_t *length) {
-    if ((!buffer && buffer_len))
-        return VLT_RANGE;
-    return vlt_dtype_id(dtype, buffer ? buffer : (uint8_t *)vlt_no_items(), buffer_len, length);
-}
-#define vlt_dtype_id vlt_checked_dtype_id
-
-static inline uint32_t vlt_checked_dtype_metadata(vlt_slot *dtype, uint8_t *buffer, size_t buffer_len, size_t *length) {
-    if ((!buffer && buffer_len))
-        return VLT_RANGE;
-    return vlt_dtype_metadata(dtype, buffer ? buffer : (uint8_t *)vlt_no_items(), buffer_len, length);
-}
-#define vlt_dtype_metadata vlt_checked_dtype_metadata
-
 static inline uint32_t vlt_checked_struct_field_name(
         vlt_slot *dtype, size_t index, uint8_t *buffer, size_t buffer_len, size_t *length) {
-    if ((!buffer && buffer_len))
+    if (!buffer && buffer_len)
         return VLT_RANGE;
     return vlt_struct_field_name(dtype, index, buffer ? buffer : (uint8_t *)vlt_no_items(), buffer_len, length);
 }
 #define vlt_struct_field_name vlt_checked_struct_field_name
-
-static inline uint32_t vlt_checked_struct_field_by_index(vlt_slot *dtype, size_t index, vlt_slot *out) {
-    if (dtype == out)
-        return VLT_SAME_SLOT;
-    return vlt_struct_field_by_index(dtype, index, out);
-}
-#define vlt_struct_field_by_index vlt_checked_struct_field_by_index
-
-static inline uint32_t vlt_checked_struct_find(vlt_slot *dtype, const uint8_t *name, size_t name_len, size_t *index) {
-    if ((!name && name_len))
-        return VLT_RANGE;
-    return vlt_struct_find(dtype, name ? name : (const uint8_t *)vlt_no_items(), name_len, index);
-}
-#define vlt_struct_find vlt_checked_struct_find
-
-static inline uint32_t vlt_checked_struct_field(vlt_slot *dtype, const uint8_t *name, size_t name_len, vlt_slot *out) {
-    if (dtype == out)
-        return VLT_SAME_SLOT;
-    if ((!name && name_len))
-        return VLT_RANGE;
-    return vlt_struct_field(dtype, name ? name : (const uint8_t *)vlt_no_items(), name_len, out);
-}
-#define vlt_struct_field vlt_checked_struct_field
 
 static inline uint32_t vlt_checked_struct_project(
         vlt_slot *dtype, const uint8_t *names, size_t names_len, const size_t *name_lengths, size_t name_lengths_len,
@@ -1138,7 +1164,7 @@ static inline uint32_t vlt_checked_struct_disjoint_merge(vlt_slot *one, vlt_slot
 
 static inline uint32_t vlt_checked_struct_indented(
         vlt_slot *dtype, uint8_t *buffer, size_t buffer_len, size_t *length) {
-    if ((!buffer && buffer_len))
+    if (!buffer && buffer_len)
         return VLT_RANGE;
     return vlt_struct_indented(dtype, buffer ? buffer : (uint8_t *)vlt_no_items(), buffer_len, length);
 }
@@ -1146,34 +1172,11 @@ static inline uint32_t vlt_checked_struct_indented(
 
 static inline uint32_t vlt_checked_union_variant_name(
         vlt_slot *dtype, size_t index, uint8_t *buffer, size_t buffer_len, size_t *length) {
-    if ((!buffer && buffer_len))
+    if (!buffer && buffer_len)
         return VLT_RANGE;
     return vlt_union_variant_name(dtype, index, buffer ? buffer : (uint8_t *)vlt_no_items(), buffer_len, length);
 }
 #define vlt_union_variant_name vlt_checked_union_variant_name
-
-static inline uint32_t vlt_checked_union_variant_by_index(vlt_slot *dtype, size_t index, vlt_slot *out) {
-    if (dtype == out)
-        return VLT_SAME_SLOT;
-    return vlt_union_variant_by_index(dtype, index, out);
-}
-#define vlt_union_variant_by_index vlt_checked_union_variant_by_index
-
-static inline uint32_t vlt_checked_union_find(vlt_slot *dtype, const uint8_t *name, size_t name_len, size_t *index) {
-    if ((!name && name_len))
-        return VLT_RANGE;
-    return vlt_union_find(dtype, name ? name : (const uint8_t *)vlt_no_items(), name_len, index);
-}
-#define vlt_union_find vlt_checked_union_find
-
-static inline uint32_t vlt_checked_union_variant(vlt_slot *dtype, const uint8_t *name, size_t name_len, vlt_slot *out) {
-    if (dtype == out)
-        return VLT_SAME_SLOT;
-    if ((!name && name_len))
-        return VLT_RANGE;
-    return vlt_union_variant(dtype, name ? name : (const uint8_t *)vlt_no_items(), name_len, out);
-}
-#define vlt_union_variant vlt_checked_union_variant
 /* end of what tools/bindings writes */
 
 #ifdef __cplusplus

@@ -33,7 +33,7 @@ fn main() {
 /// The archive, or where it was looked for.
 fn archive() -> Result<PathBuf, String> {
     let package = PathBuf::from(env::var("CARGO_MANIFEST_DIR").unwrap_or_default());
-    let places = match env::var_os(SETTING) {
+    let places = match env::var_os(SETTING).filter(|named| !named.is_empty()) {
         Some(named) if Path::new(&named).is_dir() => vec![Path::new(&named).join(ARCHIVE)],
         Some(named) => vec![PathBuf::from(named)],
         None => vec![

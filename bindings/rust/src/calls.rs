@@ -25,24 +25,24 @@ pub(crate) fn holds(code: u32) -> bool {
 }
 
 /// The object that a call puts into a slot, if there is one.
-pub(crate) fn found(call: impl FnOnce(&Slot) -> u32) -> Result<Option<Slot>, Error> {
-    let out = Slot::new();
-    Ok(done(call(&out))?.then_some(out))
+pub(crate) fn found(call: impl FnOnce(&mut Slot) -> u32) -> Result<Option<Slot>, Error> {
+    let mut out = Slot::new();
+    Ok(done(call(&mut out))?.then_some(out))
 }
 
 /// The object that a call puts into a slot.
-pub(crate) fn made(call: impl FnOnce(&Slot) -> u32) -> Result<Slot, Error> {
-    let out = Slot::new();
-    match call(&out) {
+pub(crate) fn made(call: impl FnOnce(&mut Slot) -> u32) -> Result<Slot, Error> {
+    let mut out = Slot::new();
+    match call(&mut out) {
         ffi::DONE => Ok(out),
         code => Err(Error::of(code, 0)),
     }
 }
 
 /// The object that a call reads from a text.
-pub(crate) fn read(text: &str, call: impl FnOnce(&[u8], &Slot, &mut usize) -> u32) -> Result<Slot, Error> {
-    let (out, mut position) = (Slot::new(), 0);
-    match call(text.as_bytes(), &out, &mut position) {
+pub(crate) fn read(text: &str, call: impl FnOnce(&[u8], &mut Slot, &mut usize) -> u32) -> Result<Slot, Error> {
+    let (mut out, mut position) = (Slot::new(), 0);
+    match call(text.as_bytes(), &mut out, &mut position) {
         ffi::DONE => Ok(out),
         code => Err(Error::of(code, position)),
     }

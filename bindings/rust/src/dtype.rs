@@ -136,8 +136,8 @@ impl DType {
         fields: impl IntoIterator<Item = (N, DType)>,
         nullability: Nullability,
     ) -> Result<DType, Error> {
-        let (names, dtypes) = taken_apart(fields)?;
-        made(|out| ffi::dtype_struct(&names.text, &names.lengths, &dtypes, nullability.into(), out)).map(DType::of)
+        let (names, mut dtypes) = taken_apart(fields)?;
+        made(|out| ffi::dtype_struct(&names.text, &names.lengths, &mut dtypes, nullability.into(), out)).map(DType::of)
     }
 
     /// Returns a union of these variants, with the tags 0, 1, 2 and so on. The iterator ends before the library is called.
@@ -149,8 +149,8 @@ impl DType {
         variants: impl IntoIterator<Item = (N, DType)>,
         nullability: Nullability,
     ) -> Result<DType, Error> {
-        let (names, dtypes) = taken_apart(variants)?;
-        made(|out| ffi::dtype_union_consecutive(&names.text, &names.lengths, &dtypes, nullability.into(), out))
+        let (names, mut dtypes) = taken_apart(variants)?;
+        made(|out| ffi::dtype_union_consecutive(&names.text, &names.lengths, &mut dtypes, nullability.into(), out))
             .map(DType::of)
     }
 
@@ -164,11 +164,11 @@ impl DType {
         nullability: Nullability,
     ) -> Result<DType, Error> {
         let mut tags = Vec::new();
-        let (names, dtypes) = taken_apart(variants.into_iter().map(|(name, tag, dtype)| {
+        let (names, mut dtypes) = taken_apart(variants.into_iter().map(|(name, tag, dtype)| {
             tags.push(tag);
             (name, dtype)
         }))?;
-        made(|out| ffi::dtype_union(&names.text, &names.lengths, &dtypes, &tags, nullability.into(), out))
+        made(|out| ffi::dtype_union(&names.text, &names.lengths, &mut dtypes, &tags, nullability.into(), out))
             .map(DType::of)
     }
 
@@ -295,7 +295,7 @@ impl DType {
     pub(crate) fn with_other(
         &self,
         other: &DType,
-        call: impl FnOnce(&Slot, &Slot, &Slot) -> u32,
+        call: impl FnOnce(&Slot, &Slot, &mut Slot) -> u32,
     ) -> Result<Option<DType>, Error> {
         let copy = if ptr::eq(self, other) { Some(other.try_clone()?) } else { None };
         let other = copy.as_ref().unwrap_or(other);

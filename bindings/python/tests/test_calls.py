@@ -1,0 +1,219 @@
+# SPDX-License-Identifier: Apache-2.0
+# SPDX-FileCopyrightText: Copyright the Vortex contributors
+
+"""The calls of the package, each on a value or two; threads; and a sample of the console's golden tests."""
+import copy
+import doctest
+import gc
+import os
+import pickle
+import threading
+import unittest
+
+import vortex_logical_types
+from vortex_logical_types import (ELEMENT, Below, DType, FieldMask, FieldPath, FieldPathSet, Kind, LibraryError, Message,
+                                  Nodes, PType, Unreadable, VortexError, WrongThread, _native, console_answer)
+
+TOP = os.path.join(os.path.dirname(os.path.abspath(__file__)), "../../..")
+
+
+def on_another_thread(call):
+    """What a call returns, or raises, on a thread of its own."""
+    found = []
+
+    def run():
+        try:
+            found.append(call())
+        except BaseException as error:  # (any is what the test asks for)
+            found.append(error)
+
+    thread = threading.Thread(target=run)
+    thread.start()
+    thread.join()
+    return found[0]
+
+
+class Calls(unittest.TestCase):
+    def refused(self, number, call, *arguments):
+        with self.assertRaises(VortexError) as caught:
+            call(*arguments)
+        self.assertEqual(caught.exception.number, number)
+        return caught.exception
+
+    def test_makes_each_kind(self):
+        i8, utf8 = DType("i8"), DType("utf8")
+        for made, text in (
+            (DType.null(), "null"), (DType.bool_(True), "bool?"), (DType.primitive(PType.F16), "f16"),
+            (DType.decimal(10, -2, True), "decimal(10,-2)?"), (DType.utf8(), "utf8"), (DType.binary(True), "binary?"),
+            (DType.variant(), "variant"), (DType.list_(i8, True), "list(i8)?"),
+            (DType.fixed_size_list(i8, 3), "fixed_size_list(i8)[3]"),
+            (DType.map_(utf8, utf8, keys_sorted=True), "map(utf8, utf8, keys_sorted=true)"),
+            (DType.struct([("a", i8), ("b c", i8)], True), '{a=i8, "b c"=i8}?'), (DType.struct([]), "{}"),
+            (DType.union([("a", i8), ("b", i8)]), "union(a=i8, b=i8)"),
+            (DType.union([("a", i8)], tags=b"\x07"), "union(a@7=i8)"),
+            (DType.extension("x.tag", b"a\0b", utf8), "x.tag[0x610062](utf8)"),
+        ):
+            self.assertEqual((made.to_source(), repr(made), made), (text, f"DType({text!r})", DType(text)))
+        self.refused(101, DType.decimal, 0, 0)
+        self.refused(9, DType.decimal, 256, 0)
+        self.refused(9, DType.fixed_size_list, i8, 1 << 32)
+        self.refused(109, DType.map_, DType("utf8?"), i8)
+        self.refused(115, DType.union, [("a", i8), ("a", i8)])
+        self.assertEqual((i8, utf8), (DType("i8"), DType("utf8")))
+
+    def test_reads_and_writes_texts(self):
+        error = self.refused(4, DType, "{a=i33}")
+        self.assertIsInstance(error, Unreadable)
+        self.assertEqual((error.position, str(error)), (4, "unreadable at byte 4"))
+        self.refused(101, DType, "decimal(0,0)")
+        for text in ("\ud800", "{\"\udfff\"=i8}"):
+            self.assertRaises(UnicodeEncodeError, DType, text)
+        self.assertRaises(UnicodeEncodeError, DType("{a=i8}").find, "\ud800")
+        name = 'x\0"\n' + "é" * 1000
+        named = DType.struct([(name, DType.null())])
+        self.assertEqual((named.names, DType(named.to_source()), named.find(name)), ([name], named, 0))
+        self.assertEqual(str(DType('{"a, b"=i8}')), "{a, b=i8}")
+
+    def test_tells_parts(self):
+        list_ = DType("fixed_size_list(i32?)[3]?")
+        self.assertEqual((list_.kind, list_.fixed_size, list_.element, list_.is_nullable),
+                         (Kind.FIXED_SIZE_LIST, 3, DType("i32?"), True))
+        self.assertEqual((DType("i32").ptype, list_.ptype, DType("i32").element_size), (PType.I32, None, 4))
+        self.assertEqual(DType("decimal(10,-2)").decimal_parts, (10, -2))
+        map_ = DType("map(utf8, i32?, keys_sorted=true)")
+        self.assertEqual((map_.key, map_.value, map_.keys_sorted, map_.entries),
+                         (DType("utf8"), DType("i32?"), True, DType("{key=utf8, value=i32?}")))
+        extension = DType("x.tag[0x610062](utf8)")
+        self.assertEqual((extension.id, extension.metadata, extension.storage), ("x.tag", b"a\0b", DType("utf8")))
+        self.assertEqual((list_.id, list_.metadata, list_.storage, list_.key), (None, None, None, None))
+        self.refused(5, lambda: list_.keys_sorted)
+        self.refused(5, DType("null").with_nullability, False)
+        self.assertEqual(DType("i8").union_nullability(True), DType("i8?"))
+        union = DType("union(a@5=i32, b@9=utf8)")
+        self.assertEqual((union.nvariants, union.variant_name(1), union.variant_of("a"), union.find_variant("c")),
+                         (2, "b", DType("i32"), None))
+        self.assertEqual((union.child_index_to_tag(1), union.tag_to_child_index(5), union.is_consecutive), (9, 0, False))
+        self.assertIsNone(union.tag_to_child_index(256))
+
+    def test_looks_up_fields(self):
+        whole = DType("{a=i32, b=utf8?, a=f64}")
+        self.assertEqual((whole.nfields, whole.names, whole.find("a"), whole.find("c")), (3, ["a", "b", "a"], 0, None))
+        self.assertEqual(whole.fields, [("a", DType("i32")), ("b", DType("utf8?")), ("a", DType("f64"))])
+        self.assertEqual((whole.field("b"), whole.field_by_index(3), whole.field_name(1 << 70)), (DType("utf8?"), None, None))
+        self.assertEqual(whole.project(["b", "a"]), DType("{b=utf8?, a=i32}"))
+        self.assertEqual(whole.without_field(0), DType("{b=utf8?, a=f64}"))
+        self.refused(116, whole.project, ["c"])
+        self.refused(117, whole.without_field, 3)
+        self.refused(118, whole.disjoint_merge, whole)
+        self.refused(5, lambda: DType("i8").nfields)
+        self.assertRaises(IndexError, whole.field_name, -1)
+
+    def test_compares(self):
+        one, other = DType("{a=i32, b=utf8?}"), DType("{a=i32?, b=utf8}")
+        self.assertEqual((one.merge_nullability(other), one.merge_nullability(one)), (DType("{a=i32?, b=utf8?}"), one))
+        self.assertEqual((one.intersect_nullability(other), one.intersect_nullability(DType("i8"))),
+                         (DType("{a=i32, b=utf8}"), None))
+        self.assertEqual(len({one, DType("{a=i32, b=utf8?}"), other}), 2)
+        self.assertTrue(one.eq_ignore_nullability(other) and one != other and one != "i8")
+        self.assertEqual(one.hash_ignore_nullability(), other.hash_ignore_nullability())
+        self.assertTrue(one.eq_with_nullability_subset(DType("{a=i32?, b=utf8?}")))
+        self.assertEqual((pickle.loads(pickle.dumps(one)), copy.copy(one), copy.deepcopy(one)), (one, one, one))
+
+    def test_walks_paths(self):
+        path = FieldPath.from_steps(["a", ELEMENT, "b c"])
+        self.assertEqual((repr(path), str(path), [*path]), ("FieldPath('a.[].\"b c\"')", "$a.[].$b c", ["a", ELEMENT, "b c"]))
+        self.assertEqual((path[-1], path.step_into(), path.push(ELEMENT).parts[-1]), ("b c", FieldPath('[]."b c"'), ELEMENT))
+        self.assertRaises(IndexError, lambda: path[3])
+        self.assertRaises(IndexError, lambda: path[-4])
+        whole = DType('{a=list({"b c"=u32})?}')
+        self.assertEqual((path.resolve(whole), FieldPath("x").resolve(whole)), (DType("u32"), None))
+        self.assertTrue(path.exists_in(whole) and path.overlap(FieldPath("a")) and FieldPath().is_root)
+        self.assertEqual((FieldPath.root(), FieldPath.from_message(["a"])), (FieldPath("."), FieldPath("a")))
+        self.refused(136, FieldPath.from_message, [None])
+        self.refused(5, FieldPath("[]").starts_with_name, "a")
+
+    def test_has_sets(self):
+        paths = FieldPathSet(["a.b", "x", "a", "a.[].c", "a"])
+        self.assertEqual(sorted(it.to_source() for it in paths), ["a", "a.[].c", "a.b", "x"])
+        self.assertEqual(sorted(it.to_source() for it in paths.cover()), ["a", "x"])
+        self.assertEqual((len(paths), "a" in paths, FieldPath("b") in paths), (4, True, False))
+        self.assertEqual((paths.below("a"), paths.below("b")), (Below(True, True, 1), None))
+        self.assertEqual((paths.names_below("a"), paths.names_below("b")), (["b"], None))
+        self.assertEqual([*paths.unresolved(DType("{a=i8}"))], [FieldPath("x")])
+        other = paths.copy()
+        other.insert("y")
+        self.assertEqual((len(other), len(paths)), (5, 4))
+        self.assertEqual(DType("{a=i8, b=i8}").project_paths(FieldPathSet(["b"])), DType("{b=i8}"))
+        self.assertIsNone(DType("{a=i8}").project_paths(FieldPathSet()))
+
+        def failing():
+            yield "p"
+            raise KeyError
+
+        self.assertRaises(KeyError, paths.extend, failing())
+        self.assertEqual(len(paths), 4)
+
+    def test_has_masks_and_messages(self):
+        mask = FieldMask.prefix("a.[]")
+        self.assertEqual((mask.kind, mask.path, mask.starting_field()), ("prefix", FieldPath("a.[]"), "a"))
+        self.assertEqual((mask.step_into().starting_field(), repr(mask)), (ELEMENT, "FieldMask.prefix('a.[]')"))
+        self.assertTrue(mask == mask.copy() and mask != FieldMask.all() and FieldMask.all().matches_all)
+        self.refused(120, FieldMask.exact(".").step_into)
+        self.refused(121, FieldMask.all().starting_field)
+        whole = DType("{a=list(i32?), bc=x.unknown[0x00ff](utf8)}")
+        message = whole.to_message()
+        self.assertEqual((message, message.read(True)), (Message(message.to_source()), whole))
+        self.refused(135, message.read)
+        self.refused(128, Message("list {}").read)
+        nodes = whole.to_nodes()
+        self.assertEqual((DType.from_nodes(nodes, True), Message.from_nodes(nodes), message.to_nodes()),
+                         (whole, message, nodes))
+        self.refused(9, DType.from_nodes, Nodes(b"", b""))
+        self.assertRaises(ValueError, DType.from_nodes, Nodes(b"x", b""))
+        self.assertEqual(on_another_thread(lambda: DType.from_nodes(nodes, True).to_source()), whole.to_source())
+
+    def test_keeps_to_its_thread(self):
+        whole, path = DType("{a=i8}"), FieldPath("a")
+        for call in (whole.copy, lambda: path.resolve(whole), lambda: whole == DType("i8"), lambda: hash(path)):
+            self.assertIsInstance(on_another_thread(call), WrongThread)
+        held = [DType("i8")]
+        self.assertEqual(on_another_thread(lambda: (held.clear(), gc.collect()) and None), None)
+        self.assertEqual(len(_native.here.thread.garbage), 1)
+        DType("i8")
+        self.assertEqual(len(_native.here.thread.garbage), 0)
+        # (those of a thread that has ended are freed at once)
+        made = on_another_thread(lambda: DType("i8"))
+        self.assertRaises(WrongThread, made.copy)
+        del made
+        gc.collect()
+        self.assertEqual(len(_native.here.thread.garbage), 0)
+
+    def test_answers_as_the_golden_tests(self):
+        """Each line, but those that need a set or a session from an earlier one; every seventh after the first 700."""
+        folder = os.path.join(TOP, "crates/dtype_console")
+        if not os.path.exists(f"{folder}/stdin"):
+            self.skipTest("the golden tests aren't here")
+        with open(f"{folder}/stdin", encoding="utf-8", newline="\n") as lines, open(
+                f"{folder}/stdout", encoding="utf-8", newline="\n") as shown:
+            lines, shown = lines.read().split("\n")[:-1], iter(shown.read().split("\n"))
+        asked = 0
+        for at, line in enumerate(lines):
+            while next(shown) not in (f"> {line}", line):
+                pass
+            words = line.split()
+            if (not words or words[0].startswith("#") or words[0] in ("set", "session", "help")
+                    or any(it.startswith("@") for it in words[1:])):
+                continue
+            wanted = next(shown)
+            if at < 700 or at % 7 == 0:
+                asked += 1
+                self.assertEqual(console_answer(line), wanted, line)
+        self.assertGreater(asked, 1000)
+
+    def test_has_examples(self):
+        self.assertEqual(doctest.testmod(vortex_logical_types).failed, 0)
+        self.assertIsInstance(LibraryError(101, ""), ValueError)
+
+
+if __name__ == "__main__":
+    unittest.main()

@@ -1,0 +1,266 @@
+// SPDX-License-Identifier: Apache-2.0
+// SPDX-FileCopyrightText: Copyright the Vortex contributors
+
+//! The calls of the package, each on a value or two: what they return, and what they leave.
+use std::collections::HashSet;
+use std::collections::hash_map::DefaultHasher;
+use std::error::Error as _;
+use std::hash::{Hash, Hasher};
+use std::panic::{AssertUnwindSafe, catch_unwind};
+use vortex_logical_types::Nullability::{NonNullable, Nullable};
+use vortex_logical_types::*;
+
+fn dtype(text: &str) -> DType {
+    text.parse().unwrap()
+}
+
+fn path(text: &str) -> FieldPath {
+    text.parse().unwrap()
+}
+
+fn set(paths: &[&str]) -> FieldPathSet {
+    paths.iter().map(|it| path(it)).collect()
+}
+
+fn texts(paths: impl IntoIterator<Item = FieldPath>) -> Vec<String> {
+    let mut texts: Vec<_> = paths.into_iter().map(|it| it.to_source()).collect();
+    texts.sort();
+    texts
+}
+
+fn number(error: Error) -> u8 {
+    match error {
+        Error::Library(error) => error.number(),
+        _ => panic!("{error:?} isn't the library's"),
+    }
+}
+
+#[test]
+fn constructors() {
+    let made = [
+        (DType::null(), "null"),
+        (DType::bool(Nullable), "bool?"),
+        (DType::primitive(PType::F16, NonNullable), "f16"),
+        (PType::U8.into(), "u8"),
+        (DType::decimal(10, -2, Nullable).unwrap(), "decimal(10,-2)?"),
+        (DType::utf8(NonNullable), "utf8"),
+        (DType::binary(Nullable), "binary?"),
+        (DType::variant(NonNullable), "variant"),
+        (DType::list(&dtype("i32?"), Nullable).unwrap(), "list(i32?)?"),
+        (DType::fixed_size_list(&dtype("i32"), u32::MAX, NonNullable).unwrap(), "fixed_size_list(i32)[4294967295]"),
+        (DType::map(&dtype("utf8"), &dtype("i8?"), true, NonNullable).unwrap(), "map(utf8, i8?, keys_sorted=true)"),
+        (DType::struct_([("a", dtype("i8")), ("", dtype("null"))], Nullable).unwrap(), "{a=i8, \"\"=null}?"),
+        (DType::struct_::<&str>([], NonNullable).unwrap(), "{}"),
+        (DType::union([("a", dtype("i8")), ("b", dtype("utf8"))], NonNullable).unwrap(), "union(a=i8, b=utf8)"),
+        (DType::union_with_tags([("a", 7, dtype("i8"))], Nullable).unwrap(), "union(a@7=i8)?"),
+        (DType::extension("x.tag", b"a\0b", &dtype("utf8")).unwrap(), "x.tag[0x610062](utf8)"),
+    ];
+    for (made, text) in made {
+        assert_eq!((made.to_source().as_str(), &made), (text, &dtype(text)));
+    }
+    let key = dtype("utf8");
+    assert_eq!(DType::map(&key, &key, false, NonNullable).unwrap(), dtype("map(utf8, utf8, keys_sorted=false)"));
+    assert_eq!(number(DType::map(&dtype("utf8?"), &key, false, NonNullable).unwrap_err()), 9);
+    assert_eq!(number(DType::decimal(0, 0, Nullable).unwrap_err()), 1);
+    assert_eq!(number(DType::union::<&str>([], Nullable).unwrap_err()), 12);
+    assert_eq!(number(DType::union([("a", key.clone()), ("a", key)], Nullable).unwrap_err()), 15);
+}
+
+#[test]
+fn nesting_ends() {
+    let deep = (0..127).fold(dtype("i8"), |element, _| DType::list(&element, NonNullable).unwrap());
+    assert_eq!(DType::list(&deep, NonNullable).unwrap_err(), Error::TooDeep);
+    assert_eq!(DType::struct_([("a", deep)], NonNullable).unwrap_err(), Error::TooDeep);
+}
+
+#[test]
+fn kinds_and_parts() {
+    let list = dtype("fixed_size_list(i32?)[3]");
+    assert_eq!(
+        (list.kind(), list.as_fixed_size_opt(), list.as_list_element_opt()),
+        (Kind::FixedSizeList, Some(3), None)
+    );
+    assert_eq!(list.as_fixed_size_list_element_opt(), Some(dtype("i32?")));
+    assert_eq!((dtype("i32?").as_ptype_opt(), dtype("utf8").as_ptype_opt()), (Some(PType::I32), None));
+    assert!(dtype("i32").is_signed_int() && dtype("u8").is_unsigned_int() && dtype("f16").is_float());
+    let decimal = dtype("decimal(10,-2)").as_decimal_opt().unwrap();
+    assert_eq!((decimal.precision(), decimal.scale(), decimal.to_string()), (10, -2, "decimal(10,-2)".to_owned()));
+    let map = dtype("map(utf8, i32?, keys_sorted=false)");
+    let parts = map.as_map_opt().unwrap();
+    assert_eq!((parts.keys_sorted(), parts.entries_dtype().unwrap()), (false, dtype("{key=utf8, value=i32?}")));
+    assert_eq!(dtype("i64").element_size(), Ok(Some(8)));
+    assert_eq!(dtype("utf8").element_size(), Ok(None));
+    assert!(dtype("utf8").as_struct_fields_opt().is_none() && dtype("utf8").as_map_opt().is_none());
+    let union = dtype("union(a@5=i32, b@9=utf8)");
+    let variants = union.as_union_variants_opt().unwrap();
+    assert_eq!(
+        (variants.len(), variants.type_ids(), variants.names().collect::<Vec<_>>()),
+        (2, vec![5, 9], vec!["a".into(), "b".into()])
+    );
+    assert_eq!(variants.variants().collect::<Vec<_>>(), [dtype("i32"), dtype("utf8")]);
+    assert_eq!((variants.variant_by_index(2), variants.variant_name(2), variants.find("c")), (None, None, None));
+}
+
+#[test]
+fn structs() {
+    let whole = dtype("{a=i32, b=utf8?, a=f64}?");
+    let fields = whole.as_struct_fields_opt().unwrap();
+    assert_eq!(fields.names().collect::<Vec<_>>(), ["a", "b", "a"]);
+    assert_eq!(fields.fields().collect::<Vec<_>>(), [dtype("i32"), dtype("utf8?"), dtype("f64")]);
+    assert_eq!((fields.field_name(3), fields.field_by_index(usize::MAX)), (None, None));
+    assert_eq!(fields.without_field(0).unwrap(), dtype("{b=utf8?, a=f64}"));
+    assert_eq!(number(fields.without_field(3).unwrap_err()), 17);
+    assert_eq!(number(fields.project(["c"]).unwrap_err()), 16);
+    assert_eq!(number(fields.disjoint_merge(&fields).unwrap_err()), 18);
+    let other = dtype("{c=i8}");
+    assert_eq!(
+        other
+            .as_struct_fields_opt()
+            .unwrap()
+            .disjoint_merge(&dtype("{d=i16}").as_struct_fields_opt().unwrap())
+            .unwrap(),
+        dtype("{c=i8, d=i16}")
+    );
+    let long = "x".repeat(1000);
+    let named = DType::struct_([(&long, dtype("i8"))], NonNullable).unwrap();
+    assert_eq!(named.as_struct_fields_opt().unwrap().field_name(0), Some(long.clone()));
+    assert_eq!(named.as_struct_fields_opt().unwrap().find(&long), Some(0));
+}
+
+#[test]
+fn nullability() {
+    let one = dtype("{a=i32, b=utf8?}");
+    assert_eq!(one.merge_nullability(&one), Some(one.clone()));
+    assert_eq!(one.intersect_nullability(&one), Some(one.clone()));
+    assert!(one.eq_ignore_nullability(&dtype("{a=i32?, b=utf8}?")) && !one.eq_ignore_nullability(&dtype("{a=i32}")));
+    assert!(one.eq_with_nullability_subset(&dtype("{a=i32?, b=utf8?}")));
+    assert!(one.eq_with_nullability_superset(&dtype("{a=i32, b=utf8}")));
+    assert_eq!(dtype("null").with_nullability(NonNullable), Err(Error::Precondition));
+    assert_eq!(one.as_nullable(), dtype("{a=i32, b=utf8?}?"));
+    assert_eq!(one.as_nullable().as_nonnullable(), Ok(one.clone()));
+    assert_eq!(one.union_nullability(NonNullable), one);
+    assert!(!dtype("null").can_be_nonnullable());
+    assert_eq!((NonNullable | Nullable, bool::from(Nullable), Nullability::from(false)), (Nullable, true, NonNullable));
+}
+
+#[test]
+fn equal_values_have_equal_hashes() {
+    let hash = |it: &dyn Fn(&mut DefaultHasher)| {
+        let mut state = DefaultHasher::new();
+        it(&mut state);
+        state.finish()
+    };
+    let (one, other) = (dtype("{a=i32, b=utf8?}"), dtype("{a=i32, b=utf8?}"));
+    assert_eq!(hash(&|state| one.hash(state)), hash(&|state| other.hash(state)));
+    let erased = dtype("{a=i32?, b=utf8}");
+    assert_eq!(hash(&|state| one.hash_ignore_nullability(state)), hash(&|state| erased.hash_ignore_nullability(state)));
+    let types: HashSet<DType> = [one.clone(), other, erased].into_iter().collect();
+    assert!(types.len() == 2 && types.contains(&one));
+    let paths: HashSet<FieldPath> = [path("a.b"), path("a.b"), path("a")].into_iter().collect();
+    assert_eq!(paths.len(), 2);
+}
+
+#[test]
+fn paths() {
+    let steps = [Field::from("a"), Field::ElementType, Field::from("b c")];
+    let it: FieldPath = steps.iter().cloned().collect();
+    assert_eq!(
+        (it.to_source(), it.to_string(), it.parts()),
+        ("a.[].\"b c\"".to_owned(), "$a.[].$b c".to_owned(), steps.to_vec())
+    );
+    assert!(FieldPath::root().is_root() && FieldPath::root().step_into().is_none());
+    assert_eq!(it.step_into(), Some(path("[].\"b c\"")));
+    assert!(it.overlap(&path("a.[]")) && !it.overlap(&path("b")) && it.overlap(&it));
+    assert_eq!(it.starts_with_name("a"), Ok(true));
+    assert_eq!(path("[]").starts_with_name("a"), Err(Error::Precondition));
+    let whole = dtype("{a=list({\"b c\"=u32})?}");
+    let found = it.resolve(&whole);
+    drop(whole);
+    assert_eq!(found, Some(dtype("u32")));
+    assert_eq!(FieldPath::from_message([Some("a"), Some("b")]), Ok(path("a.b")));
+    assert_eq!(number(FieldPath::from_message([Some("a"), None]).unwrap_err()), 36);
+    assert_eq!("a..b".parse::<FieldPath>(), Err(Error::Unreadable { position: 3 }));
+}
+
+#[test]
+fn sets() {
+    let mut it = set(&["a.b", "x", "a", "a.[].c", "a"]);
+    assert_eq!(
+        (it.len(), texts(it.iter()), texts(it.cover())),
+        (4, vec!["a".into(), "a.[].c".into(), "a.b".into(), "x".into()], vec!["a".into(), "x".into()])
+    );
+    let copy = it.clone();
+    it.extend([path("y"), path("z")]);
+    assert_eq!((it.len(), copy.len(), copy.contains(&path("y"))), (6, 4, false));
+    assert_eq!(it.below(&path("a")), Some(Below { is_end: true, has_element: true, name_count: 1 }));
+    assert_eq!((it.names_below(&path("a")), it.names_below(&path("b"))), (Some(vec!["b".to_owned()]), None));
+    assert_eq!(texts(copy.unresolved(&dtype("{a=i32}"))), ["x"]);
+    assert_eq!(texts(copy), ["a", "x"]);
+    let mut paths = it.iter();
+    let (first, last) = (paths.next(), paths.next_back());
+    assert!(first.is_some() && last.is_some() && paths.len() == 4 && paths.count() == 4);
+    let whole = dtype("{a=list({c=u32, d=i8})?, y=i64}");
+    assert_eq!(whole.project_paths(&set(&["a.[].c"])), Some(dtype("{a=list({c=u32})?}")));
+    assert_eq!(whole.project_paths(&FieldPathSet::new()), None);
+}
+
+#[test]
+fn a_panic_of_the_iterator_loses_nothing() {
+    let mut it = set(&["a"]);
+    let paths = (0..3).map(|at| if at < 2 { path(&format!("p{at}")) } else { panic!("the iterator's") });
+    assert!(catch_unwind(AssertUnwindSafe(|| it.extend(paths))).is_err());
+    assert_eq!(texts(it.iter()), ["a"]);
+    let fields = (0..3).map(|at| if at < 2 { (format!("f{at}"), dtype("i8")) } else { panic!("the iterator's") });
+    assert!(catch_unwind(AssertUnwindSafe(|| DType::struct_(fields, NonNullable))).is_err());
+}
+
+#[test]
+fn masks() {
+    let mask = FieldMask::prefix(&path("a.[]"));
+    assert_eq!(
+        (mask.kind(), mask.path(), mask.starting_field()),
+        (MaskKind::Prefix, Some(path("a.[]")), Ok(Some("a".into())))
+    );
+    assert_eq!(mask.step_into().unwrap().starting_field(), Ok(Some(Field::ElementType)));
+    assert_eq!(number(FieldMask::all().starting_field().unwrap_err()), 21);
+    assert_eq!(number(FieldMask::exact(&FieldPath::root()).step_into().unwrap_err()), 20);
+    assert_eq!(FieldMask::exact(&FieldPath::root()).starting_field(), Ok(None));
+    assert!(mask == mask.clone() && mask != FieldMask::all() && FieldMask::all().matches_all());
+    assert_eq!(format!("{:?} {:?}", FieldMask::all(), mask), "All Prefix(a.[])");
+}
+
+#[test]
+fn messages() {
+    let whole = dtype(
+        "{a=list(i32?), bc=union(x@5=utf8, y@9=decimal(10,-2)?), d=x.unknown[0x00ff](map(utf8, i8, keys_sorted=true))}",
+    );
+    let message = whole.to_message();
+    assert_eq!(message.to_source().parse::<Message>().unwrap(), message);
+    assert_eq!(message.read(true).unwrap(), whole);
+    assert_eq!(number(message.read(false).unwrap_err()), 35);
+    assert_eq!(message.normal(true).unwrap(), message);
+    let flat = message.to_nodes().unwrap();
+    assert_eq!((whole.to_nodes().unwrap(), Message::from_nodes(&flat).unwrap()), (flat.clone(), message.clone()));
+    assert_eq!(DType::from_nodes(&flat, true).unwrap(), whole);
+    let mut short = flat.clone();
+    short.nodes.pop();
+    assert_eq!(Message::from_nodes(&short).unwrap_err(), Error::OutOfRange);
+    assert_eq!(Message::from_nodes(&Nodes::default()).unwrap_err(), Error::OutOfRange);
+    let sent = std::thread::spawn(move || DType::from_nodes(&flat, true).unwrap().to_source()).join().unwrap();
+    assert_eq!(sent, whole.to_source());
+    let wide = DType::struct_((0..1000).map(|at| (format!("c{at}"), dtype("i64?"))), NonNullable).unwrap();
+    assert_eq!(DType::from_nodes(&wide.to_nodes().unwrap(), false).unwrap(), wide);
+}
+
+#[test]
+fn errors_have_texts_and_numbers() {
+    let error = "{a=i33}".parse::<DType>().unwrap_err();
+    assert_eq!(
+        (error, error.code(), error.to_string()),
+        (Error::Unreadable { position: 4 }, 4, "unreadable at byte 4".into())
+    );
+    let error = "decimal(0,0)".parse::<DType>().unwrap_err();
+    assert_eq!((number(error), error.code()), (1, 101));
+    assert!(error.to_string().starts_with("decimal precision") && error.source().is_none(), "{error}");
+    assert_eq!(Error::OutOfMemory.code(), 100);
+}

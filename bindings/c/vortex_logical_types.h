@@ -110,6 +110,25 @@ typedef struct {
     int32_t value;
 } vlt_node;
 
+
+/* == All objects == */
+
+/* Writes what a result means in a few words. If no export returns this number, it returns 9. */
+uint32_t vlt_error_text(uint32_t code, uint8_t *buffer, size_t buffer_len, size_t *length);
+
+/* Returns the version of this interface: 1. */
+uint32_t vlt_abi_version(void);
+
+/* Drops the object in the slot, if there is one, and leaves the slot empty. */
+void vlt_free(vlt_slot *slot);
+
+/* Returns the kind of the object in the slot: 0 none, 1 a type, 2 a path, 3 a set of paths, 4 a list of paths, 5 a mask,
+ * 6 the message of a type. */
+uint32_t vlt_kind(vlt_slot *slot);
+
+
+/* == Types == */
+
 /* Puts the null type. */
 uint32_t vlt_dtype_null(vlt_slot *out);
 
@@ -139,63 +158,22 @@ uint32_t vlt_dtype_list(vlt_slot *element, bool nullable, vlt_slot *out);
  * If the element has 128 levels, it returns 6. */
 uint32_t vlt_dtype_fixed_size_list(vlt_slot *element, uint32_t size, bool nullable, vlt_slot *out);
 
-/* Returns the version of this interface: 1. */
-uint32_t vlt_abi_version(void);
+/* Puts a struct of these names and types, in order. If there are more or fewer names than types, it returns 9.
+ *
+ * The names lie one after the other in `names`, and `name_lengths` has the number of bytes of each. */
+uint32_t vlt_dtype_struct(
+        const uint8_t *names, size_t names_len, const size_t *name_lengths, size_t name_lengths_len, vlt_slot *dtypes,
+        size_t dtypes_len, bool nullable, vlt_slot *out);
 
-/* Drops the object in the slot, if there is one, and leaves the slot empty. */
-void vlt_free(vlt_slot *slot);
+/* Puts a union of these names, types and tags, in order, as `vlt_dtype_struct` takes names. */
+uint32_t vlt_dtype_union(
+        const uint8_t *names, size_t names_len, const size_t *name_lengths, size_t name_lengths_len, vlt_slot *dtypes,
+        size_t dtypes_len, const uint8_t *tags, size_t tags_len, bool nullable, vlt_slot *out);
 
-/* Returns the kind of the object in the slot: 0 none, 1 a type, 2 a path, 3 a set of paths, 4 a list of paths, 5 a mask,
- * 6 the message of a type. */
-uint32_t vlt_kind(vlt_slot *slot);
-
-/* Puts the mask that selects everything. */
-uint32_t vlt_mask_all(vlt_slot *out);
-
-/* Puts the mask of the path and of everything below it. */
-uint32_t vlt_mask_prefix(vlt_slot *path, vlt_slot *out);
-
-/* Puts the mask of the path alone. */
-uint32_t vlt_mask_exact(vlt_slot *path, vlt_slot *out);
-
-/* Writes which mask it is: 0 of everything, 1 of a path and what is below it, 2 of a path alone. */
-uint32_t vlt_mask_kind(vlt_slot *mask, uint32_t *kind);
-
-/* Puts the path of the mask; the mask of everything has none. */
-uint32_t vlt_mask_path(vlt_slot *mask, vlt_slot *out);
-
-/* Puts a copy of the mask. */
-uint32_t vlt_mask_copy(vlt_slot *mask, vlt_slot *out);
-
-/* Puts the mask after the first step of its path. Of the mask of the root alone it returns 120. */
-uint32_t vlt_mask_step_into(vlt_slot *mask, vlt_slot *out);
-
-/* Writes the first step of the mask's path, as `vlt_path_step` does. Of the mask of everything it returns 121. */
-uint32_t vlt_mask_starting_field(vlt_slot *mask, uint8_t *buffer, size_t buffer_len, size_t *length);
-
-/* Returns 0 if every path is in the mask. */
-uint32_t vlt_mask_matches_all(vlt_slot *mask);
-
-/* Returns 0 if the root is in the mask. */
-uint32_t vlt_mask_matches_root(vlt_slot *mask);
-
-/* Returns 0 if the masks are equal. */
-uint32_t vlt_mask_eq(vlt_slot *one, vlt_slot *other);
-
-/* Puts the type that the message describes. Returns 100 and the number of the first error in the message; an extension is one (135) unless `allow_unknown`. */
-uint32_t vlt_message_read(vlt_slot *proto, bool allow_unknown, vlt_slot *out);
-
-/* Puts the message of the type. */
-uint32_t vlt_message_write(vlt_slot *dtype, vlt_slot *out);
-
-/* Puts the message of the type that the message describes, in which missing metadata is empty. Returns the errors of `vlt_message_read`. */
-uint32_t vlt_message_normal(vlt_slot *proto, bool allow_unknown, vlt_slot *out);
-
-/* Returns 0 if the messages are equal in every field. */
-uint32_t vlt_message_eq(vlt_slot *one, vlt_slot *other);
-
-/* Puts a copy of the message. */
-uint32_t vlt_message_copy(vlt_slot *proto, vlt_slot *out);
+/* Puts a union of these names and types with the tags 0, 1, 2 and so on, as `vlt_dtype_struct` takes names. */
+uint32_t vlt_dtype_union_consecutive(
+        const uint8_t *names, size_t names_len, const size_t *name_lengths, size_t name_lengths_len, vlt_slot *dtypes,
+        size_t dtypes_len, bool nullable, vlt_slot *out);
 
 /* Puts the type with this outer nullability; for an extension it is that of its storage. If the type can't be
  * non-nullable, it returns 5. */
@@ -240,6 +218,147 @@ uint32_t vlt_dtype_decimal_parts(vlt_slot *dtype, uint8_t *precision, int8_t *sc
 /* Returns 0 if the keys of the map are declared sorted, and 5 if the type is no map. */
 uint32_t vlt_dtype_keys_sorted(vlt_slot *dtype);
 
+/* Puts a copy of the type. */
+uint32_t vlt_dtype_copy(vlt_slot *dtype, vlt_slot *out);
+
+/* Returns 0 if the types are equal. */
+uint32_t vlt_dtype_eq(vlt_slot *one, vlt_slot *other);
+
+/* Returns 0 if the types are equal when every nullability in them is ignored. */
+uint32_t vlt_dtype_eq_ignore_nullability(vlt_slot *one, vlt_slot *other);
+
+/* Returns 0 if the types are equal except for nullabilities, and the other is nullable wherever the first is. */
+uint32_t vlt_dtype_nullability_subset(vlt_slot *one, vlt_slot *other);
+
+/* Returns 0 if the types are equal except for nullabilities, and the first is nullable wherever the other is. */
+uint32_t vlt_dtype_nullability_superset(vlt_slot *one, vlt_slot *other);
+
+/* Puts the least type that takes the values of both, if there is one. */
+uint32_t vlt_dtype_merge_nullability(vlt_slot *one, vlt_slot *other, vlt_slot *out);
+
+/* Puts the greatest type whose values both take, if there is one. */
+uint32_t vlt_dtype_intersect_nullability(vlt_slot *one, vlt_slot *other, vlt_slot *out);
+
+/* Writes the kind of the type: 0 null, 1 bool, 2 primitive, 3 decimal, 4 utf8, 5 binary, 6 list, 7 fixed-size list, 8 map,
+ * 9 struct, 10 union, 11 variant, 12 extension. */
+uint32_t vlt_dtype_kind(vlt_slot *dtype, uint32_t *number);
+
+/* Returns 0 if values of the type may be null. */
+uint32_t vlt_dtype_is_nullable(vlt_slot *dtype);
+
+/* Returns 0 if the type can be made non-nullable: not null, nor an extension over it. */
+uint32_t vlt_dtype_can_be_nonnullable(vlt_slot *dtype);
+
+/* Writes the number of bytes that each value of the type takes, if all take as many. If a part of a type of fixed width is
+ * wider than a `usize` can hold, it returns 119. */
+uint32_t vlt_dtype_element_size(vlt_slot *dtype, size_t *size);
+
+/* Puts the type of the entries of a map: the non-nullable struct of the fields `key` and `value`. */
+uint32_t vlt_dtype_entries(vlt_slot *dtype, vlt_slot *out);
+
+/* Puts the type of maps of these keys and values. If the key type is nullable, it returns 109, and if one of the two has
+ * 128 levels, it returns 6. */
+uint32_t vlt_dtype_map(vlt_slot *one, vlt_slot *other, bool keys_sorted, bool nullable, vlt_slot *out);
+
+/* Puts the extension of this id, metadata and storage type. If the storage has 128 levels, it returns 6. */
+uint32_t vlt_dtype_extension(
+        const uint8_t *id, size_t id_len, const uint8_t *metadata, size_t metadata_len, vlt_slot *storage,
+        vlt_slot *out);
+
+/* Puts the type that `vlt_message_read` gives of the message of these nodes. */
+uint32_t vlt_dtype_from_nodes(
+        const vlt_node *nodes, size_t nodes_len, const uint8_t *texts, size_t texts_len, bool allow_unknown,
+        vlt_slot *out);
+
+/* Writes the nodes and the pool of the message of a type. */
+uint32_t vlt_dtype_to_nodes(
+        vlt_slot *dtype, vlt_node *nodes, size_t nodes_len, size_t *node_count, uint8_t *texts, size_t texts_len,
+        size_t *text_length);
+
+/* Reads a type from the console's form. 4 with the byte's position where it can't be read, 6 where it is too deep. */
+uint32_t vlt_dtype_from_text(const uint8_t *text, size_t text_len, vlt_slot *out, size_t *position);
+
+/* Writes a type in the console's form, which reads back as the same type. */
+uint32_t vlt_dtype_to_text(vlt_slot *dtype, uint8_t *buffer, size_t buffer_len, size_t *length);
+
+/* Writes a type as the library displays it. */
+uint32_t vlt_dtype_display(vlt_slot *dtype, uint8_t *buffer, size_t buffer_len, size_t *length);
+
+
+/* == Structs (of another type the calls return VLT_CONDITION) == */
+
+/* Puts the struct without the field at the position, with the nullability of the type. If the position is not below the
+ * number of fields, it returns 117. */
+uint32_t vlt_struct_without_field(vlt_slot *dtype, size_t index, vlt_slot *out);
+
+/* Puts the struct of the fields of the first type and then those of the other, with the nullability of the first. If a
+ * name is there twice, it returns 118. */
+uint32_t vlt_struct_disjoint_merge(vlt_slot *one, vlt_slot *other, vlt_slot *out);
+
+/* Puts the struct of the first field of each of these names, in their order, with the nullability of the type. If no field
+ * has one of the names, it returns 116.
+ *
+ * The names lie one after the other in `names`, and `name_lengths` has the number of bytes of each. */
+uint32_t vlt_struct_project(
+        vlt_slot *dtype, const uint8_t *names, size_t names_len, const size_t *name_lengths, size_t name_lengths_len,
+        vlt_slot *out);
+
+/* Writes the number of fields. */
+uint32_t vlt_struct_nfields(vlt_slot *dtype, size_t *count);
+
+/* Puts the type of the field at the position, if it is below the number of fields. */
+uint32_t vlt_struct_field_by_index(vlt_slot *dtype, size_t index, vlt_slot *out);
+
+/* Writes the position of the first field of the name, if there is one. */
+uint32_t vlt_struct_find(vlt_slot *dtype, const uint8_t *name, size_t name_len, size_t *index);
+
+/* Puts the type of the first field of the name, if there is one. */
+uint32_t vlt_struct_field(vlt_slot *dtype, const uint8_t *name, size_t name_len, vlt_slot *out);
+
+/* Writes the name of the field at the position, if it is below the number of fields. */
+uint32_t vlt_struct_field_name(vlt_slot *dtype, size_t index, uint8_t *buffer, size_t buffer_len, size_t *length);
+
+/* Writes the fields, a line each, as the library indents them. */
+uint32_t vlt_struct_indented(vlt_slot *dtype, uint8_t *buffer, size_t buffer_len, size_t *length);
+
+
+/* == Unions (of another type the calls return VLT_CONDITION) == */
+
+/* Writes the number of variants. */
+uint32_t vlt_union_len(vlt_slot *dtype, size_t *count);
+
+/* Puts the type of the variant at the position, if it is below the number of variants. */
+uint32_t vlt_union_variant_by_index(vlt_slot *dtype, size_t index, vlt_slot *out);
+
+/* Writes the position of the variant of the name, if there is one. */
+uint32_t vlt_union_find(vlt_slot *dtype, const uint8_t *name, size_t name_len, size_t *index);
+
+/* Puts the type of the variant of the name, if there is one. */
+uint32_t vlt_union_variant(vlt_slot *dtype, const uint8_t *name, size_t name_len, vlt_slot *out);
+
+/* Writes the position of the variant of the tag, if there is one. */
+uint32_t vlt_union_tag_to_child_index(vlt_slot *dtype, uint8_t tag, size_t *index);
+
+/* Writes the tag of the variant at the position, if it is below the number of variants. */
+uint32_t vlt_union_child_index_to_tag(vlt_slot *dtype, size_t index, uint8_t *tag);
+
+/* Writes the name of the variant at the position, if it is below the number of variants. */
+uint32_t vlt_union_variant_name(vlt_slot *dtype, size_t index, uint8_t *buffer, size_t buffer_len, size_t *length);
+
+/* Returns 0 if the tags are 0, 1, 2 and so on. */
+uint32_t vlt_union_is_consecutive(vlt_slot *dtype);
+
+
+/* == Paths == */
+
+/* Reads a path from its text in the form of the console, for example `a.[].b`, or `.` for the root, and puts it.
+ *
+ * If the text can't be read, `position` is the first byte that doesn't fit, counted from 1. */
+uint32_t vlt_path_from_text(const uint8_t *text, size_t text_len, vlt_slot *out, size_t *position);
+
+/* Writes a path in the form of the console, which reads back as the same path. */
+uint32_t vlt_path_to_text(vlt_slot *path, uint8_t *buffer, size_t buffer_len, size_t *length);
+
 /* Puts the path with no step, the root. */
 uint32_t vlt_path_root(vlt_slot *out);
 
@@ -279,8 +398,27 @@ uint32_t vlt_path_display(vlt_slot *path, uint8_t *buffer, size_t buffer_len, si
 /* Returns 0 if the first step is into the field of this name, and 5 if it is into the element. */
 uint32_t vlt_path_starts_with_name(vlt_slot *path, const uint8_t *name, size_t name_len);
 
-/* Puts the type as far as the paths of the set lead; there is none if no path of the set is in the type. */
-uint32_t vlt_project_paths(vlt_slot *dtype, vlt_slot *paths, vlt_slot *out);
+/* Puts the path of these steps. */
+uint32_t vlt_path_from_steps(
+        const uint8_t *names, size_t names_len, const size_t *name_lengths, size_t name_lengths_len, vlt_slot *out);
+
+/* Writes a hash: the same of equal paths. It may differ from version to version. */
+uint32_t vlt_path_hash(vlt_slot *path, uint64_t *hash);
+
+/* Puts the path of a path message of these parts, a name each; VLT_ELEMENT stands for a part without a kind: 136. */
+uint32_t vlt_path_from_message(
+        const uint8_t *names, size_t names_len, const size_t *name_lengths, size_t name_lengths_len, vlt_slot *out);
+
+
+/* == Sets of paths == */
+
+/* Writes what the set asks for below the path: whether the path itself is in it, whether a path of it goes on with the
+ * element, and by how many names paths of it go on. Returns 1 if no path of the set begins with the path. */
+uint32_t vlt_set_below(vlt_slot *paths, vlt_slot *path, bool *is_end, bool *has_element, size_t *name_count);
+
+/* Puts the names by which paths of the set go on below the path: a list of paths of one step each, in no promised order.
+ * Returns 1 if no path of the set begins with the path. */
+uint32_t vlt_set_names_below(vlt_slot *paths, vlt_slot *path, vlt_slot *out);
 
 /* Puts the empty set. */
 uint32_t vlt_set_new(vlt_slot *out);
@@ -306,111 +444,87 @@ uint32_t vlt_set_unresolved(vlt_slot *paths, vlt_slot *dtype, vlt_slot *out);
 /* Writes how many paths are in the set. */
 uint32_t vlt_set_len(vlt_slot *paths, size_t *count);
 
+/* Inserts copies of the paths in these slots, in their order, and writes how many were inserted. After an error those
+ * before it are in. */
+uint32_t vlt_set_extend(vlt_slot *set, vlt_slot *paths, size_t paths_len, size_t *inserted);
+
+/* Inserts copies of the paths of a list. */
+uint32_t vlt_set_extend_from_list(vlt_slot *set, vlt_slot *paths);
+
+
+/* == Lists of paths == */
+
 /* Writes how many paths are in the list. */
 uint32_t vlt_paths_len(vlt_slot *paths, size_t *count);
 
 /* Puts a copy of the path at this position of the list. */
 uint32_t vlt_paths_get(vlt_slot *paths, size_t index, vlt_slot *out);
 
-/* Writes the number of fields. */
-uint32_t vlt_struct_nfields(vlt_slot *dtype, size_t *count);
 
-/* Puts the type of the field at the position, if it is below the number of fields. */
-uint32_t vlt_struct_field_by_index(vlt_slot *dtype, size_t index, vlt_slot *out);
+/* == The part of a type that paths lead to == */
 
-/* Writes the position of the first field of the name, if there is one. */
-uint32_t vlt_struct_find(vlt_slot *dtype, const uint8_t *name, size_t name_len, size_t *index);
+/* Puts the type as far as the paths of the set lead; there is none if no path of the set is in the type. */
+uint32_t vlt_project_paths(vlt_slot *dtype, vlt_slot *paths, vlt_slot *out);
 
-/* Puts the type of the first field of the name, if there is one. */
-uint32_t vlt_struct_field(vlt_slot *dtype, const uint8_t *name, size_t name_len, vlt_slot *out);
 
-/* Reads a type from its text in the form of the console, for example `{a=i32, b=list(utf8)?}`, and puts it.
- *
- * If the text can't be read, `position` is the first byte that doesn't fit, counted from 1. */
-uint32_t vlt_dtype_from_text(const uint8_t *text, size_t text_len, vlt_slot *out, size_t *position);
+/* == Masks == */
 
-/* Writes a type in the form of the console, which reads back as the same type. */
-uint32_t vlt_dtype_to_text(vlt_slot *dtype, uint8_t *buffer, size_t buffer_len, size_t *length);
+/* Puts the mask that selects everything. */
+uint32_t vlt_mask_all(vlt_slot *out);
 
-/* Writes a type as the library displays it. */
-uint32_t vlt_dtype_display(vlt_slot *dtype, uint8_t *buffer, size_t buffer_len, size_t *length);
+/* Puts the mask of the path and of everything below it. */
+uint32_t vlt_mask_prefix(vlt_slot *path, vlt_slot *out);
 
-/* Puts a copy of the type. */
-uint32_t vlt_dtype_copy(vlt_slot *dtype, vlt_slot *out);
+/* Puts the mask of the path alone. */
+uint32_t vlt_mask_exact(vlt_slot *path, vlt_slot *out);
 
-/* Returns 0 if the types are equal. */
-uint32_t vlt_dtype_eq(vlt_slot *one, vlt_slot *other);
+/* Writes which mask it is: 0 of everything, 1 of a path and what is below it, 2 of a path alone. */
+uint32_t vlt_mask_kind(vlt_slot *mask, uint32_t *kind);
 
-/* Returns 0 if the types are equal when every nullability in them is ignored. */
-uint32_t vlt_dtype_eq_ignore_nullability(vlt_slot *one, vlt_slot *other);
+/* Puts the path of the mask; the mask of everything has none. */
+uint32_t vlt_mask_path(vlt_slot *mask, vlt_slot *out);
 
-/* Returns 0 if the types are equal except for nullabilities, and the other is nullable wherever the first is. */
-uint32_t vlt_dtype_nullability_subset(vlt_slot *one, vlt_slot *other);
+/* Puts a copy of the mask. */
+uint32_t vlt_mask_copy(vlt_slot *mask, vlt_slot *out);
 
-/* Returns 0 if the types are equal except for nullabilities, and the first is nullable wherever the other is. */
-uint32_t vlt_dtype_nullability_superset(vlt_slot *one, vlt_slot *other);
+/* Puts the mask after the first step of its path. Of the mask of the root alone it returns 120. */
+uint32_t vlt_mask_step_into(vlt_slot *mask, vlt_slot *out);
 
-/* Puts the least type that takes the values of both, if there is one. */
-uint32_t vlt_dtype_merge_nullability(vlt_slot *one, vlt_slot *other, vlt_slot *out);
+/* Writes the first step of the mask's path, as `vlt_path_step` does. Of the mask of everything it returns 121. */
+uint32_t vlt_mask_starting_field(vlt_slot *mask, uint8_t *buffer, size_t buffer_len, size_t *length);
 
-/* Puts the greatest type whose values both take, if there is one. */
-uint32_t vlt_dtype_intersect_nullability(vlt_slot *one, vlt_slot *other, vlt_slot *out);
+/* Returns 0 if every path is in the mask. */
+uint32_t vlt_mask_matches_all(vlt_slot *mask);
 
-/* Writes the kind of the type: 0 null, 1 bool, 2 primitive, 3 decimal, 4 utf8, 5 binary, 6 list, 7 fixed-size list, 8 map,
- * 9 struct, 10 union, 11 variant, 12 extension. */
-uint32_t vlt_dtype_kind(vlt_slot *dtype, uint32_t *number);
+/* Returns 0 if the root is in the mask. */
+uint32_t vlt_mask_matches_root(vlt_slot *mask);
 
-/* Returns 0 if values of the type may be null. */
-uint32_t vlt_dtype_is_nullable(vlt_slot *dtype);
+/* Returns 0 if the masks are equal. */
+uint32_t vlt_mask_eq(vlt_slot *one, vlt_slot *other);
 
-/* Returns 0 if the type can be made non-nullable: not null, nor an extension over it. */
-uint32_t vlt_dtype_can_be_nonnullable(vlt_slot *dtype);
 
-/* Writes the number of variants. */
-uint32_t vlt_union_len(vlt_slot *dtype, size_t *count);
-
-/* Puts the type of the variant at the position, if it is below the number of variants. */
-uint32_t vlt_union_variant_by_index(vlt_slot *dtype, size_t index, vlt_slot *out);
-
-/* Writes the position of the variant of the name, if there is one. */
-uint32_t vlt_union_find(vlt_slot *dtype, const uint8_t *name, size_t name_len, size_t *index);
-
-/* Puts the type of the variant of the name, if there is one. */
-uint32_t vlt_union_variant(vlt_slot *dtype, const uint8_t *name, size_t name_len, vlt_slot *out);
-
-/* Writes the position of the variant of the tag, if there is one. */
-uint32_t vlt_union_tag_to_child_index(vlt_slot *dtype, uint8_t tag, size_t *index);
-
-/* Writes the tag of the variant at the position, if it is below the number of variants. */
-uint32_t vlt_union_child_index_to_tag(vlt_slot *dtype, size_t index, uint8_t *tag);
-
-/* Writes the answer of the console to one line (without its newline); empty where the line is blank or a comment.
- * 0 where a call was answered, also by an error or a condition of its own; 4 where the line can't be read (the answer says
- * where); 7, 100. Nothing is kept from line to line. */
-uint32_t vlt_answer(const uint8_t *line, size_t line_len, uint8_t *buffer, size_t buffer_len, size_t *length);
-
-/* Puts the path of these steps. 3 where a name isn't UTF-8, 9 where the lengths don't add up. */
-uint32_t vlt_path_from_steps(
-        const uint8_t *names, size_t names_len, const size_t *name_lengths, size_t name_lengths_len, vlt_slot *out);
-
-/* Reads a path in the console's form, such as `a.[].b`, or `.` for the root. */
-uint32_t vlt_path_from_text(const uint8_t *text, size_t text_len, vlt_slot *out, size_t *position);
-
-/* Writes a path in the console's form, which reads back as the same path. */
-uint32_t vlt_path_to_text(vlt_slot *path, uint8_t *buffer, size_t buffer_len, size_t *length);
-
-/* Writes a hash: the same of equal paths. It may differ from version to version. */
-uint32_t vlt_path_hash(vlt_slot *path, uint64_t *hash);
-
-/* Puts the path of a path message of these parts, a name each; VLT_ELEMENT stands for a part without a kind: 136. */
-uint32_t vlt_path_from_message(
-        const uint8_t *names, size_t names_len, const size_t *name_lengths, size_t name_lengths_len, vlt_slot *out);
+/* == Messages == */
 
 /* Reads the message of a type in the console's form. */
 uint32_t vlt_message_from_text(const uint8_t *text, size_t text_len, vlt_slot *out, size_t *position);
 
 /* Writes a message in the console's form, which reads back as the same message. */
 uint32_t vlt_message_to_text(vlt_slot *message, uint8_t *buffer, size_t buffer_len, size_t *length);
+
+/* Puts the type of a message. 1xx: the first error. Extensions of every id are kept where `allow_unknown`, else 135. */
+uint32_t vlt_message_read(vlt_slot *message, bool allow_unknown, vlt_slot *out);
+
+/* Puts the message of a type. */
+uint32_t vlt_message_write(vlt_slot *dtype, vlt_slot *out);
+
+/* Puts the normal form of a message: what is written of the type that is read from it. */
+uint32_t vlt_message_normal(vlt_slot *message, bool allow_unknown, vlt_slot *out);
+
+/* Returns 0 where the messages are equal in all fields. */
+uint32_t vlt_message_eq(vlt_slot *one, vlt_slot *other);
+
+/* Puts a copy. */
+uint32_t vlt_message_copy(vlt_slot *message, vlt_slot *out);
 
 /* Puts the message of these nodes. 9 where they aren't one message with exactly this pool, 3 where a text isn't UTF-8,
  * 6 where it is deeper than 128 levels. */
@@ -422,88 +536,25 @@ uint32_t vlt_message_to_nodes(
         vlt_slot *message, vlt_node *nodes, size_t nodes_len, size_t *node_count, uint8_t *texts, size_t texts_len,
         size_t *text_length);
 
-/* Puts the type that `vlt_message_read` gives of the message of these nodes. */
-uint32_t vlt_dtype_from_nodes(
-        const vlt_node *nodes, size_t nodes_len, const uint8_t *texts, size_t texts_len, bool allow_unknown,
-        vlt_slot *out);
 
-/* Writes the nodes and the pool of the message of a type. */
-uint32_t vlt_dtype_to_nodes(
-        vlt_slot *dtype, vlt_node *nodes, size_t nodes_len, size_t *node_count, uint8_t *texts, size_t texts_len,
-        size_t *text_length);
+/* == The console == */
 
-/* Inserts copies of the paths in these slots, in order, and writes how many were inserted (fewer only on an error). */
-uint32_t vlt_set_extend(vlt_slot *set, vlt_slot *paths, size_t paths_len, size_t *inserted);
-
-/* Inserts copies of the paths of a list. */
-uint32_t vlt_set_extend_from_list(vlt_slot *set, vlt_slot *paths);
-
-/* Writes what the set wants below a path: whether the path itself is in it, whether one goes on with the element, and by
- * how many names paths go on; 1 where no path of the set begins with the path. */
-uint32_t vlt_set_below(vlt_slot *set, vlt_slot *path, bool *is_end, bool *has_element, size_t *name_count);
-
-/* Puts the names by which paths of the set go on below a path: a list of paths of one step; 1 where none begins with it. */
-uint32_t vlt_set_names_below(vlt_slot *set, vlt_slot *path, vlt_slot *out);
-
-/* Writes what a result means: the library's text of the error from 100 on. 9 where no export returns the number. */
-uint32_t vlt_error_text(uint32_t code, uint8_t *buffer, size_t buffer_len, size_t *length);
-
-/* Makes the type of maps. 109 where the key is nullable. */
-uint32_t vlt_dtype_map(vlt_slot *key, vlt_slot *value, bool keys_sorted, bool nullable, vlt_slot *out);
-
-/* Makes a struct of these names and types. 9 where there aren't as many of each. */
-uint32_t vlt_dtype_struct(
-        const uint8_t *names, size_t names_len, const size_t *name_lengths, size_t name_lengths_len, vlt_slot *dtypes,
-        size_t dtypes_len, bool nullable, vlt_slot *out);
-
-/* Makes a union of these names, types and tags. 110 to 113, 115 as the library's `UnionVariants::try_new`. */
-uint32_t vlt_dtype_union(
-        const uint8_t *names, size_t names_len, const size_t *name_lengths, size_t name_lengths_len, vlt_slot *dtypes,
-        size_t dtypes_len, const uint8_t *tags, size_t tags_len, bool nullable, vlt_slot *out);
-
-/* Makes a union of these names and types with the tags 0, 1, 2 ..; 114 where there are more than 256. */
-uint32_t vlt_dtype_union_consecutive(
-        const uint8_t *names, size_t names_len, const size_t *name_lengths, size_t name_lengths_len, vlt_slot *dtypes,
-        size_t dtypes_len, bool nullable, vlt_slot *out);
-
-/* Makes an extension type of an id, metadata and a storage type. */
-uint32_t vlt_dtype_extension(
-        const uint8_t *id, size_t id_len, const uint8_t *metadata, size_t metadata_len, vlt_slot *storage,
-        vlt_slot *out);
-
-/* Puts the type of a map's entries; else 1. */
-uint32_t vlt_dtype_entries(vlt_slot *dtype, vlt_slot *out);
-
-/* Writes how many bytes a value takes where all take as many; 1 where they don't; 119 above `usize`. */
-uint32_t vlt_dtype_element_size(vlt_slot *dtype, size_t *size);
-
-/* Writes the name of the field at the position; 1 past the end. */
-uint32_t vlt_struct_field_name(vlt_slot *dtype, size_t index, uint8_t *buffer, size_t buffer_len, size_t *length);
-
-/* Makes the struct of the fields of these names, in their order. 116 where one isn't there. */
-uint32_t vlt_struct_project(
-        vlt_slot *dtype, const uint8_t *names, size_t names_len, const size_t *name_lengths, size_t name_lengths_len,
-        vlt_slot *out);
-
-/* Makes the struct without the field at the position. 117 past the end. */
-uint32_t vlt_struct_without_field(vlt_slot *dtype, size_t index, vlt_slot *out);
-
-/* Makes the struct of the fields of both. 118 where a name is there twice. */
-uint32_t vlt_struct_disjoint_merge(vlt_slot *one, vlt_slot *other, vlt_slot *out);
-
-/* Writes the fields, a line each, as the library indents them. */
-uint32_t vlt_struct_indented(vlt_slot *dtype, uint8_t *buffer, size_t buffer_len, size_t *length);
-
-/* Writes the name of the variant at the position; 1 past the end. */
-uint32_t vlt_union_variant_name(vlt_slot *dtype, size_t index, uint8_t *buffer, size_t buffer_len, size_t *length);
-
-/* Returns 0 where the tags are 0, 1, 2 .. in order. */
-uint32_t vlt_union_is_consecutive(vlt_slot *dtype);
+/* Writes the answer of the console to one line (without its newline); empty where the line is blank or a comment.
+ * 0 where a call was answered, also by an error or a condition of its own; 4 where the line can't be read (the answer says
+ * where); 7, 100. Nothing is kept from line to line. */
+uint32_t vlt_answer(const uint8_t *line, size_t line_len, uint8_t *buffer, size_t buffer_len, size_t *length);
 
 /* A call of a function above that takes two slots, or a pointer and a length, is a call of the inline
  * function below: it returns VLT_SAME_SLOT if two of the slots are one, because the proofs of the exports suppose
  * that they differ. It returns VLT_RANGE for a null pointer with a length above 0, and passes a pointer
  * that isn't null if the length is 0. */
+
+static inline uint32_t vlt_checked_error_text(uint32_t code, uint8_t *buffer, size_t buffer_len, size_t *length) {
+    if (!buffer && buffer_len)
+        return VLT_RANGE;
+    return vlt_error_text(code, buffer ? buffer : (uint8_t *)vlt_no_items(), buffer_len, length);
+}
+#define vlt_error_text vlt_checked_error_text
 
 static inline uint32_t vlt_checked_dtype_list(vlt_slot *element, bool nullable, vlt_slot *out) {
     if (element == out)
@@ -520,90 +571,48 @@ static inline uint32_t vlt_checked_dtype_fixed_size_list(
 }
 #define vlt_dtype_fixed_size_list vlt_checked_dtype_fixed_size_list
 
-static inline uint32_t vlt_checked_mask_prefix(vlt_slot *path, vlt_slot *out) {
-    if (path == out)
+static inline uint32_t vlt_checked_dtype_struct(
+        const uint8_t *names, size_t names_len, const size_t *name_lengths, size_t name_lengths_len, vlt_slot *dtypes,
+        size_t dtypes_len, bool nullable, vlt_slot *out) {
+    if (vlt_is_among(out, dtypes, dtypes_len))
         return VLT_SAME_SLOT;
-    return vlt_mask_prefix(path, out);
-}
-#define vlt_mask_prefix vlt_checked_mask_prefix
-
-static inline uint32_t vlt_checked_mask_exact(vlt_slot *path, vlt_slot *out) {
-    if (path == out)
-        return VLT_SAME_SLOT;
-    return vlt_mask_exact(path, out);
-}
-#define vlt_mask_exact vlt_checked_mask_exact
-
-static inline uint32_t vlt_checked_mask_path(vlt_slot *mask, vlt_slot *out) {
-    if (mask == out)
-        return VLT_SAME_SLOT;
-    return vlt_mask_path(mask, out);
-}
-#define vlt_mask_path vlt_checked_mask_path
-
-static inline uint32_t vlt_checked_mask_copy(vlt_slot *mask, vlt_slot *out) {
-    if (mask == out)
-        return VLT_SAME_SLOT;
-    return vlt_mask_copy(mask, out);
-}
-#define vlt_mask_copy vlt_checked_mask_copy
-
-static inline uint32_t vlt_checked_mask_step_into(vlt_slot *mask, vlt_slot *out) {
-    if (mask == out)
-        return VLT_SAME_SLOT;
-    return vlt_mask_step_into(mask, out);
-}
-#define vlt_mask_step_into vlt_checked_mask_step_into
-
-static inline uint32_t vlt_checked_mask_starting_field(
-        vlt_slot *mask, uint8_t *buffer, size_t buffer_len, size_t *length) {
-    if (!buffer && buffer_len)
+    if ((!names && names_len) || (!name_lengths && name_lengths_len) || (!dtypes && dtypes_len))
         return VLT_RANGE;
-    return vlt_mask_starting_field(mask, buffer ? buffer : (uint8_t *)vlt_no_items(), buffer_len, length);
+    return vlt_dtype_struct(
+            names ? names : (const uint8_t *)vlt_no_items(), names_len,
+            name_lengths ? name_lengths : (const size_t *)vlt_no_items(), name_lengths_len,
+            dtypes ? dtypes : (vlt_slot *)vlt_no_items(), dtypes_len, nullable, out);
 }
-#define vlt_mask_starting_field vlt_checked_mask_starting_field
+#define vlt_dtype_struct vlt_checked_dtype_struct
 
-static inline uint32_t vlt_checked_mask_eq(vlt_slot *one, vlt_slot *other) {
-    if (one == other)
+static inline uint32_t vlt_checked_dtype_union(
+        const uint8_t *names, size_t names_len, const size_t *name_lengths, size_t name_lengths_len, vlt_slot *dtypes,
+        size_t dtypes_len, const uint8_t *tags, size_t tags_len, bool nullable, vlt_slot *out) {
+    if (vlt_is_among(out, dtypes, dtypes_len))
         return VLT_SAME_SLOT;
-    return vlt_mask_eq(one, other);
+    if ((!names && names_len) || (!name_lengths && name_lengths_len) || (!dtypes && dtypes_len) || (!tags && tags_len))
+        return VLT_RANGE;
+    return vlt_dtype_union(
+            names ? names : (const uint8_t *)vlt_no_items(), names_len,
+            name_lengths ? name_lengths : (const size_t *)vlt_no_items(), name_lengths_len,
+            dtypes ? dtypes : (vlt_slot *)vlt_no_items(), dtypes_len, tags ? tags : (const uint8_t *)vlt_no_items(),
+            tags_len, nullable, out);
 }
-#define vlt_mask_eq vlt_checked_mask_eq
+#define vlt_dtype_union vlt_checked_dtype_union
 
-static inline uint32_t vlt_checked_message_read(vlt_slot *proto, bool allow_unknown, vlt_slot *out) {
-    if (proto == out)
+static inline uint32_t vlt_checked_dtype_union_consecutive(
+        const uint8_t *names, size_t names_len, const size_t *name_lengths, size_t name_lengths_len, vlt_slot *dtypes,
+        size_t dtypes_len, bool nullable, vlt_slot *out) {
+    if (vlt_is_among(out, dtypes, dtypes_len))
         return VLT_SAME_SLOT;
-    return vlt_message_read(proto, allow_unknown, out);
+    if ((!names && names_len) || (!name_lengths && name_lengths_len) || (!dtypes && dtypes_len))
+        return VLT_RANGE;
+    return vlt_dtype_union_consecutive(
+            names ? names : (const uint8_t *)vlt_no_items(), names_len,
+            name_lengths ? name_lengths : (const size_t *)vlt_no_items(), name_lengths_len,
+            dtypes ? dtypes : (vlt_slot *)vlt_no_items(), dtypes_len, nullable, out);
 }
-#define vlt_message_read vlt_checked_message_read
-
-static inline uint32_t vlt_checked_message_write(vlt_slot *dtype, vlt_slot *out) {
-    if (dtype == out)
-        return VLT_SAME_SLOT;
-    return vlt_message_write(dtype, out);
-}
-#define vlt_message_write vlt_checked_message_write
-
-static inline uint32_t vlt_checked_message_normal(vlt_slot *proto, bool allow_unknown, vlt_slot *out) {
-    if (proto == out)
-        return VLT_SAME_SLOT;
-    return vlt_message_normal(proto, allow_unknown, out);
-}
-#define vlt_message_normal vlt_checked_message_normal
-
-static inline uint32_t vlt_checked_message_eq(vlt_slot *one, vlt_slot *other) {
-    if (one == other)
-        return VLT_SAME_SLOT;
-    return vlt_message_eq(one, other);
-}
-#define vlt_message_eq vlt_checked_message_eq
-
-static inline uint32_t vlt_checked_message_copy(vlt_slot *proto, vlt_slot *out) {
-    if (proto == out)
-        return VLT_SAME_SLOT;
-    return vlt_message_copy(proto, out);
-}
-#define vlt_message_copy vlt_checked_message_copy
+#define vlt_dtype_union_consecutive vlt_checked_dtype_union_consecutive
 
 static inline uint32_t vlt_checked_dtype_with_nullability(vlt_slot *dtype, bool nullable, vlt_slot *out) {
     if (dtype == out)
@@ -660,6 +669,239 @@ static inline uint32_t vlt_checked_dtype_metadata(vlt_slot *dtype, uint8_t *buff
     return vlt_dtype_metadata(dtype, buffer ? buffer : (uint8_t *)vlt_no_items(), buffer_len, length);
 }
 #define vlt_dtype_metadata vlt_checked_dtype_metadata
+
+static inline uint32_t vlt_checked_dtype_copy(vlt_slot *dtype, vlt_slot *out) {
+    if (dtype == out)
+        return VLT_SAME_SLOT;
+    return vlt_dtype_copy(dtype, out);
+}
+#define vlt_dtype_copy vlt_checked_dtype_copy
+
+static inline uint32_t vlt_checked_dtype_eq(vlt_slot *one, vlt_slot *other) {
+    if (one == other)
+        return VLT_SAME_SLOT;
+    return vlt_dtype_eq(one, other);
+}
+#define vlt_dtype_eq vlt_checked_dtype_eq
+
+static inline uint32_t vlt_checked_dtype_eq_ignore_nullability(vlt_slot *one, vlt_slot *other) {
+    if (one == other)
+        return VLT_SAME_SLOT;
+    return vlt_dtype_eq_ignore_nullability(one, other);
+}
+#define vlt_dtype_eq_ignore_nullability vlt_checked_dtype_eq_ignore_nullability
+
+static inline uint32_t vlt_checked_dtype_nullability_subset(vlt_slot *one, vlt_slot *other) {
+    if (one == other)
+        return VLT_SAME_SLOT;
+    return vlt_dtype_nullability_subset(one, other);
+}
+#define vlt_dtype_nullability_subset vlt_checked_dtype_nullability_subset
+
+static inline uint32_t vlt_checked_dtype_nullability_superset(vlt_slot *one, vlt_slot *other) {
+    if (one == other)
+        return VLT_SAME_SLOT;
+    return vlt_dtype_nullability_superset(one, other);
+}
+#define vlt_dtype_nullability_superset vlt_checked_dtype_nullability_superset
+
+static inline uint32_t vlt_checked_dtype_merge_nullability(vlt_slot *one, vlt_slot *other, vlt_slot *out) {
+    if (one == other || one == out || other == out)
+        return VLT_SAME_SLOT;
+    return vlt_dtype_merge_nullability(one, other, out);
+}
+#define vlt_dtype_merge_nullability vlt_checked_dtype_merge_nullability
+
+static inline uint32_t vlt_checked_dtype_intersect_nullability(vlt_slot *one, vlt_slot *other, vlt_slot *out) {
+    if (one == other || one == out || other == out)
+        return VLT_SAME_SLOT;
+    return vlt_dtype_intersect_nullability(one, other, out);
+}
+#define vlt_dtype_intersect_nullability vlt_checked_dtype_intersect_nullability
+
+static inline uint32_t vlt_checked_dtype_entries(vlt_slot *dtype, vlt_slot *out) {
+    if (dtype == out)
+        return VLT_SAME_SLOT;
+    return vlt_dtype_entries(dtype, out);
+}
+#define vlt_dtype_entries vlt_checked_dtype_entries
+
+static inline uint32_t vlt_checked_dtype_map(
+        vlt_slot *one, vlt_slot *other, bool keys_sorted, bool nullable, vlt_slot *out) {
+    if (one == other || one == out || other == out)
+        return VLT_SAME_SLOT;
+    return vlt_dtype_map(one, other, keys_sorted, nullable, out);
+}
+#define vlt_dtype_map vlt_checked_dtype_map
+
+static inline uint32_t vlt_checked_dtype_extension(
+        const uint8_t *id, size_t id_len, const uint8_t *metadata, size_t metadata_len, vlt_slot *storage,
+        vlt_slot *out) {
+    if (storage == out)
+        return VLT_SAME_SLOT;
+    if ((!id && id_len) || (!metadata && metadata_len))
+        return VLT_RANGE;
+    return vlt_dtype_extension(
+            id ? id : (const uint8_t *)vlt_no_items(), id_len, metadata ? metadata : (const uint8_t *)vlt_no_items(),
+            metadata_len, storage, out);
+}
+#define vlt_dtype_extension vlt_checked_dtype_extension
+
+static inline uint32_t vlt_checked_dtype_from_nodes(
+        const vlt_node *nodes, size_t nodes_len, const uint8_t *texts, size_t texts_len, bool allow_unknown,
+        vlt_slot *out) {
+    if ((!nodes && nodes_len) || (!texts && texts_len))
+        return VLT_RANGE;
+    return vlt_dtype_from_nodes(
+            nodes ? nodes : (const vlt_node *)vlt_no_items(), nodes_len,
+            texts ? texts : (const uint8_t *)vlt_no_items(), texts_len, allow_unknown, out);
+}
+#define vlt_dtype_from_nodes vlt_checked_dtype_from_nodes
+
+static inline uint32_t vlt_checked_dtype_to_nodes(
+        vlt_slot *dtype, vlt_node *nodes, size_t nodes_len, size_t *node_count, uint8_t *texts, size_t texts_len,
+        size_t *text_length) {
+    if ((!nodes && nodes_len) || (!texts && texts_len))
+        return VLT_RANGE;
+    return vlt_dtype_to_nodes(
+            dtype, nodes ? nodes : (vlt_node *)vlt_no_items(), nodes_len, node_count,
+            texts ? texts : (uint8_t *)vlt_no_items(), texts_len, text_length);
+}
+#define vlt_dtype_to_nodes vlt_checked_dtype_to_nodes
+
+static inline uint32_t vlt_checked_dtype_from_text(
+        const uint8_t *text, size_t text_len, vlt_slot *out, size_t *position) {
+    if (!text && text_len)
+        return VLT_RANGE;
+    return vlt_dtype_from_text(text ? text : (const uint8_t *)vlt_no_items(), text_len, out, position);
+}
+#define vlt_dtype_from_text vlt_checked_dtype_from_text
+
+static inline uint32_t vlt_checked_dtype_to_text(vlt_slot *dtype, uint8_t *buffer, size_t buffer_len, size_t *length) {
+    if (!buffer && buffer_len)
+        return VLT_RANGE;
+    return vlt_dtype_to_text(dtype, buffer ? buffer : (uint8_t *)vlt_no_items(), buffer_len, length);
+}
+#define vlt_dtype_to_text vlt_checked_dtype_to_text
+
+static inline uint32_t vlt_checked_dtype_display(vlt_slot *dtype, uint8_t *buffer, size_t buffer_len, size_t *length) {
+    if (!buffer && buffer_len)
+        return VLT_RANGE;
+    return vlt_dtype_display(dtype, buffer ? buffer : (uint8_t *)vlt_no_items(), buffer_len, length);
+}
+#define vlt_dtype_display vlt_checked_dtype_display
+
+static inline uint32_t vlt_checked_struct_without_field(vlt_slot *dtype, size_t index, vlt_slot *out) {
+    if (dtype == out)
+        return VLT_SAME_SLOT;
+    return vlt_struct_without_field(dtype, index, out);
+}
+#define vlt_struct_without_field vlt_checked_struct_without_field
+
+static inline uint32_t vlt_checked_struct_disjoint_merge(vlt_slot *one, vlt_slot *other, vlt_slot *out) {
+    if (one == other || one == out || other == out)
+        return VLT_SAME_SLOT;
+    return vlt_struct_disjoint_merge(one, other, out);
+}
+#define vlt_struct_disjoint_merge vlt_checked_struct_disjoint_merge
+
+static inline uint32_t vlt_checked_struct_project(
+        vlt_slot *dtype, const uint8_t *names, size_t names_len, const size_t *name_lengths, size_t name_lengths_len,
+        vlt_slot *out) {
+    if (dtype == out)
+        return VLT_SAME_SLOT;
+    if ((!names && names_len) || (!name_lengths && name_lengths_len))
+        return VLT_RANGE;
+    return vlt_struct_project(
+            dtype, names ? names : (const uint8_t *)vlt_no_items(), names_len,
+            name_lengths ? name_lengths : (const size_t *)vlt_no_items(), name_lengths_len, out);
+}
+#define vlt_struct_project vlt_checked_struct_project
+
+static inline uint32_t vlt_checked_struct_field_by_index(vlt_slot *dtype, size_t index, vlt_slot *out) {
+    if (dtype == out)
+        return VLT_SAME_SLOT;
+    return vlt_struct_field_by_index(dtype, index, out);
+}
+#define vlt_struct_field_by_index vlt_checked_struct_field_by_index
+
+static inline uint32_t vlt_checked_struct_find(vlt_slot *dtype, const uint8_t *name, size_t name_len, size_t *index) {
+    if (!name && name_len)
+        return VLT_RANGE;
+    return vlt_struct_find(dtype, name ? name : (const uint8_t *)vlt_no_items(), name_len, index);
+}
+#define vlt_struct_find vlt_checked_struct_find
+
+static inline uint32_t vlt_checked_struct_field(vlt_slot *dtype, const uint8_t *name, size_t name_len, vlt_slot *out) {
+    if (dtype == out)
+        return VLT_SAME_SLOT;
+    if (!name && name_len)
+        return VLT_RANGE;
+    return vlt_struct_field(dtype, name ? name : (const uint8_t *)vlt_no_items(), name_len, out);
+}
+#define vlt_struct_field vlt_checked_struct_field
+
+static inline uint32_t vlt_checked_struct_field_name(
+        vlt_slot *dtype, size_t index, uint8_t *buffer, size_t buffer_len, size_t *length) {
+    if (!buffer && buffer_len)
+        return VLT_RANGE;
+    return vlt_struct_field_name(dtype, index, buffer ? buffer : (uint8_t *)vlt_no_items(), buffer_len, length);
+}
+#define vlt_struct_field_name vlt_checked_struct_field_name
+
+static inline uint32_t vlt_checked_struct_indented(
+        vlt_slot *dtype, uint8_t *buffer, size_t buffer_len, size_t *length) {
+    if (!buffer && buffer_len)
+        return VLT_RANGE;
+    return vlt_struct_indented(dtype, buffer ? buffer : (uint8_t *)vlt_no_items(), buffer_len, length);
+}
+#define vlt_struct_indented vlt_checked_struct_indented
+
+static inline uint32_t vlt_checked_union_variant_by_index(vlt_slot *dtype, size_t index, vlt_slot *out) {
+    if (dtype == out)
+        return VLT_SAME_SLOT;
+    return vlt_union_variant_by_index(dtype, index, out);
+}
+#define vlt_union_variant_by_index vlt_checked_union_variant_by_index
+
+static inline uint32_t vlt_checked_union_find(vlt_slot *dtype, const uint8_t *name, size_t name_len, size_t *index) {
+    if (!name && name_len)
+        return VLT_RANGE;
+    return vlt_union_find(dtype, name ? name : (const uint8_t *)vlt_no_items(), name_len, index);
+}
+#define vlt_union_find vlt_checked_union_find
+
+static inline uint32_t vlt_checked_union_variant(vlt_slot *dtype, const uint8_t *name, size_t name_len, vlt_slot *out) {
+    if (dtype == out)
+        return VLT_SAME_SLOT;
+    if (!name && name_len)
+        return VLT_RANGE;
+    return vlt_union_variant(dtype, name ? name : (const uint8_t *)vlt_no_items(), name_len, out);
+}
+#define vlt_union_variant vlt_checked_union_variant
+
+static inline uint32_t vlt_checked_union_variant_name(
+        vlt_slot *dtype, size_t index, uint8_t *buffer, size_t buffer_len, size_t *length) {
+    if (!buffer && buffer_len)
+        return VLT_RANGE;
+    return vlt_union_variant_name(dtype, index, buffer ? buffer : (uint8_t *)vlt_no_items(), buffer_len, length);
+}
+#define vlt_union_variant_name vlt_checked_union_variant_name
+
+static inline uint32_t vlt_checked_path_from_text(
+        const uint8_t *text, size_t text_len, vlt_slot *out, size_t *position) {
+    if (!text && text_len)
+        return VLT_RANGE;
+    return vlt_path_from_text(text ? text : (const uint8_t *)vlt_no_items(), text_len, out, position);
+}
+#define vlt_path_from_text vlt_checked_path_from_text
+
+static inline uint32_t vlt_checked_path_to_text(vlt_slot *path, uint8_t *buffer, size_t buffer_len, size_t *length) {
+    if (!buffer && buffer_len)
+        return VLT_RANGE;
+    return vlt_path_to_text(path, buffer ? buffer : (uint8_t *)vlt_no_items(), buffer_len, length);
+}
+#define vlt_path_to_text vlt_checked_path_to_text
 
 static inline uint32_t vlt_checked_path_step(
         vlt_slot *path, size_t index, uint8_t *buffer, size_t buffer_len, size_t *length) {
@@ -741,12 +983,40 @@ static inline uint32_t vlt_checked_path_starts_with_name(vlt_slot *path, const u
 }
 #define vlt_path_starts_with_name vlt_checked_path_starts_with_name
 
-static inline uint32_t vlt_checked_project_paths(vlt_slot *dtype, vlt_slot *paths, vlt_slot *out) {
-    if (dtype == paths || dtype == out || paths == out)
-        return VLT_SAME_SLOT;
-    return vlt_project_paths(dtype, paths, out);
+static inline uint32_t vlt_checked_path_from_steps(
+        const uint8_t *names, size_t names_len, const size_t *name_lengths, size_t name_lengths_len, vlt_slot *out) {
+    if ((!names && names_len) || (!name_lengths && name_lengths_len))
+        return VLT_RANGE;
+    return vlt_path_from_steps(
+            names ? names : (const uint8_t *)vlt_no_items(), names_len,
+            name_lengths ? name_lengths : (const size_t *)vlt_no_items(), name_lengths_len, out);
 }
-#define vlt_project_paths vlt_checked_project_paths
+#define vlt_path_from_steps vlt_checked_path_from_steps
+
+static inline uint32_t vlt_checked_path_from_message(
+        const uint8_t *names, size_t names_len, const size_t *name_lengths, size_t name_lengths_len, vlt_slot *out) {
+    if ((!names && names_len) || (!name_lengths && name_lengths_len))
+        return VLT_RANGE;
+    return vlt_path_from_message(
+            names ? names : (const uint8_t *)vlt_no_items(), names_len,
+            name_lengths ? name_lengths : (const size_t *)vlt_no_items(), name_lengths_len, out);
+}
+#define vlt_path_from_message vlt_checked_path_from_message
+
+static inline uint32_t vlt_checked_set_below(
+        vlt_slot *paths, vlt_slot *path, bool *is_end, bool *has_element, size_t *name_count) {
+    if (paths == path)
+        return VLT_SAME_SLOT;
+    return vlt_set_below(paths, path, is_end, has_element, name_count);
+}
+#define vlt_set_below vlt_checked_set_below
+
+static inline uint32_t vlt_checked_set_names_below(vlt_slot *paths, vlt_slot *path, vlt_slot *out) {
+    if (paths == path || paths == out || path == out)
+        return VLT_SAME_SLOT;
+    return vlt_set_names_below(paths, path, out);
+}
+#define vlt_set_names_below vlt_checked_set_names_below
 
 static inline uint32_t vlt_checked_set_insert(vlt_slot *paths, vlt_slot *path) {
     if (paths == path)
@@ -790,6 +1060,22 @@ static inline uint32_t vlt_checked_set_unresolved(vlt_slot *paths, vlt_slot *dty
 }
 #define vlt_set_unresolved vlt_checked_set_unresolved
 
+static inline uint32_t vlt_checked_set_extend(vlt_slot *set, vlt_slot *paths, size_t paths_len, size_t *inserted) {
+    if (vlt_is_among(set, paths, paths_len))
+        return VLT_SAME_SLOT;
+    if (!paths && paths_len)
+        return VLT_RANGE;
+    return vlt_set_extend(set, paths ? paths : (vlt_slot *)vlt_no_items(), paths_len, inserted);
+}
+#define vlt_set_extend vlt_checked_set_extend
+
+static inline uint32_t vlt_checked_set_extend_from_list(vlt_slot *set, vlt_slot *paths) {
+    if (set == paths)
+        return VLT_SAME_SLOT;
+    return vlt_set_extend_from_list(set, paths);
+}
+#define vlt_set_extend_from_list vlt_checked_set_extend_from_list
+
 static inline uint32_t vlt_checked_paths_get(vlt_slot *paths, size_t index, vlt_slot *out) {
     if (paths == out)
         return VLT_SAME_SLOT;
@@ -797,167 +1083,62 @@ static inline uint32_t vlt_checked_paths_get(vlt_slot *paths, size_t index, vlt_
 }
 #define vlt_paths_get vlt_checked_paths_get
 
-static inline uint32_t vlt_checked_struct_field_by_index(vlt_slot *dtype, size_t index, vlt_slot *out) {
-    if (dtype == out)
+static inline uint32_t vlt_checked_project_paths(vlt_slot *dtype, vlt_slot *paths, vlt_slot *out) {
+    if (dtype == paths || dtype == out || paths == out)
         return VLT_SAME_SLOT;
-    return vlt_struct_field_by_index(dtype, index, out);
+    return vlt_project_paths(dtype, paths, out);
 }
-#define vlt_struct_field_by_index vlt_checked_struct_field_by_index
+#define vlt_project_paths vlt_checked_project_paths
 
-static inline uint32_t vlt_checked_struct_find(vlt_slot *dtype, const uint8_t *name, size_t name_len, size_t *index) {
-    if (!name && name_len)
-        return VLT_RANGE;
-    return vlt_struct_find(dtype, name ? name : (const uint8_t *)vlt_no_items(), name_len, index);
-}
-#define vlt_struct_find vlt_checked_struct_find
-
-static inline uint32_t vlt_checked_struct_field(vlt_slot *dtype, const uint8_t *name, size_t name_len, vlt_slot *out) {
-    if (dtype == out)
+static inline uint32_t vlt_checked_mask_prefix(vlt_slot *path, vlt_slot *out) {
+    if (path == out)
         return VLT_SAME_SLOT;
-    if (!name && name_len)
-        return VLT_RANGE;
-    return vlt_struct_field(dtype, name ? name : (const uint8_t *)vlt_no_items(), name_len, out);
+    return vlt_mask_prefix(path, out);
 }
-#define vlt_struct_field vlt_checked_struct_field
+#define vlt_mask_prefix vlt_checked_mask_prefix
 
-static inline uint32_t vlt_checked_dtype_from_text(
-        const uint8_t *text, size_t text_len, vlt_slot *out, size_t *position) {
-    if (!text && text_len)
-        return VLT_RANGE;
-    return vlt_dtype_from_text(text ? text : (const uint8_t *)vlt_no_items(), text_len, out, position);
+static inline uint32_t vlt_checked_mask_exact(vlt_slot *path, vlt_slot *out) {
+    if (path == out)
+        return VLT_SAME_SLOT;
+    return vlt_mask_exact(path, out);
 }
-#define vlt_dtype_from_text vlt_checked_dtype_from_text
+#define vlt_mask_exact vlt_checked_mask_exact
 
-static inline uint32_t vlt_checked_dtype_to_text(vlt_slot *dtype, uint8_t *buffer, size_t buffer_len, size_t *length) {
+static inline uint32_t vlt_checked_mask_path(vlt_slot *mask, vlt_slot *out) {
+    if (mask == out)
+        return VLT_SAME_SLOT;
+    return vlt_mask_path(mask, out);
+}
+#define vlt_mask_path vlt_checked_mask_path
+
+static inline uint32_t vlt_checked_mask_copy(vlt_slot *mask, vlt_slot *out) {
+    if (mask == out)
+        return VLT_SAME_SLOT;
+    return vlt_mask_copy(mask, out);
+}
+#define vlt_mask_copy vlt_checked_mask_copy
+
+static inline uint32_t vlt_checked_mask_step_into(vlt_slot *mask, vlt_slot *out) {
+    if (mask == out)
+        return VLT_SAME_SLOT;
+    return vlt_mask_step_into(mask, out);
+}
+#define vlt_mask_step_into vlt_checked_mask_step_into
+
+static inline uint32_t vlt_checked_mask_starting_field(
+        vlt_slot *mask, uint8_t *buffer, size_t buffer_len, size_t *length) {
     if (!buffer && buffer_len)
         return VLT_RANGE;
-    return vlt_dtype_to_text(dtype, buffer ? buffer : (uint8_t *)vlt_no_items(), buffer_len, length);
+    return vlt_mask_starting_field(mask, buffer ? buffer : (uint8_t *)vlt_no_items(), buffer_len, length);
 }
-#define vlt_dtype_to_text vlt_checked_dtype_to_text
+#define vlt_mask_starting_field vlt_checked_mask_starting_field
 
-static inline uint32_t vlt_checked_dtype_display(vlt_slot *dtype, uint8_t *buffer, size_t buffer_len, size_t *length) {
-    if (!buffer && buffer_len)
-        return VLT_RANGE;
-    return vlt_dtype_display(dtype, buffer ? buffer : (uint8_t *)vlt_no_items(), buffer_len, length);
-}
-#define vlt_dtype_display vlt_checked_dtype_display
-
-static inline uint32_t vlt_checked_dtype_copy(vlt_slot *dtype, vlt_slot *out) {
-    if (dtype == out)
-        return VLT_SAME_SLOT;
-    return vlt_dtype_copy(dtype, out);
-}
-#define vlt_dtype_copy vlt_checked_dtype_copy
-
-static inline uint32_t vlt_checked_dtype_eq(vlt_slot *one, vlt_slot *other) {
+static inline uint32_t vlt_checked_mask_eq(vlt_slot *one, vlt_slot *other) {
     if (one == other)
         return VLT_SAME_SLOT;
-    return vlt_dtype_eq(one, other);
+    return vlt_mask_eq(one, other);
 }
-#define vlt_dtype_eq vlt_checked_dtype_eq
-
-static inline uint32_t vlt_checked_dtype_eq_ignore_nullability(vlt_slot *one, vlt_slot *other) {
-    if (one == other)
-        return VLT_SAME_SLOT;
-    return vlt_dtype_eq_ignore_nullability(one, other);
-}
-#define vlt_dtype_eq_ignore_nullability vlt_checked_dtype_eq_ignore_nullability
-
-static inline uint32_t vlt_checked_dtype_nullability_subset(vlt_slot *one, vlt_slot *other) {
-    if (one == other)
-        return VLT_SAME_SLOT;
-    return vlt_dtype_nullability_subset(one, other);
-}
-#define vlt_dtype_nullability_subset vlt_checked_dtype_nullability_subset
-
-static inline uint32_t vlt_checked_dtype_nullability_superset(vlt_slot *one, vlt_slot *other) {
-    if (one == other)
-        return VLT_SAME_SLOT;
-    return vlt_dtype_nullability_superset(one, other);
-}
-#define vlt_dtype_nullability_superset vlt_checked_dtype_nullability_superset
-
-static inline uint32_t vlt_checked_dtype_merge_nullability(vlt_slot *one, vlt_slot *other, vlt_slot *out) {
-    if (one == other || one == out || other == out)
-        return VLT_SAME_SLOT;
-    return vlt_dtype_merge_nullability(one, other, out);
-}
-#define vlt_dtype_merge_nullability vlt_checked_dtype_merge_nullability
-
-static inline uint32_t vlt_checked_dtype_intersect_nullability(vlt_slot *one, vlt_slot *other, vlt_slot *out) {
-    if (one == other || one == out || other == out)
-        return VLT_SAME_SLOT;
-    return vlt_dtype_intersect_nullability(one, other, out);
-}
-#define vlt_dtype_intersect_nullability vlt_checked_dtype_intersect_nullability
-
-static inline uint32_t vlt_checked_union_variant_by_index(vlt_slot *dtype, size_t index, vlt_slot *out) {
-    if (dtype == out)
-        return VLT_SAME_SLOT;
-    return vlt_union_variant_by_index(dtype, index, out);
-}
-#define vlt_union_variant_by_index vlt_checked_union_variant_by_index
-
-static inline uint32_t vlt_checked_union_find(vlt_slot *dtype, const uint8_t *name, size_t name_len, size_t *index) {
-    if (!name && name_len)
-        return VLT_RANGE;
-    return vlt_union_find(dtype, name ? name : (const uint8_t *)vlt_no_items(), name_len, index);
-}
-#define vlt_union_find vlt_checked_union_find
-
-static inline uint32_t vlt_checked_union_variant(vlt_slot *dtype, const uint8_t *name, size_t name_len, vlt_slot *out) {
-    if (dtype == out)
-        return VLT_SAME_SLOT;
-    if (!name && name_len)
-        return VLT_RANGE;
-    return vlt_union_variant(dtype, name ? name : (const uint8_t *)vlt_no_items(), name_len, out);
-}
-#define vlt_union_variant vlt_checked_union_variant
-
-static inline uint32_t vlt_checked_answer(
-        const uint8_t *line, size_t line_len, uint8_t *buffer, size_t buffer_len, size_t *length) {
-    if ((!line && line_len) || (!buffer && buffer_len))
-        return VLT_RANGE;
-    return vlt_answer(
-            line ? line : (const uint8_t *)vlt_no_items(), line_len, buffer ? buffer : (uint8_t *)vlt_no_items(),
-            buffer_len, length);
-}
-#define vlt_answer vlt_checked_answer
-
-static inline uint32_t vlt_checked_path_from_steps(
-        const uint8_t *names, size_t names_len, const size_t *name_lengths, size_t name_lengths_len, vlt_slot *out) {
-    if ((!names && names_len) || (!name_lengths && name_lengths_len))
-        return VLT_RANGE;
-    return vlt_path_from_steps(
-            names ? names : (const uint8_t *)vlt_no_items(), names_len,
-            name_lengths ? name_lengths : (const size_t *)vlt_no_items(), name_lengths_len, out);
-}
-#define vlt_path_from_steps vlt_checked_path_from_steps
-
-static inline uint32_t vlt_checked_path_from_text(
-        const uint8_t *text, size_t text_len, vlt_slot *out, size_t *position) {
-    if (!text && text_len)
-        return VLT_RANGE;
-    return vlt_path_from_text(text ? text : (const uint8_t *)vlt_no_items(), text_len, out, position);
-}
-#define vlt_path_from_text vlt_checked_path_from_text
-
-static inline uint32_t vlt_checked_path_to_text(vlt_slot *path, uint8_t *buffer, size_t buffer_len, size_t *length) {
-    if (!buffer && buffer_len)
-        return VLT_RANGE;
-    return vlt_path_to_text(path, buffer ? buffer : (uint8_t *)vlt_no_items(), buffer_len, length);
-}
-#define vlt_path_to_text vlt_checked_path_to_text
-
-static inline uint32_t vlt_checked_path_from_message(
-        const uint8_t *names, size_t names_len, const size_t *name_lengths, size_t name_lengths_len, vlt_slot *out) {
-    if ((!names && names_len) || (!name_lengths && name_lengths_len))
-        return VLT_RANGE;
-    return vlt_path_from_message(
-            names ? names : (const uint8_t *)vlt_no_items(), names_len,
-            name_lengths ? name_lengths : (const size_t *)vlt_no_items(), name_lengths_len, out);
-}
-#define vlt_path_from_message vlt_checked_path_from_message
+#define vlt_mask_eq vlt_checked_mask_eq
 
 static inline uint32_t vlt_checked_message_from_text(
         const uint8_t *text, size_t text_len, vlt_slot *out, size_t *position) {
@@ -974,6 +1155,41 @@ static inline uint32_t vlt_checked_message_to_text(
     return vlt_message_to_text(message, buffer ? buffer : (uint8_t *)vlt_no_items(), buffer_len, length);
 }
 #define vlt_message_to_text vlt_checked_message_to_text
+
+static inline uint32_t vlt_checked_message_read(vlt_slot *message, bool allow_unknown, vlt_slot *out) {
+    if (message == out)
+        return VLT_SAME_SLOT;
+    return vlt_message_read(message, allow_unknown, out);
+}
+#define vlt_message_read vlt_checked_message_read
+
+static inline uint32_t vlt_checked_message_write(vlt_slot *dtype, vlt_slot *out) {
+    if (dtype == out)
+        return VLT_SAME_SLOT;
+    return vlt_message_write(dtype, out);
+}
+#define vlt_message_write vlt_checked_message_write
+
+static inline uint32_t vlt_checked_message_normal(vlt_slot *message, bool allow_unknown, vlt_slot *out) {
+    if (message == out)
+        return VLT_SAME_SLOT;
+    return vlt_message_normal(message, allow_unknown, out);
+}
+#define vlt_message_normal vlt_checked_message_normal
+
+static inline uint32_t vlt_checked_message_eq(vlt_slot *one, vlt_slot *other) {
+    if (one == other)
+        return VLT_SAME_SLOT;
+    return vlt_message_eq(one, other);
+}
+#define vlt_message_eq vlt_checked_message_eq
+
+static inline uint32_t vlt_checked_message_copy(vlt_slot *message, vlt_slot *out) {
+    if (message == out)
+        return VLT_SAME_SLOT;
+    return vlt_message_copy(message, out);
+}
+#define vlt_message_copy vlt_checked_message_copy
 
 static inline uint32_t vlt_checked_message_from_nodes(
         const vlt_node *nodes, size_t nodes_len, const uint8_t *texts, size_t texts_len, vlt_slot *out) {
@@ -996,187 +1212,15 @@ static inline uint32_t vlt_checked_message_to_nodes(
 }
 #define vlt_message_to_nodes vlt_checked_message_to_nodes
 
-static inline uint32_t vlt_checked_dtype_from_nodes(
-        const vlt_node *nodes, size_t nodes_len, const uint8_t *texts, size_t texts_len, bool allow_unknown,
-        vlt_slot *out) {
-    if ((!nodes && nodes_len) || (!texts && texts_len))
+static inline uint32_t vlt_checked_answer(
+        const uint8_t *line, size_t line_len, uint8_t *buffer, size_t buffer_len, size_t *length) {
+    if ((!line && line_len) || (!buffer && buffer_len))
         return VLT_RANGE;
-    return vlt_dtype_from_nodes(
-            nodes ? nodes : (const vlt_node *)vlt_no_items(), nodes_len,
-            texts ? texts : (const uint8_t *)vlt_no_items(), texts_len, allow_unknown, out);
+    return vlt_answer(
+            line ? line : (const uint8_t *)vlt_no_items(), line_len, buffer ? buffer : (uint8_t *)vlt_no_items(),
+            buffer_len, length);
 }
-#define vlt_dtype_from_nodes vlt_checked_dtype_from_nodes
-
-static inline uint32_t vlt_checked_dtype_to_nodes(
-        vlt_slot *dtype, vlt_node *nodes, size_t nodes_len, size_t *node_count, uint8_t *texts, size_t texts_len,
-        size_t *text_length) {
-    if ((!nodes && nodes_len) || (!texts && texts_len))
-        return VLT_RANGE;
-    return vlt_dtype_to_nodes(
-            dtype, nodes ? nodes : (vlt_node *)vlt_no_items(), nodes_len, node_count,
-            texts ? texts : (uint8_t *)vlt_no_items(), texts_len, text_length);
-}
-#define vlt_dtype_to_nodes vlt_checked_dtype_to_nodes
-
-static inline uint32_t vlt_checked_set_extend(vlt_slot *set, vlt_slot *paths, size_t paths_len, size_t *inserted) {
-    if (vlt_is_among(set, paths, paths_len))
-        return VLT_SAME_SLOT;
-    if (!paths && paths_len)
-        return VLT_RANGE;
-    return vlt_set_extend(set, paths ? paths : (vlt_slot *)vlt_no_items(), paths_len, inserted);
-}
-#define vlt_set_extend vlt_checked_set_extend
-
-static inline uint32_t vlt_checked_set_extend_from_list(vlt_slot *set, vlt_slot *paths) {
-    if (set == paths)
-        return VLT_SAME_SLOT;
-    return vlt_set_extend_from_list(set, paths);
-}
-#define vlt_set_extend_from_list vlt_checked_set_extend_from_list
-
-static inline uint32_t vlt_checked_set_below(
-        vlt_slot *set, vlt_slot *path, bool *is_end, bool *has_element, size_t *name_count) {
-    if (set == path)
-        return VLT_SAME_SLOT;
-    return vlt_set_below(set, path, is_end, has_element, name_count);
-}
-#define vlt_set_below vlt_checked_set_below
-
-static inline uint32_t vlt_checked_set_names_below(vlt_slot *set, vlt_slot *path, vlt_slot *out) {
-    if (set == path || set == out || path == out)
-        return VLT_SAME_SLOT;
-    return vlt_set_names_below(set, path, out);
-}
-#define vlt_set_names_below vlt_checked_set_names_below
-
-static inline uint32_t vlt_checked_error_text(uint32_t code, uint8_t *buffer, size_t buffer_len, size_t *length) {
-    if (!buffer && buffer_len)
-        return VLT_RANGE;
-    return vlt_error_text(code, buffer ? buffer : (uint8_t *)vlt_no_items(), buffer_len, length);
-}
-#define vlt_error_text vlt_checked_error_text
-
-static inline uint32_t vlt_checked_dtype_map(
-        vlt_slot *key, vlt_slot *value, bool keys_sorted, bool nullable, vlt_slot *out) {
-    if (key == value || key == out || value == out)
-        return VLT_SAME_SLOT;
-    return vlt_dtype_map(key, value, keys_sorted, nullable, out);
-}
-#define vlt_dtype_map vlt_checked_dtype_map
-
-static inline uint32_t vlt_checked_dtype_struct(
-        const uint8_t *names, size_t names_len, const size_t *name_lengths, size_t name_lengths_len, vlt_slot *dtypes,
-        size_t dtypes_len, bool nullable, vlt_slot *out) {
-    if (vlt_is_among(out, dtypes, dtypes_len))
-        return VLT_SAME_SLOT;
-    if ((!names && names_len) || (!name_lengths && name_lengths_len) || (!dtypes && dtypes_len))
-        return VLT_RANGE;
-    return vlt_dtype_struct(
-            names ? names : (const uint8_t *)vlt_no_items(), names_len,
-            name_lengths ? name_lengths : (const size_t *)vlt_no_items(), name_lengths_len,
-            dtypes ? dtypes : (vlt_slot *)vlt_no_items(), dtypes_len, nullable, out);
-}
-#define vlt_dtype_struct vlt_checked_dtype_struct
-
-static inline uint32_t vlt_checked_dtype_union(
-        const uint8_t *names, size_t names_len, const size_t *name_lengths, size_t name_lengths_len, vlt_slot *dtypes,
-        size_t dtypes_len, const uint8_t *tags, size_t tags_len, bool nullable, vlt_slot *out) {
-    if (vlt_is_among(out, dtypes, dtypes_len))
-        return VLT_SAME_SLOT;
-    if ((!names && names_len) || (!name_lengths && name_lengths_len) || (!dtypes && dtypes_len) || (!tags && tags_len))
-        return VLT_RANGE;
-    return vlt_dtype_union(
-            names ? names : (const uint8_t *)vlt_no_items(), names_len,
-            name_lengths ? name_lengths : (const size_t *)vlt_no_items(), name_lengths_len,
-            dtypes ? dtypes : (vlt_slot *)vlt_no_items(), dtypes_len, tags ? tags : (const uint8_t *)vlt_no_items(),
-            tags_len, nullable, out);
-}
-#define vlt_dtype_union vlt_checked_dtype_union
-
-static inline uint32_t vlt_checked_dtype_union_consecutive(
-        const uint8_t *names, size_t names_len, const size_t *name_lengths, size_t name_lengths_len, vlt_slot *dtypes,
-        size_t dtypes_len, bool nullable, vlt_slot *out) {
-    if (vlt_is_among(out, dtypes, dtypes_len))
-        return VLT_SAME_SLOT;
-    if ((!names && names_len) || (!name_lengths && name_lengths_len) || (!dtypes && dtypes_len))
-        return VLT_RANGE;
-    return vlt_dtype_union_consecutive(
-            names ? names : (const uint8_t *)vlt_no_items(), names_len,
-            name_lengths ? name_lengths : (const size_t *)vlt_no_items(), name_lengths_len,
-            dtypes ? dtypes : (vlt_slot *)vlt_no_items(), dtypes_len, nullable, out);
-}
-#define vlt_dtype_union_consecutive vlt_checked_dtype_union_consecutive
-
-static inline uint32_t vlt_checked_dtype_extension(
-        const uint8_t *id, size_t id_len, const uint8_t *metadata, size_t metadata_len, vlt_slot *storage,
-        vlt_slot *out) {
-    if (storage == out)
-        return VLT_SAME_SLOT;
-    if ((!id && id_len) || (!metadata && metadata_len))
-        return VLT_RANGE;
-    return vlt_dtype_extension(
-            id ? id : (const uint8_t *)vlt_no_items(), id_len, metadata ? metadata : (const uint8_t *)vlt_no_items(),
-            metadata_len, storage, out);
-}
-#define vlt_dtype_extension vlt_checked_dtype_extension
-
-static inline uint32_t vlt_checked_dtype_entries(vlt_slot *dtype, vlt_slot *out) {
-    if (dtype == out)
-        return VLT_SAME_SLOT;
-    return vlt_dtype_entries(dtype, out);
-}
-#define vlt_dtype_entries vlt_checked_dtype_entries
-
-static inline uint32_t vlt_checked_struct_field_name(
-        vlt_slot *dtype, size_t index, uint8_t *buffer, size_t buffer_len, size_t *length) {
-    if (!buffer && buffer_len)
-        return VLT_RANGE;
-    return vlt_struct_field_name(dtype, index, buffer ? buffer : (uint8_t *)vlt_no_items(), buffer_len, length);
-}
-#define vlt_struct_field_name vlt_checked_struct_field_name
-
-static inline uint32_t vlt_checked_struct_project(
-        vlt_slot *dtype, const uint8_t *names, size_t names_len, const size_t *name_lengths, size_t name_lengths_len,
-        vlt_slot *out) {
-    if (dtype == out)
-        return VLT_SAME_SLOT;
-    if ((!names && names_len) || (!name_lengths && name_lengths_len))
-        return VLT_RANGE;
-    return vlt_struct_project(
-            dtype, names ? names : (const uint8_t *)vlt_no_items(), names_len,
-            name_lengths ? name_lengths : (const size_t *)vlt_no_items(), name_lengths_len, out);
-}
-#define vlt_struct_project vlt_checked_struct_project
-
-static inline uint32_t vlt_checked_struct_without_field(vlt_slot *dtype, size_t index, vlt_slot *out) {
-    if (dtype == out)
-        return VLT_SAME_SLOT;
-    return vlt_struct_without_field(dtype, index, out);
-}
-#define vlt_struct_without_field vlt_checked_struct_without_field
-
-static inline uint32_t vlt_checked_struct_disjoint_merge(vlt_slot *one, vlt_slot *other, vlt_slot *out) {
-    if (one == other || one == out || other == out)
-        return VLT_SAME_SLOT;
-    return vlt_struct_disjoint_merge(one, other, out);
-}
-#define vlt_struct_disjoint_merge vlt_checked_struct_disjoint_merge
-
-static inline uint32_t vlt_checked_struct_indented(
-        vlt_slot *dtype, uint8_t *buffer, size_t buffer_len, size_t *length) {
-    if (!buffer && buffer_len)
-        return VLT_RANGE;
-    return vlt_struct_indented(dtype, buffer ? buffer : (uint8_t *)vlt_no_items(), buffer_len, length);
-}
-#define vlt_struct_indented vlt_checked_struct_indented
-
-static inline uint32_t vlt_checked_union_variant_name(
-        vlt_slot *dtype, size_t index, uint8_t *buffer, size_t buffer_len, size_t *length) {
-    if (!buffer && buffer_len)
-        return VLT_RANGE;
-    return vlt_union_variant_name(dtype, index, buffer ? buffer : (uint8_t *)vlt_no_items(), buffer_len, length);
-}
-#define vlt_union_variant_name vlt_checked_union_variant_name
+#define vlt_answer vlt_checked_answer
 /* end of what tools/bindings writes */
 
 #ifdef __cplusplus

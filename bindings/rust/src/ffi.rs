@@ -120,6 +120,10 @@ pub struct Node {
 }
 
 unsafe extern "C" {
+    fn vlt_error_text(code: u32, buffer: *mut u8, buffer_len: usize, length: *mut usize) -> u32;
+    fn vlt_abi_version() -> u32;
+    fn vlt_free(slot: *mut Lent);
+    fn vlt_kind(slot: *mut Lent) -> u32;
     fn vlt_dtype_null(out: *mut Slot) -> u32;
     fn vlt_dtype_bool(nullable: bool, out: *mut Slot) -> u32;
     fn vlt_dtype_utf8(nullable: bool, out: *mut Slot) -> u32;
@@ -129,151 +133,6 @@ unsafe extern "C" {
     fn vlt_dtype_decimal(precision: u8, scale: i8, nullable: bool, out: *mut Slot) -> u32;
     fn vlt_dtype_list(element: *mut Lent, nullable: bool, out: *mut Slot) -> u32;
     fn vlt_dtype_fixed_size_list(element: *mut Lent, size: u32, nullable: bool, out: *mut Slot) -> u32;
-    fn vlt_abi_version() -> u32;
-    fn vlt_free(slot: *mut Lent);
-    fn vlt_kind(slot: *mut Lent) -> u32;
-    fn vlt_mask_all(out: *mut Slot) -> u32;
-    fn vlt_mask_prefix(path: *mut Lent, out: *mut Slot) -> u32;
-    fn vlt_mask_exact(path: *mut Lent, out: *mut Slot) -> u32;
-    fn vlt_mask_kind(mask: *mut Lent, kind: *mut u32) -> u32;
-    fn vlt_mask_path(mask: *mut Lent, out: *mut Slot) -> u32;
-    fn vlt_mask_copy(mask: *mut Lent, out: *mut Slot) -> u32;
-    fn vlt_mask_step_into(mask: *mut Lent, out: *mut Slot) -> u32;
-    fn vlt_mask_starting_field(mask: *mut Lent, buffer: *mut u8, buffer_len: usize, length: *mut usize) -> u32;
-    fn vlt_mask_matches_all(mask: *mut Lent) -> u32;
-    fn vlt_mask_matches_root(mask: *mut Lent) -> u32;
-    fn vlt_mask_eq(one: *mut Lent, other: *mut Lent) -> u32;
-    fn vlt_message_read(proto: *mut Lent, allow_unknown: bool, out: *mut Slot) -> u32;
-    fn vlt_message_write(dtype: *mut Lent, out: *mut Slot) -> u32;
-    fn vlt_message_normal(proto: *mut Lent, allow_unknown: bool, out: *mut Slot) -> u32;
-    fn vlt_message_eq(one: *mut Lent, other: *mut Lent) -> u32;
-    fn vlt_message_copy(proto: *mut Lent, out: *mut Slot) -> u32;
-    fn vlt_dtype_with_nullability(dtype: *mut Lent, nullable: bool, out: *mut Slot) -> u32;
-    fn vlt_dtype_union_nullability(dtype: *mut Lent, nullable: bool, out: *mut Slot) -> u32;
-    fn vlt_dtype_hash(dtype: *mut Lent, hash: *mut u64) -> u32;
-    fn vlt_dtype_hash_ignore_nullability(dtype: *mut Lent, hash: *mut u64) -> u32;
-    fn vlt_dtype_element(dtype: *mut Lent, out: *mut Slot) -> u32;
-    fn vlt_dtype_key(dtype: *mut Lent, out: *mut Slot) -> u32;
-    fn vlt_dtype_value(dtype: *mut Lent, out: *mut Slot) -> u32;
-    fn vlt_dtype_storage(dtype: *mut Lent, out: *mut Slot) -> u32;
-    fn vlt_dtype_ptype(dtype: *mut Lent, number: *mut u32) -> u32;
-    fn vlt_dtype_id(dtype: *mut Lent, buffer: *mut u8, buffer_len: usize, length: *mut usize) -> u32;
-    fn vlt_dtype_metadata(dtype: *mut Lent, buffer: *mut u8, buffer_len: usize, length: *mut usize) -> u32;
-    fn vlt_dtype_fixed_size(dtype: *mut Lent, size: *mut u32) -> u32;
-    fn vlt_dtype_decimal_parts(dtype: *mut Lent, precision: *mut u8, scale: *mut i8) -> u32;
-    fn vlt_dtype_keys_sorted(dtype: *mut Lent) -> u32;
-    fn vlt_path_root(out: *mut Slot) -> u32;
-    fn vlt_path_len(path: *mut Lent, count: *mut usize) -> u32;
-    fn vlt_path_step(path: *mut Lent, index: usize, buffer: *mut u8, buffer_len: usize, length: *mut usize) -> u32;
-    fn vlt_path_push_name(path: *mut Lent, name: *const u8, name_len: usize, out: *mut Slot) -> u32;
-    fn vlt_path_push_element(path: *mut Lent, out: *mut Slot) -> u32;
-    fn vlt_path_step_into(path: *mut Lent, out: *mut Slot) -> u32;
-    fn vlt_path_copy(path: *mut Lent, out: *mut Slot) -> u32;
-    fn vlt_path_eq(one: *mut Lent, other: *mut Lent) -> u32;
-    fn vlt_path_overlap(one: *mut Lent, other: *mut Lent) -> u32;
-    fn vlt_path_resolve(dtype: *mut Lent, path: *mut Lent, out: *mut Slot) -> u32;
-    fn vlt_path_exists_in(dtype: *mut Lent, path: *mut Lent) -> u32;
-    fn vlt_path_display(path: *mut Lent, buffer: *mut u8, buffer_len: usize, length: *mut usize) -> u32;
-    fn vlt_path_starts_with_name(path: *mut Lent, name: *const u8, name_len: usize) -> u32;
-    fn vlt_project_paths(dtype: *mut Lent, paths: *mut Lent, out: *mut Slot) -> u32;
-    fn vlt_set_new(out: *mut Slot) -> u32;
-    fn vlt_set_insert(paths: *mut Lent, path: *mut Lent) -> u32;
-    fn vlt_set_contains(paths: *mut Lent, path: *mut Lent) -> u32;
-    fn vlt_set_copy(paths: *mut Lent, out: *mut Slot) -> u32;
-    fn vlt_set_cover(paths: *mut Lent, out: *mut Slot) -> u32;
-    fn vlt_set_members(paths: *mut Lent, out: *mut Slot) -> u32;
-    fn vlt_set_unresolved(paths: *mut Lent, dtype: *mut Lent, out: *mut Slot) -> u32;
-    fn vlt_set_len(paths: *mut Lent, count: *mut usize) -> u32;
-    fn vlt_paths_len(paths: *mut Lent, count: *mut usize) -> u32;
-    fn vlt_paths_get(paths: *mut Lent, index: usize, out: *mut Slot) -> u32;
-    fn vlt_struct_nfields(dtype: *mut Lent, count: *mut usize) -> u32;
-    fn vlt_struct_field_by_index(dtype: *mut Lent, index: usize, out: *mut Slot) -> u32;
-    fn vlt_struct_find(dtype: *mut Lent, name: *const u8, name_len: usize, index: *mut usize) -> u32;
-    fn vlt_struct_field(dtype: *mut Lent, name: *const u8, name_len: usize, out: *mut Slot) -> u32;
-    fn vlt_dtype_from_text(text: *const u8, text_len: usize, out: *mut Slot, position: *mut usize) -> u32;
-    fn vlt_dtype_to_text(dtype: *mut Lent, buffer: *mut u8, buffer_len: usize, length: *mut usize) -> u32;
-    fn vlt_dtype_display(dtype: *mut Lent, buffer: *mut u8, buffer_len: usize, length: *mut usize) -> u32;
-    fn vlt_dtype_copy(dtype: *mut Lent, out: *mut Slot) -> u32;
-    fn vlt_dtype_eq(one: *mut Lent, other: *mut Lent) -> u32;
-    fn vlt_dtype_eq_ignore_nullability(one: *mut Lent, other: *mut Lent) -> u32;
-    fn vlt_dtype_nullability_subset(one: *mut Lent, other: *mut Lent) -> u32;
-    fn vlt_dtype_nullability_superset(one: *mut Lent, other: *mut Lent) -> u32;
-    fn vlt_dtype_merge_nullability(one: *mut Lent, other: *mut Lent, out: *mut Slot) -> u32;
-    fn vlt_dtype_intersect_nullability(one: *mut Lent, other: *mut Lent, out: *mut Slot) -> u32;
-    fn vlt_dtype_kind(dtype: *mut Lent, number: *mut u32) -> u32;
-    fn vlt_dtype_is_nullable(dtype: *mut Lent) -> u32;
-    fn vlt_dtype_can_be_nonnullable(dtype: *mut Lent) -> u32;
-    fn vlt_union_len(dtype: *mut Lent, count: *mut usize) -> u32;
-    fn vlt_union_variant_by_index(dtype: *mut Lent, index: usize, out: *mut Slot) -> u32;
-    fn vlt_union_find(dtype: *mut Lent, name: *const u8, name_len: usize, index: *mut usize) -> u32;
-    fn vlt_union_variant(dtype: *mut Lent, name: *const u8, name_len: usize, out: *mut Slot) -> u32;
-    fn vlt_union_tag_to_child_index(dtype: *mut Lent, tag: u8, index: *mut usize) -> u32;
-    fn vlt_union_child_index_to_tag(dtype: *mut Lent, index: usize, tag: *mut u8) -> u32;
-    fn vlt_answer(line: *const u8, line_len: usize, buffer: *mut u8, buffer_len: usize, length: *mut usize) -> u32;
-    fn vlt_path_from_steps(
-        names: *const u8,
-        names_len: usize,
-        name_lengths: *const usize,
-        name_lengths_len: usize,
-        out: *mut Slot,
-    ) -> u32;
-    fn vlt_path_from_text(text: *const u8, text_len: usize, out: *mut Slot, position: *mut usize) -> u32;
-    fn vlt_path_to_text(path: *mut Lent, buffer: *mut u8, buffer_len: usize, length: *mut usize) -> u32;
-    fn vlt_path_hash(path: *mut Lent, hash: *mut u64) -> u32;
-    fn vlt_path_from_message(
-        names: *const u8,
-        names_len: usize,
-        name_lengths: *const usize,
-        name_lengths_len: usize,
-        out: *mut Slot,
-    ) -> u32;
-    fn vlt_message_from_text(text: *const u8, text_len: usize, out: *mut Slot, position: *mut usize) -> u32;
-    fn vlt_message_to_text(message: *mut Lent, buffer: *mut u8, buffer_len: usize, length: *mut usize) -> u32;
-    fn vlt_message_from_nodes(
-        nodes: *const Node,
-        nodes_len: usize,
-        texts: *const u8,
-        texts_len: usize,
-        out: *mut Slot,
-    ) -> u32;
-    fn vlt_message_to_nodes(
-        message: *mut Lent,
-        nodes: *mut Node,
-        nodes_len: usize,
-        node_count: *mut usize,
-        texts: *mut u8,
-        texts_len: usize,
-        text_length: *mut usize,
-    ) -> u32;
-    fn vlt_dtype_from_nodes(
-        nodes: *const Node,
-        nodes_len: usize,
-        texts: *const u8,
-        texts_len: usize,
-        allow_unknown: bool,
-        out: *mut Slot,
-    ) -> u32;
-    fn vlt_dtype_to_nodes(
-        dtype: *mut Lent,
-        nodes: *mut Node,
-        nodes_len: usize,
-        node_count: *mut usize,
-        texts: *mut u8,
-        texts_len: usize,
-        text_length: *mut usize,
-    ) -> u32;
-    fn vlt_set_extend(set: *mut Lent, paths: *mut Slot, paths_len: usize, inserted: *mut usize) -> u32;
-    fn vlt_set_extend_from_list(set: *mut Lent, paths: *mut Lent) -> u32;
-    fn vlt_set_below(
-        set: *mut Lent,
-        path: *mut Lent,
-        is_end: *mut bool,
-        has_element: *mut bool,
-        name_count: *mut usize,
-    ) -> u32;
-    fn vlt_set_names_below(set: *mut Lent, path: *mut Lent, out: *mut Slot) -> u32;
-    fn vlt_error_text(code: u32, buffer: *mut u8, buffer_len: usize, length: *mut usize) -> u32;
-    fn vlt_dtype_map(key: *mut Lent, value: *mut Lent, keys_sorted: bool, nullable: bool, out: *mut Slot) -> u32;
     fn vlt_dtype_struct(
         names: *const u8,
         names_len: usize,
@@ -306,6 +165,33 @@ unsafe extern "C" {
         nullable: bool,
         out: *mut Slot,
     ) -> u32;
+    fn vlt_dtype_with_nullability(dtype: *mut Lent, nullable: bool, out: *mut Slot) -> u32;
+    fn vlt_dtype_union_nullability(dtype: *mut Lent, nullable: bool, out: *mut Slot) -> u32;
+    fn vlt_dtype_hash(dtype: *mut Lent, hash: *mut u64) -> u32;
+    fn vlt_dtype_hash_ignore_nullability(dtype: *mut Lent, hash: *mut u64) -> u32;
+    fn vlt_dtype_element(dtype: *mut Lent, out: *mut Slot) -> u32;
+    fn vlt_dtype_key(dtype: *mut Lent, out: *mut Slot) -> u32;
+    fn vlt_dtype_value(dtype: *mut Lent, out: *mut Slot) -> u32;
+    fn vlt_dtype_storage(dtype: *mut Lent, out: *mut Slot) -> u32;
+    fn vlt_dtype_ptype(dtype: *mut Lent, number: *mut u32) -> u32;
+    fn vlt_dtype_id(dtype: *mut Lent, buffer: *mut u8, buffer_len: usize, length: *mut usize) -> u32;
+    fn vlt_dtype_metadata(dtype: *mut Lent, buffer: *mut u8, buffer_len: usize, length: *mut usize) -> u32;
+    fn vlt_dtype_fixed_size(dtype: *mut Lent, size: *mut u32) -> u32;
+    fn vlt_dtype_decimal_parts(dtype: *mut Lent, precision: *mut u8, scale: *mut i8) -> u32;
+    fn vlt_dtype_keys_sorted(dtype: *mut Lent) -> u32;
+    fn vlt_dtype_copy(dtype: *mut Lent, out: *mut Slot) -> u32;
+    fn vlt_dtype_eq(one: *mut Lent, other: *mut Lent) -> u32;
+    fn vlt_dtype_eq_ignore_nullability(one: *mut Lent, other: *mut Lent) -> u32;
+    fn vlt_dtype_nullability_subset(one: *mut Lent, other: *mut Lent) -> u32;
+    fn vlt_dtype_nullability_superset(one: *mut Lent, other: *mut Lent) -> u32;
+    fn vlt_dtype_merge_nullability(one: *mut Lent, other: *mut Lent, out: *mut Slot) -> u32;
+    fn vlt_dtype_intersect_nullability(one: *mut Lent, other: *mut Lent, out: *mut Slot) -> u32;
+    fn vlt_dtype_kind(dtype: *mut Lent, number: *mut u32) -> u32;
+    fn vlt_dtype_is_nullable(dtype: *mut Lent) -> u32;
+    fn vlt_dtype_can_be_nonnullable(dtype: *mut Lent) -> u32;
+    fn vlt_dtype_element_size(dtype: *mut Lent, size: *mut usize) -> u32;
+    fn vlt_dtype_entries(dtype: *mut Lent, out: *mut Slot) -> u32;
+    fn vlt_dtype_map(one: *mut Lent, other: *mut Lent, keys_sorted: bool, nullable: bool, out: *mut Slot) -> u32;
     fn vlt_dtype_extension(
         id: *const u8,
         id_len: usize,
@@ -314,15 +200,28 @@ unsafe extern "C" {
         storage: *mut Lent,
         out: *mut Slot,
     ) -> u32;
-    fn vlt_dtype_entries(dtype: *mut Lent, out: *mut Slot) -> u32;
-    fn vlt_dtype_element_size(dtype: *mut Lent, size: *mut usize) -> u32;
-    fn vlt_struct_field_name(
-        dtype: *mut Lent,
-        index: usize,
-        buffer: *mut u8,
-        buffer_len: usize,
-        length: *mut usize,
+    fn vlt_dtype_from_nodes(
+        nodes: *const Node,
+        nodes_len: usize,
+        texts: *const u8,
+        texts_len: usize,
+        allow_unknown: bool,
+        out: *mut Slot,
     ) -> u32;
+    fn vlt_dtype_to_nodes(
+        dtype: *mut Lent,
+        nodes: *mut Node,
+        nodes_len: usize,
+        node_count: *mut usize,
+        texts: *mut u8,
+        texts_len: usize,
+        text_length: *mut usize,
+    ) -> u32;
+    fn vlt_dtype_from_text(text: *const u8, text_len: usize, out: *mut Slot, position: *mut usize) -> u32;
+    fn vlt_dtype_to_text(dtype: *mut Lent, buffer: *mut u8, buffer_len: usize, length: *mut usize) -> u32;
+    fn vlt_dtype_display(dtype: *mut Lent, buffer: *mut u8, buffer_len: usize, length: *mut usize) -> u32;
+    fn vlt_struct_without_field(dtype: *mut Lent, index: usize, out: *mut Slot) -> u32;
+    fn vlt_struct_disjoint_merge(one: *mut Lent, other: *mut Lent, out: *mut Slot) -> u32;
     fn vlt_struct_project(
         dtype: *mut Lent,
         names: *const u8,
@@ -331,9 +230,24 @@ unsafe extern "C" {
         name_lengths_len: usize,
         out: *mut Slot,
     ) -> u32;
-    fn vlt_struct_without_field(dtype: *mut Lent, index: usize, out: *mut Slot) -> u32;
-    fn vlt_struct_disjoint_merge(one: *mut Lent, other: *mut Lent, out: *mut Slot) -> u32;
+    fn vlt_struct_nfields(dtype: *mut Lent, count: *mut usize) -> u32;
+    fn vlt_struct_field_by_index(dtype: *mut Lent, index: usize, out: *mut Slot) -> u32;
+    fn vlt_struct_find(dtype: *mut Lent, name: *const u8, name_len: usize, index: *mut usize) -> u32;
+    fn vlt_struct_field(dtype: *mut Lent, name: *const u8, name_len: usize, out: *mut Slot) -> u32;
+    fn vlt_struct_field_name(
+        dtype: *mut Lent,
+        index: usize,
+        buffer: *mut u8,
+        buffer_len: usize,
+        length: *mut usize,
+    ) -> u32;
     fn vlt_struct_indented(dtype: *mut Lent, buffer: *mut u8, buffer_len: usize, length: *mut usize) -> u32;
+    fn vlt_union_len(dtype: *mut Lent, count: *mut usize) -> u32;
+    fn vlt_union_variant_by_index(dtype: *mut Lent, index: usize, out: *mut Slot) -> u32;
+    fn vlt_union_find(dtype: *mut Lent, name: *const u8, name_len: usize, index: *mut usize) -> u32;
+    fn vlt_union_variant(dtype: *mut Lent, name: *const u8, name_len: usize, out: *mut Slot) -> u32;
+    fn vlt_union_tag_to_child_index(dtype: *mut Lent, tag: u8, index: *mut usize) -> u32;
+    fn vlt_union_child_index_to_tag(dtype: *mut Lent, index: usize, tag: *mut u8) -> u32;
     fn vlt_union_variant_name(
         dtype: *mut Lent,
         index: usize,
@@ -342,6 +256,114 @@ unsafe extern "C" {
         length: *mut usize,
     ) -> u32;
     fn vlt_union_is_consecutive(dtype: *mut Lent) -> u32;
+    fn vlt_path_from_text(text: *const u8, text_len: usize, out: *mut Slot, position: *mut usize) -> u32;
+    fn vlt_path_to_text(path: *mut Lent, buffer: *mut u8, buffer_len: usize, length: *mut usize) -> u32;
+    fn vlt_path_root(out: *mut Slot) -> u32;
+    fn vlt_path_len(path: *mut Lent, count: *mut usize) -> u32;
+    fn vlt_path_step(path: *mut Lent, index: usize, buffer: *mut u8, buffer_len: usize, length: *mut usize) -> u32;
+    fn vlt_path_push_name(path: *mut Lent, name: *const u8, name_len: usize, out: *mut Slot) -> u32;
+    fn vlt_path_push_element(path: *mut Lent, out: *mut Slot) -> u32;
+    fn vlt_path_step_into(path: *mut Lent, out: *mut Slot) -> u32;
+    fn vlt_path_copy(path: *mut Lent, out: *mut Slot) -> u32;
+    fn vlt_path_eq(one: *mut Lent, other: *mut Lent) -> u32;
+    fn vlt_path_overlap(one: *mut Lent, other: *mut Lent) -> u32;
+    fn vlt_path_resolve(dtype: *mut Lent, path: *mut Lent, out: *mut Slot) -> u32;
+    fn vlt_path_exists_in(dtype: *mut Lent, path: *mut Lent) -> u32;
+    fn vlt_path_display(path: *mut Lent, buffer: *mut u8, buffer_len: usize, length: *mut usize) -> u32;
+    fn vlt_path_starts_with_name(path: *mut Lent, name: *const u8, name_len: usize) -> u32;
+    fn vlt_path_from_steps(
+        names: *const u8,
+        names_len: usize,
+        name_lengths: *const usize,
+        name_lengths_len: usize,
+        out: *mut Slot,
+    ) -> u32;
+    fn vlt_path_hash(path: *mut Lent, hash: *mut u64) -> u32;
+    fn vlt_path_from_message(
+        names: *const u8,
+        names_len: usize,
+        name_lengths: *const usize,
+        name_lengths_len: usize,
+        out: *mut Slot,
+    ) -> u32;
+    fn vlt_set_below(
+        paths: *mut Lent,
+        path: *mut Lent,
+        is_end: *mut bool,
+        has_element: *mut bool,
+        name_count: *mut usize,
+    ) -> u32;
+    fn vlt_set_names_below(paths: *mut Lent, path: *mut Lent, out: *mut Slot) -> u32;
+    fn vlt_set_new(out: *mut Slot) -> u32;
+    fn vlt_set_insert(paths: *mut Lent, path: *mut Lent) -> u32;
+    fn vlt_set_contains(paths: *mut Lent, path: *mut Lent) -> u32;
+    fn vlt_set_copy(paths: *mut Lent, out: *mut Slot) -> u32;
+    fn vlt_set_cover(paths: *mut Lent, out: *mut Slot) -> u32;
+    fn vlt_set_members(paths: *mut Lent, out: *mut Slot) -> u32;
+    fn vlt_set_unresolved(paths: *mut Lent, dtype: *mut Lent, out: *mut Slot) -> u32;
+    fn vlt_set_len(paths: *mut Lent, count: *mut usize) -> u32;
+    fn vlt_set_extend(set: *mut Lent, paths: *mut Slot, paths_len: usize, inserted: *mut usize) -> u32;
+    fn vlt_set_extend_from_list(set: *mut Lent, paths: *mut Lent) -> u32;
+    fn vlt_paths_len(paths: *mut Lent, count: *mut usize) -> u32;
+    fn vlt_paths_get(paths: *mut Lent, index: usize, out: *mut Slot) -> u32;
+    fn vlt_project_paths(dtype: *mut Lent, paths: *mut Lent, out: *mut Slot) -> u32;
+    fn vlt_mask_all(out: *mut Slot) -> u32;
+    fn vlt_mask_prefix(path: *mut Lent, out: *mut Slot) -> u32;
+    fn vlt_mask_exact(path: *mut Lent, out: *mut Slot) -> u32;
+    fn vlt_mask_kind(mask: *mut Lent, kind: *mut u32) -> u32;
+    fn vlt_mask_path(mask: *mut Lent, out: *mut Slot) -> u32;
+    fn vlt_mask_copy(mask: *mut Lent, out: *mut Slot) -> u32;
+    fn vlt_mask_step_into(mask: *mut Lent, out: *mut Slot) -> u32;
+    fn vlt_mask_starting_field(mask: *mut Lent, buffer: *mut u8, buffer_len: usize, length: *mut usize) -> u32;
+    fn vlt_mask_matches_all(mask: *mut Lent) -> u32;
+    fn vlt_mask_matches_root(mask: *mut Lent) -> u32;
+    fn vlt_mask_eq(one: *mut Lent, other: *mut Lent) -> u32;
+    fn vlt_message_from_text(text: *const u8, text_len: usize, out: *mut Slot, position: *mut usize) -> u32;
+    fn vlt_message_to_text(message: *mut Lent, buffer: *mut u8, buffer_len: usize, length: *mut usize) -> u32;
+    fn vlt_message_read(message: *mut Lent, allow_unknown: bool, out: *mut Slot) -> u32;
+    fn vlt_message_write(dtype: *mut Lent, out: *mut Slot) -> u32;
+    fn vlt_message_normal(message: *mut Lent, allow_unknown: bool, out: *mut Slot) -> u32;
+    fn vlt_message_eq(one: *mut Lent, other: *mut Lent) -> u32;
+    fn vlt_message_copy(message: *mut Lent, out: *mut Slot) -> u32;
+    fn vlt_message_from_nodes(
+        nodes: *const Node,
+        nodes_len: usize,
+        texts: *const u8,
+        texts_len: usize,
+        out: *mut Slot,
+    ) -> u32;
+    fn vlt_message_to_nodes(
+        message: *mut Lent,
+        nodes: *mut Node,
+        nodes_len: usize,
+        node_count: *mut usize,
+        texts: *mut u8,
+        texts_len: usize,
+        text_length: *mut usize,
+    ) -> u32;
+    fn vlt_answer(line: *const u8, line_len: usize, buffer: *mut u8, buffer_len: usize, length: *mut usize) -> u32;
+}
+
+/// Writes what a result means in a few words. If no export returns this number, it returns 9.
+pub(crate) fn error_text(code: u32, buffer: &mut [u8], length: &mut usize) -> u32 {
+    // SAFETY: see the head of this file.
+    unsafe { vlt_error_text(code, buffer.as_mut_ptr(), buffer.len(), length) }
+}
+
+/// Returns the version of this interface: 1.
+pub(crate) fn abi_version() -> u32 {
+    // SAFETY: see the head of this file.
+    unsafe { vlt_abi_version() }
+}
+
+/// Returns the kind of the object in the slot: 0 none, 1 a type, 2 a path, 3 a set of paths, 4 a list of paths, 5 a mask,
+/// 6 the message of a type.
+pub(crate) fn kind(slot: &Slot) -> u32 {
+    let mut lent_slot = slot.lent();
+    // SAFETY: see the head of this file.
+    let result = unsafe { vlt_kind(&mut lent_slot) };
+    slot.keeps(lent_slot);
+    result
 }
 
 /// Puts the null type.
@@ -406,171 +428,78 @@ pub(crate) fn dtype_fixed_size_list(element: &Slot, size: u32, nullable: bool, o
     result
 }
 
-/// Returns the version of this interface: 1.
-pub(crate) fn abi_version() -> u32 {
+/// Puts a struct of these names and types, in order. If there are more or fewer names than types, it returns 9.
+///
+/// The names lie one after the other in `names`, and `name_lengths` has the number of bytes of each.
+pub(crate) fn dtype_struct(
+    names: &[u8],
+    name_lengths: &[usize],
+    dtypes: &mut [Slot],
+    nullable: bool,
+    out: &mut Slot,
+) -> u32 {
     // SAFETY: see the head of this file.
-    unsafe { vlt_abi_version() }
-}
-
-/// Returns the kind of the object in the slot: 0 none, 1 a type, 2 a path, 3 a set of paths, 4 a list of paths, 5 a mask,
-/// 6 the message of a type.
-pub(crate) fn kind(slot: &Slot) -> u32 {
-    let mut lent_slot = slot.lent();
-    // SAFETY: see the head of this file.
-    let result = unsafe { vlt_kind(&mut lent_slot) };
-    slot.keeps(lent_slot);
-    result
-}
-
-/// Puts the mask that selects everything.
-pub(crate) fn mask_all(out: &mut Slot) -> u32 {
-    // SAFETY: see the head of this file.
-    unsafe { vlt_mask_all(out) }
-}
-
-/// Puts the mask of the path and of everything below it.
-pub(crate) fn mask_prefix(path: &Slot, out: &mut Slot) -> u32 {
-    let mut lent_path = path.lent();
-    // SAFETY: see the head of this file.
-    let result = unsafe { vlt_mask_prefix(&mut lent_path, out) };
-    path.keeps(lent_path);
-    result
-}
-
-/// Puts the mask of the path alone.
-pub(crate) fn mask_exact(path: &Slot, out: &mut Slot) -> u32 {
-    let mut lent_path = path.lent();
-    // SAFETY: see the head of this file.
-    let result = unsafe { vlt_mask_exact(&mut lent_path, out) };
-    path.keeps(lent_path);
-    result
-}
-
-/// Writes which mask it is: 0 of everything, 1 of a path and what is below it, 2 of a path alone.
-pub(crate) fn mask_kind(mask: &Slot, kind: &mut u32) -> u32 {
-    let mut lent_mask = mask.lent();
-    // SAFETY: see the head of this file.
-    let result = unsafe { vlt_mask_kind(&mut lent_mask, kind) };
-    mask.keeps(lent_mask);
-    result
-}
-
-/// Puts the path of the mask; the mask of everything has none.
-pub(crate) fn mask_path(mask: &Slot, out: &mut Slot) -> u32 {
-    let mut lent_mask = mask.lent();
-    // SAFETY: see the head of this file.
-    let result = unsafe { vlt_mask_path(&mut lent_mask, out) };
-    mask.keeps(lent_mask);
-    result
-}
-
-/// Puts a copy of the mask.
-pub(crate) fn mask_copy(mask: &Slot, out: &mut Slot) -> u32 {
-    let mut lent_mask = mask.lent();
-    // SAFETY: see the head of this file.
-    let result = unsafe { vlt_mask_copy(&mut lent_mask, out) };
-    mask.keeps(lent_mask);
-    result
-}
-
-/// Puts the mask after the first step of its path. Of the mask of the root alone it returns 120.
-pub(crate) fn mask_step_into(mask: &Slot, out: &mut Slot) -> u32 {
-    let mut lent_mask = mask.lent();
-    // SAFETY: see the head of this file.
-    let result = unsafe { vlt_mask_step_into(&mut lent_mask, out) };
-    mask.keeps(lent_mask);
-    result
-}
-
-/// Writes the first step of the mask's path, as `vlt_path_step` does. Of the mask of everything it returns 121.
-pub(crate) fn mask_starting_field(mask: &Slot, buffer: &mut [u8], length: &mut usize) -> u32 {
-    let mut lent_mask = mask.lent();
-    // SAFETY: see the head of this file.
-    let result = unsafe { vlt_mask_starting_field(&mut lent_mask, buffer.as_mut_ptr(), buffer.len(), length) };
-    mask.keeps(lent_mask);
-    result
-}
-
-/// Returns 0 if every path is in the mask.
-pub(crate) fn mask_matches_all(mask: &Slot) -> u32 {
-    let mut lent_mask = mask.lent();
-    // SAFETY: see the head of this file.
-    let result = unsafe { vlt_mask_matches_all(&mut lent_mask) };
-    mask.keeps(lent_mask);
-    result
-}
-
-/// Returns 0 if the root is in the mask.
-pub(crate) fn mask_matches_root(mask: &Slot) -> u32 {
-    let mut lent_mask = mask.lent();
-    // SAFETY: see the head of this file.
-    let result = unsafe { vlt_mask_matches_root(&mut lent_mask) };
-    mask.keeps(lent_mask);
-    result
-}
-
-/// Returns 0 if the masks are equal.
-pub(crate) fn mask_eq(one: &Slot, other: &Slot) -> u32 {
-    if one.is(other) {
-        return SAME_SLOT;
+    unsafe {
+        vlt_dtype_struct(
+            names.as_ptr(),
+            names.len(),
+            name_lengths.as_ptr(),
+            name_lengths.len(),
+            dtypes.as_mut_ptr(),
+            dtypes.len(),
+            nullable,
+            out,
+        )
     }
-    let mut lent_one = one.lent();
-    let mut lent_other = other.lent();
-    // SAFETY: see the head of this file.
-    let result = unsafe { vlt_mask_eq(&mut lent_one, &mut lent_other) };
-    one.keeps(lent_one);
-    other.keeps(lent_other);
-    result
 }
 
-/// Puts the type that the message describes. Returns 100 and the number of the first error in the message; an extension is one (135) unless `allow_unknown`.
-pub(crate) fn message_read(proto: &Slot, allow_unknown: bool, out: &mut Slot) -> u32 {
-    let mut lent_proto = proto.lent();
+/// Puts a union of these names, types and tags, in order, as `vlt_dtype_struct` takes names.
+pub(crate) fn dtype_union(
+    names: &[u8],
+    name_lengths: &[usize],
+    dtypes: &mut [Slot],
+    tags: &[u8],
+    nullable: bool,
+    out: &mut Slot,
+) -> u32 {
     // SAFETY: see the head of this file.
-    let result = unsafe { vlt_message_read(&mut lent_proto, allow_unknown, out) };
-    proto.keeps(lent_proto);
-    result
-}
-
-/// Puts the message of the type.
-pub(crate) fn message_write(dtype: &Slot, out: &mut Slot) -> u32 {
-    let mut lent_dtype = dtype.lent();
-    // SAFETY: see the head of this file.
-    let result = unsafe { vlt_message_write(&mut lent_dtype, out) };
-    dtype.keeps(lent_dtype);
-    result
-}
-
-/// Puts the message of the type that the message describes, in which missing metadata is empty. Returns the errors of `vlt_message_read`.
-pub(crate) fn message_normal(proto: &Slot, allow_unknown: bool, out: &mut Slot) -> u32 {
-    let mut lent_proto = proto.lent();
-    // SAFETY: see the head of this file.
-    let result = unsafe { vlt_message_normal(&mut lent_proto, allow_unknown, out) };
-    proto.keeps(lent_proto);
-    result
-}
-
-/// Returns 0 if the messages are equal in every field.
-pub(crate) fn message_eq(one: &Slot, other: &Slot) -> u32 {
-    if one.is(other) {
-        return SAME_SLOT;
+    unsafe {
+        vlt_dtype_union(
+            names.as_ptr(),
+            names.len(),
+            name_lengths.as_ptr(),
+            name_lengths.len(),
+            dtypes.as_mut_ptr(),
+            dtypes.len(),
+            tags.as_ptr(),
+            tags.len(),
+            nullable,
+            out,
+        )
     }
-    let mut lent_one = one.lent();
-    let mut lent_other = other.lent();
-    // SAFETY: see the head of this file.
-    let result = unsafe { vlt_message_eq(&mut lent_one, &mut lent_other) };
-    one.keeps(lent_one);
-    other.keeps(lent_other);
-    result
 }
 
-/// Puts a copy of the message.
-pub(crate) fn message_copy(proto: &Slot, out: &mut Slot) -> u32 {
-    let mut lent_proto = proto.lent();
+/// Puts a union of these names and types with the tags 0, 1, 2 and so on, as `vlt_dtype_struct` takes names.
+pub(crate) fn dtype_union_consecutive(
+    names: &[u8],
+    name_lengths: &[usize],
+    dtypes: &mut [Slot],
+    nullable: bool,
+    out: &mut Slot,
+) -> u32 {
     // SAFETY: see the head of this file.
-    let result = unsafe { vlt_message_copy(&mut lent_proto, out) };
-    proto.keeps(lent_proto);
-    result
+    unsafe {
+        vlt_dtype_union_consecutive(
+            names.as_ptr(),
+            names.len(),
+            name_lengths.as_ptr(),
+            name_lengths.len(),
+            dtypes.as_mut_ptr(),
+            dtypes.len(),
+            nullable,
+            out,
+        )
+    }
 }
 
 /// Puts the type with this outer nullability; for an extension it is that of its storage. If the type can't be
@@ -697,6 +626,409 @@ pub(crate) fn dtype_keys_sorted(dtype: &Slot) -> u32 {
     // SAFETY: see the head of this file.
     let result = unsafe { vlt_dtype_keys_sorted(&mut lent_dtype) };
     dtype.keeps(lent_dtype);
+    result
+}
+
+/// Puts a copy of the type.
+pub(crate) fn dtype_copy(dtype: &Slot, out: &mut Slot) -> u32 {
+    let mut lent_dtype = dtype.lent();
+    // SAFETY: see the head of this file.
+    let result = unsafe { vlt_dtype_copy(&mut lent_dtype, out) };
+    dtype.keeps(lent_dtype);
+    result
+}
+
+/// Returns 0 if the types are equal.
+pub(crate) fn dtype_eq(one: &Slot, other: &Slot) -> u32 {
+    if one.is(other) {
+        return SAME_SLOT;
+    }
+    let mut lent_one = one.lent();
+    let mut lent_other = other.lent();
+    // SAFETY: see the head of this file.
+    let result = unsafe { vlt_dtype_eq(&mut lent_one, &mut lent_other) };
+    one.keeps(lent_one);
+    other.keeps(lent_other);
+    result
+}
+
+/// Returns 0 if the types are equal when every nullability in them is ignored.
+pub(crate) fn dtype_eq_ignore_nullability(one: &Slot, other: &Slot) -> u32 {
+    if one.is(other) {
+        return SAME_SLOT;
+    }
+    let mut lent_one = one.lent();
+    let mut lent_other = other.lent();
+    // SAFETY: see the head of this file.
+    let result = unsafe { vlt_dtype_eq_ignore_nullability(&mut lent_one, &mut lent_other) };
+    one.keeps(lent_one);
+    other.keeps(lent_other);
+    result
+}
+
+/// Returns 0 if the types are equal except for nullabilities, and the other is nullable wherever the first is.
+pub(crate) fn dtype_nullability_subset(one: &Slot, other: &Slot) -> u32 {
+    if one.is(other) {
+        return SAME_SLOT;
+    }
+    let mut lent_one = one.lent();
+    let mut lent_other = other.lent();
+    // SAFETY: see the head of this file.
+    let result = unsafe { vlt_dtype_nullability_subset(&mut lent_one, &mut lent_other) };
+    one.keeps(lent_one);
+    other.keeps(lent_other);
+    result
+}
+
+/// Returns 0 if the types are equal except for nullabilities, and the first is nullable wherever the other is.
+pub(crate) fn dtype_nullability_superset(one: &Slot, other: &Slot) -> u32 {
+    if one.is(other) {
+        return SAME_SLOT;
+    }
+    let mut lent_one = one.lent();
+    let mut lent_other = other.lent();
+    // SAFETY: see the head of this file.
+    let result = unsafe { vlt_dtype_nullability_superset(&mut lent_one, &mut lent_other) };
+    one.keeps(lent_one);
+    other.keeps(lent_other);
+    result
+}
+
+/// Puts the least type that takes the values of both, if there is one.
+pub(crate) fn dtype_merge_nullability(one: &Slot, other: &Slot, out: &mut Slot) -> u32 {
+    if one.is(other) {
+        return SAME_SLOT;
+    }
+    let mut lent_one = one.lent();
+    let mut lent_other = other.lent();
+    // SAFETY: see the head of this file.
+    let result = unsafe { vlt_dtype_merge_nullability(&mut lent_one, &mut lent_other, out) };
+    one.keeps(lent_one);
+    other.keeps(lent_other);
+    result
+}
+
+/// Puts the greatest type whose values both take, if there is one.
+pub(crate) fn dtype_intersect_nullability(one: &Slot, other: &Slot, out: &mut Slot) -> u32 {
+    if one.is(other) {
+        return SAME_SLOT;
+    }
+    let mut lent_one = one.lent();
+    let mut lent_other = other.lent();
+    // SAFETY: see the head of this file.
+    let result = unsafe { vlt_dtype_intersect_nullability(&mut lent_one, &mut lent_other, out) };
+    one.keeps(lent_one);
+    other.keeps(lent_other);
+    result
+}
+
+/// Writes the kind of the type: 0 null, 1 bool, 2 primitive, 3 decimal, 4 utf8, 5 binary, 6 list, 7 fixed-size list, 8 map,
+/// 9 struct, 10 union, 11 variant, 12 extension.
+pub(crate) fn dtype_kind(dtype: &Slot, number: &mut u32) -> u32 {
+    let mut lent_dtype = dtype.lent();
+    // SAFETY: see the head of this file.
+    let result = unsafe { vlt_dtype_kind(&mut lent_dtype, number) };
+    dtype.keeps(lent_dtype);
+    result
+}
+
+/// Returns 0 if values of the type may be null.
+pub(crate) fn dtype_is_nullable(dtype: &Slot) -> u32 {
+    let mut lent_dtype = dtype.lent();
+    // SAFETY: see the head of this file.
+    let result = unsafe { vlt_dtype_is_nullable(&mut lent_dtype) };
+    dtype.keeps(lent_dtype);
+    result
+}
+
+/// Returns 0 if the type can be made non-nullable: not null, nor an extension over it.
+pub(crate) fn dtype_can_be_nonnullable(dtype: &Slot) -> u32 {
+    let mut lent_dtype = dtype.lent();
+    // SAFETY: see the head of this file.
+    let result = unsafe { vlt_dtype_can_be_nonnullable(&mut lent_dtype) };
+    dtype.keeps(lent_dtype);
+    result
+}
+
+/// Writes the number of bytes that each value of the type takes, if all take as many. If a part of a type of fixed width is
+/// wider than a `usize` can hold, it returns 119.
+pub(crate) fn dtype_element_size(dtype: &Slot, size: &mut usize) -> u32 {
+    let mut lent_dtype = dtype.lent();
+    // SAFETY: see the head of this file.
+    let result = unsafe { vlt_dtype_element_size(&mut lent_dtype, size) };
+    dtype.keeps(lent_dtype);
+    result
+}
+
+/// Puts the type of the entries of a map: the non-nullable struct of the fields `key` and `value`.
+pub(crate) fn dtype_entries(dtype: &Slot, out: &mut Slot) -> u32 {
+    let mut lent_dtype = dtype.lent();
+    // SAFETY: see the head of this file.
+    let result = unsafe { vlt_dtype_entries(&mut lent_dtype, out) };
+    dtype.keeps(lent_dtype);
+    result
+}
+
+/// Puts the type of maps of these keys and values. If the key type is nullable, it returns 109, and if one of the two has
+/// 128 levels, it returns 6.
+pub(crate) fn dtype_map(one: &Slot, other: &Slot, keys_sorted: bool, nullable: bool, out: &mut Slot) -> u32 {
+    if one.is(other) {
+        return SAME_SLOT;
+    }
+    let mut lent_one = one.lent();
+    let mut lent_other = other.lent();
+    // SAFETY: see the head of this file.
+    let result = unsafe { vlt_dtype_map(&mut lent_one, &mut lent_other, keys_sorted, nullable, out) };
+    one.keeps(lent_one);
+    other.keeps(lent_other);
+    result
+}
+
+/// Puts the extension of this id, metadata and storage type. If the storage has 128 levels, it returns 6.
+pub(crate) fn dtype_extension(id: &[u8], metadata: &[u8], storage: &Slot, out: &mut Slot) -> u32 {
+    let mut lent_storage = storage.lent();
+    // SAFETY: see the head of this file.
+    let result = unsafe {
+        vlt_dtype_extension(id.as_ptr(), id.len(), metadata.as_ptr(), metadata.len(), &mut lent_storage, out)
+    };
+    storage.keeps(lent_storage);
+    result
+}
+
+/// Puts the type that `vlt_message_read` gives of the message of these nodes.
+pub(crate) fn dtype_from_nodes(nodes: &[Node], texts: &[u8], allow_unknown: bool, out: &mut Slot) -> u32 {
+    // SAFETY: see the head of this file.
+    unsafe { vlt_dtype_from_nodes(nodes.as_ptr(), nodes.len(), texts.as_ptr(), texts.len(), allow_unknown, out) }
+}
+
+/// Writes the nodes and the pool of the message of a type.
+pub(crate) fn dtype_to_nodes(
+    dtype: &Slot,
+    nodes: &mut [Node],
+    node_count: &mut usize,
+    texts: &mut [u8],
+    text_length: &mut usize,
+) -> u32 {
+    let mut lent_dtype = dtype.lent();
+    // SAFETY: see the head of this file.
+    let result = unsafe {
+        vlt_dtype_to_nodes(
+            &mut lent_dtype,
+            nodes.as_mut_ptr(),
+            nodes.len(),
+            node_count,
+            texts.as_mut_ptr(),
+            texts.len(),
+            text_length,
+        )
+    };
+    dtype.keeps(lent_dtype);
+    result
+}
+
+/// Reads a type from the console's form. 4 with the byte's position where it can't be read, 6 where it is too deep.
+pub(crate) fn dtype_from_text(text: &[u8], out: &mut Slot, position: &mut usize) -> u32 {
+    // SAFETY: see the head of this file.
+    unsafe { vlt_dtype_from_text(text.as_ptr(), text.len(), out, position) }
+}
+
+/// Writes a type in the console's form, which reads back as the same type.
+pub(crate) fn dtype_to_text(dtype: &Slot, buffer: &mut [u8], length: &mut usize) -> u32 {
+    let mut lent_dtype = dtype.lent();
+    // SAFETY: see the head of this file.
+    let result = unsafe { vlt_dtype_to_text(&mut lent_dtype, buffer.as_mut_ptr(), buffer.len(), length) };
+    dtype.keeps(lent_dtype);
+    result
+}
+
+/// Writes a type as the library displays it.
+pub(crate) fn dtype_display(dtype: &Slot, buffer: &mut [u8], length: &mut usize) -> u32 {
+    let mut lent_dtype = dtype.lent();
+    // SAFETY: see the head of this file.
+    let result = unsafe { vlt_dtype_display(&mut lent_dtype, buffer.as_mut_ptr(), buffer.len(), length) };
+    dtype.keeps(lent_dtype);
+    result
+}
+
+/// Puts the struct without the field at the position, with the nullability of the type. If the position is not below the
+/// number of fields, it returns 117.
+pub(crate) fn struct_without_field(dtype: &Slot, index: usize, out: &mut Slot) -> u32 {
+    let mut lent_dtype = dtype.lent();
+    // SAFETY: see the head of this file.
+    let result = unsafe { vlt_struct_without_field(&mut lent_dtype, index, out) };
+    dtype.keeps(lent_dtype);
+    result
+}
+
+/// Puts the struct of the fields of the first type and then those of the other, with the nullability of the first. If a
+/// name is there twice, it returns 118.
+pub(crate) fn struct_disjoint_merge(one: &Slot, other: &Slot, out: &mut Slot) -> u32 {
+    if one.is(other) {
+        return SAME_SLOT;
+    }
+    let mut lent_one = one.lent();
+    let mut lent_other = other.lent();
+    // SAFETY: see the head of this file.
+    let result = unsafe { vlt_struct_disjoint_merge(&mut lent_one, &mut lent_other, out) };
+    one.keeps(lent_one);
+    other.keeps(lent_other);
+    result
+}
+
+/// Puts the struct of the first field of each of these names, in their order, with the nullability of the type. If no field
+/// has one of the names, it returns 116.
+///
+/// The names lie one after the other in `names`, and `name_lengths` has the number of bytes of each.
+pub(crate) fn struct_project(dtype: &Slot, names: &[u8], name_lengths: &[usize], out: &mut Slot) -> u32 {
+    let mut lent_dtype = dtype.lent();
+    // SAFETY: see the head of this file.
+    let result = unsafe {
+        vlt_struct_project(&mut lent_dtype, names.as_ptr(), names.len(), name_lengths.as_ptr(), name_lengths.len(), out)
+    };
+    dtype.keeps(lent_dtype);
+    result
+}
+
+/// Writes the number of fields.
+pub(crate) fn struct_nfields(dtype: &Slot, count: &mut usize) -> u32 {
+    let mut lent_dtype = dtype.lent();
+    // SAFETY: see the head of this file.
+    let result = unsafe { vlt_struct_nfields(&mut lent_dtype, count) };
+    dtype.keeps(lent_dtype);
+    result
+}
+
+/// Puts the type of the field at the position, if it is below the number of fields.
+pub(crate) fn struct_field_by_index(dtype: &Slot, index: usize, out: &mut Slot) -> u32 {
+    let mut lent_dtype = dtype.lent();
+    // SAFETY: see the head of this file.
+    let result = unsafe { vlt_struct_field_by_index(&mut lent_dtype, index, out) };
+    dtype.keeps(lent_dtype);
+    result
+}
+
+/// Writes the position of the first field of the name, if there is one.
+pub(crate) fn struct_find(dtype: &Slot, name: &[u8], index: &mut usize) -> u32 {
+    let mut lent_dtype = dtype.lent();
+    // SAFETY: see the head of this file.
+    let result = unsafe { vlt_struct_find(&mut lent_dtype, name.as_ptr(), name.len(), index) };
+    dtype.keeps(lent_dtype);
+    result
+}
+
+/// Puts the type of the first field of the name, if there is one.
+pub(crate) fn struct_field(dtype: &Slot, name: &[u8], out: &mut Slot) -> u32 {
+    let mut lent_dtype = dtype.lent();
+    // SAFETY: see the head of this file.
+    let result = unsafe { vlt_struct_field(&mut lent_dtype, name.as_ptr(), name.len(), out) };
+    dtype.keeps(lent_dtype);
+    result
+}
+
+/// Writes the name of the field at the position, if it is below the number of fields.
+pub(crate) fn struct_field_name(dtype: &Slot, index: usize, buffer: &mut [u8], length: &mut usize) -> u32 {
+    let mut lent_dtype = dtype.lent();
+    // SAFETY: see the head of this file.
+    let result = unsafe { vlt_struct_field_name(&mut lent_dtype, index, buffer.as_mut_ptr(), buffer.len(), length) };
+    dtype.keeps(lent_dtype);
+    result
+}
+
+/// Writes the fields, a line each, as the library indents them.
+pub(crate) fn struct_indented(dtype: &Slot, buffer: &mut [u8], length: &mut usize) -> u32 {
+    let mut lent_dtype = dtype.lent();
+    // SAFETY: see the head of this file.
+    let result = unsafe { vlt_struct_indented(&mut lent_dtype, buffer.as_mut_ptr(), buffer.len(), length) };
+    dtype.keeps(lent_dtype);
+    result
+}
+
+/// Writes the number of variants.
+pub(crate) fn union_len(dtype: &Slot, count: &mut usize) -> u32 {
+    let mut lent_dtype = dtype.lent();
+    // SAFETY: see the head of this file.
+    let result = unsafe { vlt_union_len(&mut lent_dtype, count) };
+    dtype.keeps(lent_dtype);
+    result
+}
+
+/// Puts the type of the variant at the position, if it is below the number of variants.
+pub(crate) fn union_variant_by_index(dtype: &Slot, index: usize, out: &mut Slot) -> u32 {
+    let mut lent_dtype = dtype.lent();
+    // SAFETY: see the head of this file.
+    let result = unsafe { vlt_union_variant_by_index(&mut lent_dtype, index, out) };
+    dtype.keeps(lent_dtype);
+    result
+}
+
+/// Writes the position of the variant of the name, if there is one.
+pub(crate) fn union_find(dtype: &Slot, name: &[u8], index: &mut usize) -> u32 {
+    let mut lent_dtype = dtype.lent();
+    // SAFETY: see the head of this file.
+    let result = unsafe { vlt_union_find(&mut lent_dtype, name.as_ptr(), name.len(), index) };
+    dtype.keeps(lent_dtype);
+    result
+}
+
+/// Puts the type of the variant of the name, if there is one.
+pub(crate) fn union_variant(dtype: &Slot, name: &[u8], out: &mut Slot) -> u32 {
+    let mut lent_dtype = dtype.lent();
+    // SAFETY: see the head of this file.
+    let result = unsafe { vlt_union_variant(&mut lent_dtype, name.as_ptr(), name.len(), out) };
+    dtype.keeps(lent_dtype);
+    result
+}
+
+/// Writes the position of the variant of the tag, if there is one.
+pub(crate) fn union_tag_to_child_index(dtype: &Slot, tag: u8, index: &mut usize) -> u32 {
+    let mut lent_dtype = dtype.lent();
+    // SAFETY: see the head of this file.
+    let result = unsafe { vlt_union_tag_to_child_index(&mut lent_dtype, tag, index) };
+    dtype.keeps(lent_dtype);
+    result
+}
+
+/// Writes the tag of the variant at the position, if it is below the number of variants.
+pub(crate) fn union_child_index_to_tag(dtype: &Slot, index: usize, tag: &mut u8) -> u32 {
+    let mut lent_dtype = dtype.lent();
+    // SAFETY: see the head of this file.
+    let result = unsafe { vlt_union_child_index_to_tag(&mut lent_dtype, index, tag) };
+    dtype.keeps(lent_dtype);
+    result
+}
+
+/// Writes the name of the variant at the position, if it is below the number of variants.
+pub(crate) fn union_variant_name(dtype: &Slot, index: usize, buffer: &mut [u8], length: &mut usize) -> u32 {
+    let mut lent_dtype = dtype.lent();
+    // SAFETY: see the head of this file.
+    let result = unsafe { vlt_union_variant_name(&mut lent_dtype, index, buffer.as_mut_ptr(), buffer.len(), length) };
+    dtype.keeps(lent_dtype);
+    result
+}
+
+/// Returns 0 if the tags are 0, 1, 2 and so on.
+pub(crate) fn union_is_consecutive(dtype: &Slot) -> u32 {
+    let mut lent_dtype = dtype.lent();
+    // SAFETY: see the head of this file.
+    let result = unsafe { vlt_union_is_consecutive(&mut lent_dtype) };
+    dtype.keeps(lent_dtype);
+    result
+}
+
+/// Reads a path from its text in the form of the console, for example `a.[].b`, or `.` for the root, and puts it.
+///
+/// If the text can't be read, `position` is the first byte that doesn't fit, counted from 1.
+pub(crate) fn path_from_text(text: &[u8], out: &mut Slot, position: &mut usize) -> u32 {
+    // SAFETY: see the head of this file.
+    unsafe { vlt_path_from_text(text.as_ptr(), text.len(), out, position) }
+}
+
+/// Writes a path in the form of the console, which reads back as the same path.
+pub(crate) fn path_to_text(path: &Slot, buffer: &mut [u8], length: &mut usize) -> u32 {
+    let mut lent_path = path.lent();
+    // SAFETY: see the head of this file.
+    let result = unsafe { vlt_path_to_text(&mut lent_path, buffer.as_mut_ptr(), buffer.len(), length) };
+    path.keeps(lent_path);
     result
 }
 
@@ -834,17 +1166,60 @@ pub(crate) fn path_starts_with_name(path: &Slot, name: &[u8]) -> u32 {
     result
 }
 
-/// Puts the type as far as the paths of the set lead; there is none if no path of the set is in the type.
-pub(crate) fn project_paths(dtype: &Slot, paths: &Slot, out: &mut Slot) -> u32 {
-    if dtype.is(paths) {
+/// Puts the path of these steps.
+pub(crate) fn path_from_steps(names: &[u8], name_lengths: &[usize], out: &mut Slot) -> u32 {
+    // SAFETY: see the head of this file.
+    unsafe { vlt_path_from_steps(names.as_ptr(), names.len(), name_lengths.as_ptr(), name_lengths.len(), out) }
+}
+
+/// Writes a hash: the same of equal paths. It may differ from version to version.
+pub(crate) fn path_hash(path: &Slot, hash: &mut u64) -> u32 {
+    let mut lent_path = path.lent();
+    // SAFETY: see the head of this file.
+    let result = unsafe { vlt_path_hash(&mut lent_path, hash) };
+    path.keeps(lent_path);
+    result
+}
+
+/// Puts the path of a path message of these parts, a name each; VLT_ELEMENT stands for a part without a kind: 136.
+pub(crate) fn path_from_message(names: &[u8], name_lengths: &[usize], out: &mut Slot) -> u32 {
+    // SAFETY: see the head of this file.
+    unsafe { vlt_path_from_message(names.as_ptr(), names.len(), name_lengths.as_ptr(), name_lengths.len(), out) }
+}
+
+/// Writes what the set asks for below the path: whether the path itself is in it, whether a path of it goes on with the
+/// element, and by how many names paths of it go on. Returns 1 if no path of the set begins with the path.
+pub(crate) fn set_below(
+    paths: &Slot,
+    path: &Slot,
+    is_end: &mut bool,
+    has_element: &mut bool,
+    name_count: &mut usize,
+) -> u32 {
+    if paths.is(path) {
         return SAME_SLOT;
     }
-    let mut lent_dtype = dtype.lent();
     let mut lent_paths = paths.lent();
+    let mut lent_path = path.lent();
     // SAFETY: see the head of this file.
-    let result = unsafe { vlt_project_paths(&mut lent_dtype, &mut lent_paths, out) };
-    dtype.keeps(lent_dtype);
+    let result = unsafe { vlt_set_below(&mut lent_paths, &mut lent_path, is_end, has_element, name_count) };
     paths.keeps(lent_paths);
+    path.keeps(lent_path);
+    result
+}
+
+/// Puts the names by which paths of the set go on below the path: a list of paths of one step each, in no promised order.
+/// Returns 1 if no path of the set begins with the path.
+pub(crate) fn set_names_below(paths: &Slot, path: &Slot, out: &mut Slot) -> u32 {
+    if paths.is(path) {
+        return SAME_SLOT;
+    }
+    let mut lent_paths = paths.lent();
+    let mut lent_path = path.lent();
+    // SAFETY: see the head of this file.
+    let result = unsafe { vlt_set_names_below(&mut lent_paths, &mut lent_path, out) };
+    paths.keeps(lent_paths);
+    path.keeps(lent_path);
     result
 }
 
@@ -932,6 +1307,30 @@ pub(crate) fn set_len(paths: &Slot, count: &mut usize) -> u32 {
     result
 }
 
+/// Inserts copies of the paths in these slots, in their order, and writes how many were inserted. After an error those
+/// before it are in.
+pub(crate) fn set_extend(set: &Slot, paths: &mut [Slot], inserted: &mut usize) -> u32 {
+    let mut lent_set = set.lent();
+    // SAFETY: see the head of this file.
+    let result = unsafe { vlt_set_extend(&mut lent_set, paths.as_mut_ptr(), paths.len(), inserted) };
+    set.keeps(lent_set);
+    result
+}
+
+/// Inserts copies of the paths of a list.
+pub(crate) fn set_extend_from_list(set: &Slot, paths: &Slot) -> u32 {
+    if set.is(paths) {
+        return SAME_SLOT;
+    }
+    let mut lent_set = set.lent();
+    let mut lent_paths = paths.lent();
+    // SAFETY: see the head of this file.
+    let result = unsafe { vlt_set_extend_from_list(&mut lent_set, &mut lent_paths) };
+    set.keeps(lent_set);
+    paths.keeps(lent_paths);
+    result
+}
+
 /// Writes how many paths are in the list.
 pub(crate) fn paths_len(paths: &Slot, count: &mut usize) -> u32 {
     let mut lent_paths = paths.lent();
@@ -950,285 +1349,119 @@ pub(crate) fn paths_get(paths: &Slot, index: usize, out: &mut Slot) -> u32 {
     result
 }
 
-/// Writes the number of fields.
-pub(crate) fn struct_nfields(dtype: &Slot, count: &mut usize) -> u32 {
-    let mut lent_dtype = dtype.lent();
-    // SAFETY: see the head of this file.
-    let result = unsafe { vlt_struct_nfields(&mut lent_dtype, count) };
-    dtype.keeps(lent_dtype);
-    result
-}
-
-/// Puts the type of the field at the position, if it is below the number of fields.
-pub(crate) fn struct_field_by_index(dtype: &Slot, index: usize, out: &mut Slot) -> u32 {
-    let mut lent_dtype = dtype.lent();
-    // SAFETY: see the head of this file.
-    let result = unsafe { vlt_struct_field_by_index(&mut lent_dtype, index, out) };
-    dtype.keeps(lent_dtype);
-    result
-}
-
-/// Writes the position of the first field of the name, if there is one.
-pub(crate) fn struct_find(dtype: &Slot, name: &[u8], index: &mut usize) -> u32 {
-    let mut lent_dtype = dtype.lent();
-    // SAFETY: see the head of this file.
-    let result = unsafe { vlt_struct_find(&mut lent_dtype, name.as_ptr(), name.len(), index) };
-    dtype.keeps(lent_dtype);
-    result
-}
-
-/// Puts the type of the first field of the name, if there is one.
-pub(crate) fn struct_field(dtype: &Slot, name: &[u8], out: &mut Slot) -> u32 {
-    let mut lent_dtype = dtype.lent();
-    // SAFETY: see the head of this file.
-    let result = unsafe { vlt_struct_field(&mut lent_dtype, name.as_ptr(), name.len(), out) };
-    dtype.keeps(lent_dtype);
-    result
-}
-
-/// Reads a type from its text in the form of the console, for example `{a=i32, b=list(utf8)?}`, and puts it.
-///
-/// If the text can't be read, `position` is the first byte that doesn't fit, counted from 1.
-pub(crate) fn dtype_from_text(text: &[u8], out: &mut Slot, position: &mut usize) -> u32 {
-    // SAFETY: see the head of this file.
-    unsafe { vlt_dtype_from_text(text.as_ptr(), text.len(), out, position) }
-}
-
-/// Writes a type in the form of the console, which reads back as the same type.
-pub(crate) fn dtype_to_text(dtype: &Slot, buffer: &mut [u8], length: &mut usize) -> u32 {
-    let mut lent_dtype = dtype.lent();
-    // SAFETY: see the head of this file.
-    let result = unsafe { vlt_dtype_to_text(&mut lent_dtype, buffer.as_mut_ptr(), buffer.len(), length) };
-    dtype.keeps(lent_dtype);
-    result
-}
-
-/// Writes a type as the library displays it.
-pub(crate) fn dtype_display(dtype: &Slot, buffer: &mut [u8], length: &mut usize) -> u32 {
-    let mut lent_dtype = dtype.lent();
-    // SAFETY: see the head of this file.
-    let result = unsafe { vlt_dtype_display(&mut lent_dtype, buffer.as_mut_ptr(), buffer.len(), length) };
-    dtype.keeps(lent_dtype);
-    result
-}
-
-/// Puts a copy of the type.
-pub(crate) fn dtype_copy(dtype: &Slot, out: &mut Slot) -> u32 {
-    let mut lent_dtype = dtype.lent();
-    // SAFETY: see the head of this file.
-    let result = unsafe { vlt_dtype_copy(&mut lent_dtype, out) };
-    dtype.keeps(lent_dtype);
-    result
-}
-
-/// Returns 0 if the types are equal.
-pub(crate) fn dtype_eq(one: &Slot, other: &Slot) -> u32 {
-    if one.is(other) {
+/// Puts the type as far as the paths of the set lead; there is none if no path of the set is in the type.
+pub(crate) fn project_paths(dtype: &Slot, paths: &Slot, out: &mut Slot) -> u32 {
+    if dtype.is(paths) {
         return SAME_SLOT;
     }
-    let mut lent_one = one.lent();
-    let mut lent_other = other.lent();
-    // SAFETY: see the head of this file.
-    let result = unsafe { vlt_dtype_eq(&mut lent_one, &mut lent_other) };
-    one.keeps(lent_one);
-    other.keeps(lent_other);
-    result
-}
-
-/// Returns 0 if the types are equal when every nullability in them is ignored.
-pub(crate) fn dtype_eq_ignore_nullability(one: &Slot, other: &Slot) -> u32 {
-    if one.is(other) {
-        return SAME_SLOT;
-    }
-    let mut lent_one = one.lent();
-    let mut lent_other = other.lent();
-    // SAFETY: see the head of this file.
-    let result = unsafe { vlt_dtype_eq_ignore_nullability(&mut lent_one, &mut lent_other) };
-    one.keeps(lent_one);
-    other.keeps(lent_other);
-    result
-}
-
-/// Returns 0 if the types are equal except for nullabilities, and the other is nullable wherever the first is.
-pub(crate) fn dtype_nullability_subset(one: &Slot, other: &Slot) -> u32 {
-    if one.is(other) {
-        return SAME_SLOT;
-    }
-    let mut lent_one = one.lent();
-    let mut lent_other = other.lent();
-    // SAFETY: see the head of this file.
-    let result = unsafe { vlt_dtype_nullability_subset(&mut lent_one, &mut lent_other) };
-    one.keeps(lent_one);
-    other.keeps(lent_other);
-    result
-}
-
-/// Returns 0 if the types are equal except for nullabilities, and the first is nullable wherever the other is.
-pub(crate) fn dtype_nullability_superset(one: &Slot, other: &Slot) -> u32 {
-    if one.is(other) {
-        return SAME_SLOT;
-    }
-    let mut lent_one = one.lent();
-    let mut lent_other = other.lent();
-    // SAFETY: see the head of this file.
-    let result = unsafe { vlt_dtype_nullability_superset(&mut lent_one, &mut lent_other) };
-    one.keeps(lent_one);
-    other.keeps(lent_other);
-    result
-}
-
-/// Puts the least type that takes the values of both, if there is one.
-pub(crate) fn dtype_merge_nullability(one: &Slot, other: &Slot, out: &mut Slot) -> u32 {
-    if one.is(other) {
-        return SAME_SLOT;
-    }
-    let mut lent_one = one.lent();
-    let mut lent_other = other.lent();
-    // SAFETY: see the head of this file.
-    let result = unsafe { vlt_dtype_merge_nullability(&mut lent_one, &mut lent_other, out) };
-    one.keeps(lent_one);
-    other.keeps(lent_other);
-    result
-}
-
-/// Puts the greatest type whose values both take, if there is one.
-pub(crate) fn dtype_intersect_nullability(one: &Slot, other: &Slot, out: &mut Slot) -> u32 {
-    if one.is(other) {
-        return SAME_SLOT;
-    }
-    let mut lent_one = one.lent();
-    let mut lent_other = other.lent();
-    // SAFETY: see the head of this file.
-    let result = unsafe { vlt_dtype_intersect_nullability(&mut lent_one, &mut lent_other, out) };
-    one.keeps(lent_one);
-    other.keeps(lent_other);
-    result
-}
-
-/// Writes the kind of the type: 0 null, 1 bool, 2 primitive, 3 decimal, 4 utf8, 5 binary, 6 list, 7 fixed-size list, 8 map,
-/// 9 struct, 10 union, 11 variant, 12 extension.
-pub(crate) fn dtype_kind(dtype: &Slot, number: &mut u32) -> u32 {
     let mut lent_dtype = dtype.lent();
+    let mut lent_paths = paths.lent();
     // SAFETY: see the head of this file.
-    let result = unsafe { vlt_dtype_kind(&mut lent_dtype, number) };
+    let result = unsafe { vlt_project_paths(&mut lent_dtype, &mut lent_paths, out) };
     dtype.keeps(lent_dtype);
+    paths.keeps(lent_paths);
     result
 }
 
-/// Returns 0 if values of the type may be null.
-pub(crate) fn dtype_is_nullable(dtype: &Slot) -> u32 {
-    let mut lent_dtype = dtype.lent();
+/// Puts the mask that selects everything.
+pub(crate) fn mask_all(out: &mut Slot) -> u32 {
     // SAFETY: see the head of this file.
-    let result = unsafe { vlt_dtype_is_nullable(&mut lent_dtype) };
-    dtype.keeps(lent_dtype);
-    result
+    unsafe { vlt_mask_all(out) }
 }
 
-/// Returns 0 if the type can be made non-nullable: not null, nor an extension over it.
-pub(crate) fn dtype_can_be_nonnullable(dtype: &Slot) -> u32 {
-    let mut lent_dtype = dtype.lent();
-    // SAFETY: see the head of this file.
-    let result = unsafe { vlt_dtype_can_be_nonnullable(&mut lent_dtype) };
-    dtype.keeps(lent_dtype);
-    result
-}
-
-/// Writes the number of variants.
-pub(crate) fn union_len(dtype: &Slot, count: &mut usize) -> u32 {
-    let mut lent_dtype = dtype.lent();
-    // SAFETY: see the head of this file.
-    let result = unsafe { vlt_union_len(&mut lent_dtype, count) };
-    dtype.keeps(lent_dtype);
-    result
-}
-
-/// Puts the type of the variant at the position, if it is below the number of variants.
-pub(crate) fn union_variant_by_index(dtype: &Slot, index: usize, out: &mut Slot) -> u32 {
-    let mut lent_dtype = dtype.lent();
-    // SAFETY: see the head of this file.
-    let result = unsafe { vlt_union_variant_by_index(&mut lent_dtype, index, out) };
-    dtype.keeps(lent_dtype);
-    result
-}
-
-/// Writes the position of the variant of the name, if there is one.
-pub(crate) fn union_find(dtype: &Slot, name: &[u8], index: &mut usize) -> u32 {
-    let mut lent_dtype = dtype.lent();
-    // SAFETY: see the head of this file.
-    let result = unsafe { vlt_union_find(&mut lent_dtype, name.as_ptr(), name.len(), index) };
-    dtype.keeps(lent_dtype);
-    result
-}
-
-/// Puts the type of the variant of the name, if there is one.
-pub(crate) fn union_variant(dtype: &Slot, name: &[u8], out: &mut Slot) -> u32 {
-    let mut lent_dtype = dtype.lent();
-    // SAFETY: see the head of this file.
-    let result = unsafe { vlt_union_variant(&mut lent_dtype, name.as_ptr(), name.len(), out) };
-    dtype.keeps(lent_dtype);
-    result
-}
-
-/// Writes the position of the variant of the tag, if there is one.
-pub(crate) fn union_tag_to_child_index(dtype: &Slot, tag: u8, index: &mut usize) -> u32 {
-    let mut lent_dtype = dtype.lent();
-    // SAFETY: see the head of this file.
-    let result = unsafe { vlt_union_tag_to_child_index(&mut lent_dtype, tag, index) };
-    dtype.keeps(lent_dtype);
-    result
-}
-
-/// Writes the tag of the variant at the position, if it is below the number of variants.
-pub(crate) fn union_child_index_to_tag(dtype: &Slot, index: usize, tag: &mut u8) -> u32 {
-    let mut lent_dtype = dtype.lent();
-    // SAFETY: see the head of this file.
-    let result = unsafe { vlt_union_child_index_to_tag(&mut lent_dtype, index, tag) };
-    dtype.keeps(lent_dtype);
-    result
-}
-
-/// Writes the answer of the console to one line (without its newline); empty where the line is blank or a comment.
-/// 0 where a call was answered, also by an error or a condition of its own; 4 where the line can't be read (the answer says
-/// where); 7, 100. Nothing is kept from line to line.
-pub(crate) fn answer(line: &[u8], buffer: &mut [u8], length: &mut usize) -> u32 {
-    // SAFETY: see the head of this file.
-    unsafe { vlt_answer(line.as_ptr(), line.len(), buffer.as_mut_ptr(), buffer.len(), length) }
-}
-
-/// Puts the path of these steps. 3 where a name isn't UTF-8, 9 where the lengths don't add up.
-pub(crate) fn path_from_steps(names: &[u8], name_lengths: &[usize], out: &mut Slot) -> u32 {
-    // SAFETY: see the head of this file.
-    unsafe { vlt_path_from_steps(names.as_ptr(), names.len(), name_lengths.as_ptr(), name_lengths.len(), out) }
-}
-
-/// Reads a path in the console's form, such as `a.[].b`, or `.` for the root.
-pub(crate) fn path_from_text(text: &[u8], out: &mut Slot, position: &mut usize) -> u32 {
-    // SAFETY: see the head of this file.
-    unsafe { vlt_path_from_text(text.as_ptr(), text.len(), out, position) }
-}
-
-/// Writes a path in the console's form, which reads back as the same path.
-pub(crate) fn path_to_text(path: &Slot, buffer: &mut [u8], length: &mut usize) -> u32 {
+/// Puts the mask of the path and of everything below it.
+pub(crate) fn mask_prefix(path: &Slot, out: &mut Slot) -> u32 {
     let mut lent_path = path.lent();
     // SAFETY: see the head of this file.
-    let result = unsafe { vlt_path_to_text(&mut lent_path, buffer.as_mut_ptr(), buffer.len(), length) };
+    let result = unsafe { vlt_mask_prefix(&mut lent_path, out) };
     path.keeps(lent_path);
     result
 }
 
-/// Writes a hash: the same of equal paths. It may differ from version to version.
-pub(crate) fn path_hash(path: &Slot, hash: &mut u64) -> u32 {
+/// Puts the mask of the path alone.
+pub(crate) fn mask_exact(path: &Slot, out: &mut Slot) -> u32 {
     let mut lent_path = path.lent();
     // SAFETY: see the head of this file.
-    let result = unsafe { vlt_path_hash(&mut lent_path, hash) };
+    let result = unsafe { vlt_mask_exact(&mut lent_path, out) };
     path.keeps(lent_path);
     result
 }
 
-/// Puts the path of a path message of these parts, a name each; VLT_ELEMENT stands for a part without a kind: 136.
-pub(crate) fn path_from_message(names: &[u8], name_lengths: &[usize], out: &mut Slot) -> u32 {
+/// Writes which mask it is: 0 of everything, 1 of a path and what is below it, 2 of a path alone.
+pub(crate) fn mask_kind(mask: &Slot, kind: &mut u32) -> u32 {
+    let mut lent_mask = mask.lent();
     // SAFETY: see the head of this file.
-    unsafe { vlt_path_from_message(names.as_ptr(), names.len(), name_lengths.as_ptr(), name_lengths.len(), out) }
+    let result = unsafe { vlt_mask_kind(&mut lent_mask, kind) };
+    mask.keeps(lent_mask);
+    result
+}
+
+/// Puts the path of the mask; the mask of everything has none.
+pub(crate) fn mask_path(mask: &Slot, out: &mut Slot) -> u32 {
+    let mut lent_mask = mask.lent();
+    // SAFETY: see the head of this file.
+    let result = unsafe { vlt_mask_path(&mut lent_mask, out) };
+    mask.keeps(lent_mask);
+    result
+}
+
+/// Puts a copy of the mask.
+pub(crate) fn mask_copy(mask: &Slot, out: &mut Slot) -> u32 {
+    let mut lent_mask = mask.lent();
+    // SAFETY: see the head of this file.
+    let result = unsafe { vlt_mask_copy(&mut lent_mask, out) };
+    mask.keeps(lent_mask);
+    result
+}
+
+/// Puts the mask after the first step of its path. Of the mask of the root alone it returns 120.
+pub(crate) fn mask_step_into(mask: &Slot, out: &mut Slot) -> u32 {
+    let mut lent_mask = mask.lent();
+    // SAFETY: see the head of this file.
+    let result = unsafe { vlt_mask_step_into(&mut lent_mask, out) };
+    mask.keeps(lent_mask);
+    result
+}
+
+/// Writes the first step of the mask's path, as `vlt_path_step` does. Of the mask of everything it returns 121.
+pub(crate) fn mask_starting_field(mask: &Slot, buffer: &mut [u8], length: &mut usize) -> u32 {
+    let mut lent_mask = mask.lent();
+    // SAFETY: see the head of this file.
+    let result = unsafe { vlt_mask_starting_field(&mut lent_mask, buffer.as_mut_ptr(), buffer.len(), length) };
+    mask.keeps(lent_mask);
+    result
+}
+
+/// Returns 0 if every path is in the mask.
+pub(crate) fn mask_matches_all(mask: &Slot) -> u32 {
+    let mut lent_mask = mask.lent();
+    // SAFETY: see the head of this file.
+    let result = unsafe { vlt_mask_matches_all(&mut lent_mask) };
+    mask.keeps(lent_mask);
+    result
+}
+
+/// Returns 0 if the root is in the mask.
+pub(crate) fn mask_matches_root(mask: &Slot) -> u32 {
+    let mut lent_mask = mask.lent();
+    // SAFETY: see the head of this file.
+    let result = unsafe { vlt_mask_matches_root(&mut lent_mask) };
+    mask.keeps(lent_mask);
+    result
+}
+
+/// Returns 0 if the masks are equal.
+pub(crate) fn mask_eq(one: &Slot, other: &Slot) -> u32 {
+    if one.is(other) {
+        return SAME_SLOT;
+    }
+    let mut lent_one = one.lent();
+    let mut lent_other = other.lent();
+    // SAFETY: see the head of this file.
+    let result = unsafe { vlt_mask_eq(&mut lent_one, &mut lent_other) };
+    one.keeps(lent_one);
+    other.keeps(lent_other);
+    result
 }
 
 /// Reads the message of a type in the console's form.
@@ -1242,6 +1475,56 @@ pub(crate) fn message_to_text(message: &Slot, buffer: &mut [u8], length: &mut us
     let mut lent_message = message.lent();
     // SAFETY: see the head of this file.
     let result = unsafe { vlt_message_to_text(&mut lent_message, buffer.as_mut_ptr(), buffer.len(), length) };
+    message.keeps(lent_message);
+    result
+}
+
+/// Puts the type of a message. 1xx: the first error. Extensions of every id are kept where `allow_unknown`, else 135.
+pub(crate) fn message_read(message: &Slot, allow_unknown: bool, out: &mut Slot) -> u32 {
+    let mut lent_message = message.lent();
+    // SAFETY: see the head of this file.
+    let result = unsafe { vlt_message_read(&mut lent_message, allow_unknown, out) };
+    message.keeps(lent_message);
+    result
+}
+
+/// Puts the message of a type.
+pub(crate) fn message_write(dtype: &Slot, out: &mut Slot) -> u32 {
+    let mut lent_dtype = dtype.lent();
+    // SAFETY: see the head of this file.
+    let result = unsafe { vlt_message_write(&mut lent_dtype, out) };
+    dtype.keeps(lent_dtype);
+    result
+}
+
+/// Puts the normal form of a message: what is written of the type that is read from it.
+pub(crate) fn message_normal(message: &Slot, allow_unknown: bool, out: &mut Slot) -> u32 {
+    let mut lent_message = message.lent();
+    // SAFETY: see the head of this file.
+    let result = unsafe { vlt_message_normal(&mut lent_message, allow_unknown, out) };
+    message.keeps(lent_message);
+    result
+}
+
+/// Returns 0 where the messages are equal in all fields.
+pub(crate) fn message_eq(one: &Slot, other: &Slot) -> u32 {
+    if one.is(other) {
+        return SAME_SLOT;
+    }
+    let mut lent_one = one.lent();
+    let mut lent_other = other.lent();
+    // SAFETY: see the head of this file.
+    let result = unsafe { vlt_message_eq(&mut lent_one, &mut lent_other) };
+    one.keeps(lent_one);
+    other.keeps(lent_other);
+    result
+}
+
+/// Puts a copy.
+pub(crate) fn message_copy(message: &Slot, out: &mut Slot) -> u32 {
+    let mut lent_message = message.lent();
+    // SAFETY: see the head of this file.
+    let result = unsafe { vlt_message_copy(&mut lent_message, out) };
     message.keeps(lent_message);
     result
 }
@@ -1278,283 +1561,11 @@ pub(crate) fn message_to_nodes(
     result
 }
 
-/// Puts the type that `vlt_message_read` gives of the message of these nodes.
-pub(crate) fn dtype_from_nodes(nodes: &[Node], texts: &[u8], allow_unknown: bool, out: &mut Slot) -> u32 {
+/// Writes the answer of the console to one line (without its newline); empty where the line is blank or a comment.
+/// 0 where a call was answered, also by an error or a condition of its own; 4 where the line can't be read (the answer says
+/// where); 7, 100. Nothing is kept from line to line.
+pub(crate) fn answer(line: &[u8], buffer: &mut [u8], length: &mut usize) -> u32 {
     // SAFETY: see the head of this file.
-    unsafe { vlt_dtype_from_nodes(nodes.as_ptr(), nodes.len(), texts.as_ptr(), texts.len(), allow_unknown, out) }
-}
-
-/// Writes the nodes and the pool of the message of a type.
-pub(crate) fn dtype_to_nodes(
-    dtype: &Slot,
-    nodes: &mut [Node],
-    node_count: &mut usize,
-    texts: &mut [u8],
-    text_length: &mut usize,
-) -> u32 {
-    let mut lent_dtype = dtype.lent();
-    // SAFETY: see the head of this file.
-    let result = unsafe {
-        vlt_dtype_to_nodes(
-            &mut lent_dtype,
-            nodes.as_mut_ptr(),
-            nodes.len(),
-            node_count,
-            texts.as_mut_ptr(),
-            texts.len(),
-            text_length,
-        )
-    };
-    dtype.keeps(lent_dtype);
-    result
-}
-
-/// Inserts copies of the paths in these slots, in order, and writes how many were inserted (fewer only on an error).
-pub(crate) fn set_extend(set: &Slot, paths: &mut [Slot], inserted: &mut usize) -> u32 {
-    let mut lent_set = set.lent();
-    // SAFETY: see the head of this file.
-    let result = unsafe { vlt_set_extend(&mut lent_set, paths.as_mut_ptr(), paths.len(), inserted) };
-    set.keeps(lent_set);
-    result
-}
-
-/// Inserts copies of the paths of a list.
-pub(crate) fn set_extend_from_list(set: &Slot, paths: &Slot) -> u32 {
-    if set.is(paths) {
-        return SAME_SLOT;
-    }
-    let mut lent_set = set.lent();
-    let mut lent_paths = paths.lent();
-    // SAFETY: see the head of this file.
-    let result = unsafe { vlt_set_extend_from_list(&mut lent_set, &mut lent_paths) };
-    set.keeps(lent_set);
-    paths.keeps(lent_paths);
-    result
-}
-
-/// Writes what the set wants below a path: whether the path itself is in it, whether one goes on with the element, and by
-/// how many names paths go on; 1 where no path of the set begins with the path.
-pub(crate) fn set_below(
-    set: &Slot,
-    path: &Slot,
-    is_end: &mut bool,
-    has_element: &mut bool,
-    name_count: &mut usize,
-) -> u32 {
-    if set.is(path) {
-        return SAME_SLOT;
-    }
-    let mut lent_set = set.lent();
-    let mut lent_path = path.lent();
-    // SAFETY: see the head of this file.
-    let result = unsafe { vlt_set_below(&mut lent_set, &mut lent_path, is_end, has_element, name_count) };
-    set.keeps(lent_set);
-    path.keeps(lent_path);
-    result
-}
-
-/// Puts the names by which paths of the set go on below a path: a list of paths of one step; 1 where none begins with it.
-pub(crate) fn set_names_below(set: &Slot, path: &Slot, out: &mut Slot) -> u32 {
-    if set.is(path) {
-        return SAME_SLOT;
-    }
-    let mut lent_set = set.lent();
-    let mut lent_path = path.lent();
-    // SAFETY: see the head of this file.
-    let result = unsafe { vlt_set_names_below(&mut lent_set, &mut lent_path, out) };
-    set.keeps(lent_set);
-    path.keeps(lent_path);
-    result
-}
-
-/// Writes what a result means: the library's text of the error from 100 on. 9 where no export returns the number.
-pub(crate) fn error_text(code: u32, buffer: &mut [u8], length: &mut usize) -> u32 {
-    // SAFETY: see the head of this file.
-    unsafe { vlt_error_text(code, buffer.as_mut_ptr(), buffer.len(), length) }
-}
-
-/// Makes the type of maps. 109 where the key is nullable.
-pub(crate) fn dtype_map(key: &Slot, value: &Slot, keys_sorted: bool, nullable: bool, out: &mut Slot) -> u32 {
-    if key.is(value) {
-        return SAME_SLOT;
-    }
-    let mut lent_key = key.lent();
-    let mut lent_value = value.lent();
-    // SAFETY: see the head of this file.
-    let result = unsafe { vlt_dtype_map(&mut lent_key, &mut lent_value, keys_sorted, nullable, out) };
-    key.keeps(lent_key);
-    value.keeps(lent_value);
-    result
-}
-
-/// Makes a struct of these names and types. 9 where there aren't as many of each.
-pub(crate) fn dtype_struct(
-    names: &[u8],
-    name_lengths: &[usize],
-    dtypes: &mut [Slot],
-    nullable: bool,
-    out: &mut Slot,
-) -> u32 {
-    // SAFETY: see the head of this file.
-    unsafe {
-        vlt_dtype_struct(
-            names.as_ptr(),
-            names.len(),
-            name_lengths.as_ptr(),
-            name_lengths.len(),
-            dtypes.as_mut_ptr(),
-            dtypes.len(),
-            nullable,
-            out,
-        )
-    }
-}
-
-/// Makes a union of these names, types and tags. 110 to 113, 115 as the library's `UnionVariants::try_new`.
-pub(crate) fn dtype_union(
-    names: &[u8],
-    name_lengths: &[usize],
-    dtypes: &mut [Slot],
-    tags: &[u8],
-    nullable: bool,
-    out: &mut Slot,
-) -> u32 {
-    // SAFETY: see the head of this file.
-    unsafe {
-        vlt_dtype_union(
-            names.as_ptr(),
-            names.len(),
-            name_lengths.as_ptr(),
-            name_lengths.len(),
-            dtypes.as_mut_ptr(),
-            dtypes.len(),
-            tags.as_ptr(),
-            tags.len(),
-            nullable,
-            out,
-        )
-    }
-}
-
-/// Makes a union of these names and types with the tags 0, 1, 2 ..; 114 where there are more than 256.
-pub(crate) fn dtype_union_consecutive(
-    names: &[u8],
-    name_lengths: &[usize],
-    dtypes: &mut [Slot],
-    nullable: bool,
-    out: &mut Slot,
-) -> u32 {
-    // SAFETY: see the head of this file.
-    unsafe {
-        vlt_dtype_union_consecutive(
-            names.as_ptr(),
-            names.len(),
-            name_lengths.as_ptr(),
-            name_lengths.len(),
-            dtypes.as_mut_ptr(),
-            dtypes.len(),
-            nullable,
-            out,
-        )
-    }
-}
-
-/// Makes an extension type of an id, metadata and a storage type.
-pub(crate) fn dtype_extension(id: &[u8], metadata: &[u8], storage: &Slot, out: &mut Slot) -> u32 {
-    let mut lent_storage = storage.lent();
-    // SAFETY: see the head of this file.
-    let result = unsafe {
-        vlt_dtype_extension(id.as_ptr(), id.len(), metadata.as_ptr(), metadata.len(), &mut lent_storage, out)
-    };
-    storage.keeps(lent_storage);
-    result
-}
-
-/// Puts the type of a map's entries; else 1.
-pub(crate) fn dtype_entries(dtype: &Slot, out: &mut Slot) -> u32 {
-    let mut lent_dtype = dtype.lent();
-    // SAFETY: see the head of this file.
-    let result = unsafe { vlt_dtype_entries(&mut lent_dtype, out) };
-    dtype.keeps(lent_dtype);
-    result
-}
-
-/// Writes how many bytes a value takes where all take as many; 1 where they don't; 119 above `usize`.
-pub(crate) fn dtype_element_size(dtype: &Slot, size: &mut usize) -> u32 {
-    let mut lent_dtype = dtype.lent();
-    // SAFETY: see the head of this file.
-    let result = unsafe { vlt_dtype_element_size(&mut lent_dtype, size) };
-    dtype.keeps(lent_dtype);
-    result
-}
-
-/// Writes the name of the field at the position; 1 past the end.
-pub(crate) fn struct_field_name(dtype: &Slot, index: usize, buffer: &mut [u8], length: &mut usize) -> u32 {
-    let mut lent_dtype = dtype.lent();
-    // SAFETY: see the head of this file.
-    let result = unsafe { vlt_struct_field_name(&mut lent_dtype, index, buffer.as_mut_ptr(), buffer.len(), length) };
-    dtype.keeps(lent_dtype);
-    result
-}
-
-/// Makes the struct of the fields of these names, in their order. 116 where one isn't there.
-pub(crate) fn struct_project(dtype: &Slot, names: &[u8], name_lengths: &[usize], out: &mut Slot) -> u32 {
-    let mut lent_dtype = dtype.lent();
-    // SAFETY: see the head of this file.
-    let result = unsafe {
-        vlt_struct_project(&mut lent_dtype, names.as_ptr(), names.len(), name_lengths.as_ptr(), name_lengths.len(), out)
-    };
-    dtype.keeps(lent_dtype);
-    result
-}
-
-/// Makes the struct without the field at the position. 117 past the end.
-pub(crate) fn struct_without_field(dtype: &Slot, index: usize, out: &mut Slot) -> u32 {
-    let mut lent_dtype = dtype.lent();
-    // SAFETY: see the head of this file.
-    let result = unsafe { vlt_struct_without_field(&mut lent_dtype, index, out) };
-    dtype.keeps(lent_dtype);
-    result
-}
-
-/// Makes the struct of the fields of both. 118 where a name is there twice.
-pub(crate) fn struct_disjoint_merge(one: &Slot, other: &Slot, out: &mut Slot) -> u32 {
-    if one.is(other) {
-        return SAME_SLOT;
-    }
-    let mut lent_one = one.lent();
-    let mut lent_other = other.lent();
-    // SAFETY: see the head of this file.
-    let result = unsafe { vlt_struct_disjoint_merge(&mut lent_one, &mut lent_other, out) };
-    one.keeps(lent_one);
-    other.keeps(lent_other);
-    result
-}
-
-/// Writes the fields, a line each, as the library indents them.
-pub(crate) fn struct_indented(dtype: &Slot, buffer: &mut [u8], length: &mut usize) -> u32 {
-    let mut lent_dtype = dtype.lent();
-    // SAFETY: see the head of this file.
-    let result = unsafe { vlt_struct_indented(&mut lent_dtype, buffer.as_mut_ptr(), buffer.len(), length) };
-    dtype.keeps(lent_dtype);
-    result
-}
-
-/// Writes the name of the variant at the position; 1 past the end.
-pub(crate) fn union_variant_name(dtype: &Slot, index: usize, buffer: &mut [u8], length: &mut usize) -> u32 {
-    let mut lent_dtype = dtype.lent();
-    // SAFETY: see the head of this file.
-    let result = unsafe { vlt_union_variant_name(&mut lent_dtype, index, buffer.as_mut_ptr(), buffer.len(), length) };
-    dtype.keeps(lent_dtype);
-    result
-}
-
-/// Returns 0 where the tags are 0, 1, 2 .. in order.
-pub(crate) fn union_is_consecutive(dtype: &Slot) -> u32 {
-    let mut lent_dtype = dtype.lent();
-    // SAFETY: see the head of this file.
-    let result = unsafe { vlt_union_is_consecutive(&mut lent_dtype) };
-    dtype.keeps(lent_dtype);
-    result
+    unsafe { vlt_answer(line.as_ptr(), line.len(), buffer.as_mut_ptr(), buffer.len(), length) }
 }
 // end of what tools/bindings writes

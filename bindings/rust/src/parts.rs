@@ -77,8 +77,8 @@ impl StructFields<'_> {
             .map(|index| self.field_by_index(index).unwrap_or_else(|| unreachable!("{index} is a position")))
     }
 
-    /// Returns the non-nullable struct of the fields of these names, in their order. The iterator ends before the library
-    /// is called.
+    /// Returns the struct of the fields of these names, in their order, with the nullability of the type. The iterator ends
+    /// before the library is called.
     ///
     /// # Errors
     /// The library's error 16 if no field has one of the names, and [`Error::OutOfMemory`].
@@ -90,7 +90,7 @@ impl StructFields<'_> {
         made(|out| ffi::struct_project(&self.dtype.slot, &projection.text, &projection.lengths, out)).map(DType::of)
     }
 
-    /// Returns the non-nullable struct without the field at the position.
+    /// Returns the struct without the field at the position, with the nullability of the type.
     ///
     /// # Errors
     /// The library's error 17 if there is no such field, and [`Error::OutOfMemory`].
@@ -98,7 +98,7 @@ impl StructFields<'_> {
         made(|out| ffi::struct_without_field(&self.dtype.slot, index, out)).map(DType::of)
     }
 
-    /// Returns the non-nullable struct of the fields of both, these first.
+    /// Returns the struct of the fields of both, these first, with the nullability of the type.
     ///
     /// # Errors
     /// The library's error 18 if a name is there twice, and [`Error::OutOfMemory`].

@@ -147,6 +147,11 @@ fn or_none(it: Option<String>) -> String {
     it.unwrap_or_else(|| "none".to_owned())
 }
 
+/// The fields of a struct as the console answers them: without the nullability of the whole.
+fn fields_text(made: DType) -> Result<String, Left> {
+    Ok(made.as_nonnullable()?.to_source())
+}
+
 fn source_or_none(it: Option<DType>) -> String {
     or_none(it.map(|it| it.to_source()))
 }
@@ -211,16 +216,16 @@ fn answer(words: &[String]) -> Answer {
         ),
         ("without_field", [index, s]) => {
             let dtype = type_of(s)?;
-            dtype.as_struct_fields_opt().ok_or(Left::NoCounterpart)?.without_field(number_of(index)?)?.to_source()
+            fields_text(dtype.as_struct_fields_opt().ok_or(Left::NoCounterpart)?.without_field(number_of(index)?)?)?
         }
         ("project", [names, s]) => {
             let dtype = type_of(s)?;
-            dtype.as_struct_fields_opt().ok_or(Left::NoCounterpart)?.project(names_of(names)?)?.to_source()
+            fields_text(dtype.as_struct_fields_opt().ok_or(Left::NoCounterpart)?.project(names_of(names)?)?)?
         }
         ("disjoint_merge", [a, b]) => {
             let (a, b) = (type_of(a)?, type_of(b)?);
             let (a, b) = (a.as_struct_fields_opt(), b.as_struct_fields_opt());
-            a.ok_or(Left::NoCounterpart)?.disjoint_merge(&b.ok_or(Left::NoCounterpart)?)?.to_source()
+            fields_text(a.ok_or(Left::NoCounterpart)?.disjoint_merge(&b.ok_or(Left::NoCounterpart)?)?)?
         }
         ("variants_len" | "is_consecutive" | "type_ids" | "variants", [u]) => {
             let dtype = type_of(u)?;

@@ -96,3 +96,14 @@ class Bindings(Planted):
         self.change(f"{SOURCES}/lib.rt", "name: &Name", "name: &[u8]")
         self.write(f"{SOURCES}/errors.rt", "pub const OTHER: u32 = 10;\n")
         self.assertIn("OTHER, 10, isn't a result that tools/bindings knows", self.run_tool("bindings", "--check")[1])
+
+    def test_gives_up_without_what_was_proved(self):
+        """A release is only made of a library and programs that were built after the last change of their sources."""
+        archive = f"{os.path.dirname(SOURCES)}/out/libvortex_logical_types.a"
+        for text in ("isn't built from these sources: run ./test, or ./dist --prove", "console isn't proved from these"):
+            status, said = self.run_tool("../dist")
+            self.assertEqual((status, text in said), (2, True), said)
+            self.write(archive, "!<arch>\n")
+        self.change("crates.txt", "vortex_logical_types staticlib: dtype_base\n", "")
+        self.assertEqual(self.run_tool("bindings_runs"), (2, "bindings_runs: crates.txt has no vortex_logical_types\n"))
+        self.assertIn("crates.txt has no vortex_logical_types", self.run_tool("bindings", "--check")[1])

@@ -351,14 +351,6 @@ uint32_t vlt_union_is_consecutive(vlt_slot *dtype);
 
 /* == Paths == */
 
-/* Reads a path from its text in the form of the console, for example `a.[].b`, or `.` for the root, and puts it.
- *
- * If the text can't be read, `position` is the first byte that doesn't fit, counted from 1. */
-uint32_t vlt_path_from_text(const uint8_t *text, size_t text_len, vlt_slot *out, size_t *position);
-
-/* Writes a path in the form of the console, which reads back as the same path. */
-uint32_t vlt_path_to_text(vlt_slot *path, uint8_t *buffer, size_t buffer_len, size_t *length);
-
 /* Puts the path with no step, the root. */
 uint32_t vlt_path_root(vlt_slot *out);
 
@@ -401,6 +393,12 @@ uint32_t vlt_path_starts_with_name(vlt_slot *path, const uint8_t *name, size_t n
 /* Puts the path of these steps. */
 uint32_t vlt_path_from_steps(
         const uint8_t *names, size_t names_len, const size_t *name_lengths, size_t name_lengths_len, vlt_slot *out);
+
+/* Reads a path in the console's form, such as `a.[].b`, or `.` for the root. */
+uint32_t vlt_path_from_text(const uint8_t *text, size_t text_len, vlt_slot *out, size_t *position);
+
+/* Writes a path in the console's form, which reads back as the same path. */
+uint32_t vlt_path_to_text(vlt_slot *path, uint8_t *buffer, size_t buffer_len, size_t *length);
 
 /* Writes a hash: the same of equal paths. It may differ from version to version. */
 uint32_t vlt_path_hash(vlt_slot *path, uint64_t *hash);
@@ -888,21 +886,6 @@ static inline uint32_t vlt_checked_union_variant_name(
 }
 #define vlt_union_variant_name vlt_checked_union_variant_name
 
-static inline uint32_t vlt_checked_path_from_text(
-        const uint8_t *text, size_t text_len, vlt_slot *out, size_t *position) {
-    if (!text && text_len)
-        return VLT_RANGE;
-    return vlt_path_from_text(text ? text : (const uint8_t *)vlt_no_items(), text_len, out, position);
-}
-#define vlt_path_from_text vlt_checked_path_from_text
-
-static inline uint32_t vlt_checked_path_to_text(vlt_slot *path, uint8_t *buffer, size_t buffer_len, size_t *length) {
-    if (!buffer && buffer_len)
-        return VLT_RANGE;
-    return vlt_path_to_text(path, buffer ? buffer : (uint8_t *)vlt_no_items(), buffer_len, length);
-}
-#define vlt_path_to_text vlt_checked_path_to_text
-
 static inline uint32_t vlt_checked_path_step(
         vlt_slot *path, size_t index, uint8_t *buffer, size_t buffer_len, size_t *length) {
     if (!buffer && buffer_len)
@@ -992,6 +975,21 @@ static inline uint32_t vlt_checked_path_from_steps(
             name_lengths ? name_lengths : (const size_t *)vlt_no_items(), name_lengths_len, out);
 }
 #define vlt_path_from_steps vlt_checked_path_from_steps
+
+static inline uint32_t vlt_checked_path_from_text(
+        const uint8_t *text, size_t text_len, vlt_slot *out, size_t *position) {
+    if (!text && text_len)
+        return VLT_RANGE;
+    return vlt_path_from_text(text ? text : (const uint8_t *)vlt_no_items(), text_len, out, position);
+}
+#define vlt_path_from_text vlt_checked_path_from_text
+
+static inline uint32_t vlt_checked_path_to_text(vlt_slot *path, uint8_t *buffer, size_t buffer_len, size_t *length) {
+    if (!buffer && buffer_len)
+        return VLT_RANGE;
+    return vlt_path_to_text(path, buffer ? buffer : (uint8_t *)vlt_no_items(), buffer_len, length);
+}
+#define vlt_path_to_text vlt_checked_path_to_text
 
 static inline uint32_t vlt_checked_path_from_message(
         const uint8_t *names, size_t names_len, const size_t *name_lengths, size_t name_lengths_len, vlt_slot *out) {

@@ -283,18 +283,6 @@ FUNCTIONS = {
         ctypes.POINTER(ctypes.c_size_t),
     ]),
     "vlt_union_is_consecutive": (ctypes.c_uint32, [ctypes.POINTER(Slot)]),
-    "vlt_path_from_text": (ctypes.c_uint32, [
-        ctypes.c_char_p,
-        ctypes.c_size_t,
-        ctypes.POINTER(Slot),
-        ctypes.POINTER(ctypes.c_size_t),
-    ]),
-    "vlt_path_to_text": (ctypes.c_uint32, [
-        ctypes.POINTER(Slot),
-        ctypes.c_void_p,
-        ctypes.c_size_t,
-        ctypes.POINTER(ctypes.c_size_t),
-    ]),
     "vlt_path_root": (ctypes.c_uint32, [ctypes.POINTER(Slot)]),
     "vlt_path_len": (ctypes.c_uint32, [ctypes.POINTER(Slot), ctypes.POINTER(ctypes.c_size_t)]),
     "vlt_path_step": (ctypes.c_uint32, [
@@ -330,6 +318,18 @@ FUNCTIONS = {
         ctypes.POINTER(ctypes.c_size_t),
         ctypes.c_size_t,
         ctypes.POINTER(Slot),
+    ]),
+    "vlt_path_from_text": (ctypes.c_uint32, [
+        ctypes.c_char_p,
+        ctypes.c_size_t,
+        ctypes.POINTER(Slot),
+        ctypes.POINTER(ctypes.c_size_t),
+    ]),
+    "vlt_path_to_text": (ctypes.c_uint32, [
+        ctypes.POINTER(Slot),
+        ctypes.c_void_p,
+        ctypes.c_size_t,
+        ctypes.POINTER(ctypes.c_size_t),
     ]),
     "vlt_path_hash": (ctypes.c_uint32, [ctypes.POINTER(Slot), ctypes.POINTER(ctypes.c_uint64)]),
     "vlt_path_from_message": (ctypes.c_uint32, [

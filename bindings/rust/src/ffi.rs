@@ -18,7 +18,7 @@
 use std::process;
 use std::ptr;
 
-mod heap;
+pub(crate) mod heap;
 
 /// The length that stands for the step into an element, in place of that of a name.
 pub(crate) const ELEMENT: usize = usize::MAX;
@@ -256,8 +256,6 @@ unsafe extern "C" {
         length: *mut usize,
     ) -> u32;
     fn vlt_union_is_consecutive(dtype: *mut Lent) -> u32;
-    fn vlt_path_from_text(text: *const u8, text_len: usize, out: *mut Slot, position: *mut usize) -> u32;
-    fn vlt_path_to_text(path: *mut Lent, buffer: *mut u8, buffer_len: usize, length: *mut usize) -> u32;
     fn vlt_path_root(out: *mut Slot) -> u32;
     fn vlt_path_len(path: *mut Lent, count: *mut usize) -> u32;
     fn vlt_path_step(path: *mut Lent, index: usize, buffer: *mut u8, buffer_len: usize, length: *mut usize) -> u32;
@@ -278,6 +276,8 @@ unsafe extern "C" {
         name_lengths_len: usize,
         out: *mut Slot,
     ) -> u32;
+    fn vlt_path_from_text(text: *const u8, text_len: usize, out: *mut Slot, position: *mut usize) -> u32;
+    fn vlt_path_to_text(path: *mut Lent, buffer: *mut u8, buffer_len: usize, length: *mut usize) -> u32;
     fn vlt_path_hash(path: *mut Lent, hash: *mut u64) -> u32;
     fn vlt_path_from_message(
         names: *const u8,
@@ -1015,23 +1015,6 @@ pub(crate) fn union_is_consecutive(dtype: &Slot) -> u32 {
     result
 }
 
-/// Reads a path from its text in the form of the console, for example `a.[].b`, or `.` for the root, and puts it.
-///
-/// If the text can't be read, `position` is the first byte that doesn't fit, counted from 1.
-pub(crate) fn path_from_text(text: &[u8], out: &mut Slot, position: &mut usize) -> u32 {
-    // SAFETY: see the head of this file.
-    unsafe { vlt_path_from_text(text.as_ptr(), text.len(), out, position) }
-}
-
-/// Writes a path in the form of the console, which reads back as the same path.
-pub(crate) fn path_to_text(path: &Slot, buffer: &mut [u8], length: &mut usize) -> u32 {
-    let mut lent_path = path.lent();
-    // SAFETY: see the head of this file.
-    let result = unsafe { vlt_path_to_text(&mut lent_path, buffer.as_mut_ptr(), buffer.len(), length) };
-    path.keeps(lent_path);
-    result
-}
-
 /// Puts the path with no step, the root.
 pub(crate) fn path_root(out: &mut Slot) -> u32 {
     // SAFETY: see the head of this file.
@@ -1170,6 +1153,21 @@ pub(crate) fn path_starts_with_name(path: &Slot, name: &[u8]) -> u32 {
 pub(crate) fn path_from_steps(names: &[u8], name_lengths: &[usize], out: &mut Slot) -> u32 {
     // SAFETY: see the head of this file.
     unsafe { vlt_path_from_steps(names.as_ptr(), names.len(), name_lengths.as_ptr(), name_lengths.len(), out) }
+}
+
+/// Reads a path in the console's form, such as `a.[].b`, or `.` for the root.
+pub(crate) fn path_from_text(text: &[u8], out: &mut Slot, position: &mut usize) -> u32 {
+    // SAFETY: see the head of this file.
+    unsafe { vlt_path_from_text(text.as_ptr(), text.len(), out, position) }
+}
+
+/// Writes a path in the console's form, which reads back as the same path.
+pub(crate) fn path_to_text(path: &Slot, buffer: &mut [u8], length: &mut usize) -> u32 {
+    let mut lent_path = path.lent();
+    // SAFETY: see the head of this file.
+    let result = unsafe { vlt_path_to_text(&mut lent_path, buffer.as_mut_ptr(), buffer.len(), length) };
+    path.keeps(lent_path);
+    result
 }
 
 /// Writes a hash: the same of equal paths. It may differ from version to version.

@@ -83,6 +83,8 @@ mod error;
 #[rustfmt::skip]
 mod ffi;
 mod masks;
+#[cfg(test)]
+mod memory;
 mod messages;
 mod parts;
 mod paths;

@@ -29,9 +29,21 @@ fn tried(at: *mut c_void) -> Tried {
     }
 }
 
+/// Whether the allocation is refused, which only tests ask for: see `refusing`.
+#[cfg(not(test))]
+fn is_refused() -> bool {
+    false
+}
+
+#[cfg(test)]
+use refusing::is_refused;
+
 /// A block of `size` bytes; of no bytes one of `align` bytes, so that `malloc` has no reason to return null.
 #[unsafe(no_mangle)]
 extern "C" fn rattle_alloc(size: usize, align: usize) -> Tried {
+    if is_refused() {
+        return tried(std::ptr::null_mut());
+    }
     // SAFETY: any size may be given; the library asks for no alignment above the 16 bytes that malloc promises.
     tried(unsafe { malloc(if size == 0 { align } else { size }) })
 }
@@ -39,6 +51,9 @@ extern "C" fn rattle_alloc(size: usize, align: usize) -> Tried {
 /// The block with `size` bytes, of which the first `kept` are as before. Where there is no memory the block stays.
 #[unsafe(no_mangle)]
 unsafe extern "C" fn rattle_realloc(at: *mut c_void, _kept: usize, size: usize, align: usize) -> Tried {
+    if is_refused() {
+        return tried(std::ptr::null_mut());
+    }
     // SAFETY: the library gives a block that `rattle_alloc` or this function returned and that it owns.
     tried(unsafe { realloc(at, if size == 0 { align } else { size }) })
 }
@@ -47,4 +62,21 @@ unsafe extern "C" fn rattle_realloc(at: *mut c_void, _kept: usize, size: usize, 
 unsafe extern "C" fn rattle_dealloc(at: *mut c_void) {
     // SAFETY: as above.
     unsafe { free(at) }
+}
+
+/// In tests one allocation of a thread is refused.
+#[cfg(test)]
+pub(crate) mod refusing {
+    use std::cell::Cell;
+
+    thread_local! {
+        /// How many allocations go well before one is refused.
+        pub(crate) static BEFORE: Cell<usize> = const { Cell::new(usize::MAX) };
+    }
+
+    pub(super) fn is_refused() -> bool {
+        let left = BEFORE.get();
+        BEFORE.set(left.wrapping_sub(1));
+        left == 0
+    }
 }

@@ -1,0 +1,81 @@
+// SPDX-License-Identifier: Apache-2.0
+// SPDX-FileCopyrightText: Copyright the Vortex contributors
+
+//! Tests of what calls do when memory runs out: each allocation of the library is refused in turn.
+use crate::ffi::heap::refusing::BEFORE;
+use crate::{DType, Error, FieldMask, FieldPath, FieldPathSet, Message, Nullability::Nullable, PType};
+
+/// What a call returns, which if it says that memory ran out is made once more.
+fn again<T>(lacked: &mut usize, call: impl Fn() -> Result<T, Error>) -> T {
+    let result = match call() {
+        Err(Error::OutOfMemory) => {
+            *lacked += 1;
+            call()
+        }
+        other => other,
+    };
+    result.expect("a call that memory alone can stop")
+}
+
+/// Calls of each form, and how many of them said that memory ran out.
+fn calls() -> usize {
+    let mut lacked = 0;
+    let n = &mut lacked;
+    let source = "{a=list({b=u32, c=utf8})?, d=i8}";
+    let whole = again(n, || source.parse::<DType>());
+    let other = again(n, || "{a=list({b=u32?, c=utf8}), d=i8}".parse::<DType>());
+    again(n, DType::try_null);
+    again(n, || DType::try_primitive(PType::U8, Nullable));
+    again(n, || DType::list(&whole, Nullable));
+    again(n, || DType::struct_([("x", whole.try_clone()?), ("y", other.try_clone()?)], Nullable));
+    let path = again(n, || "a.[].b".parse::<FieldPath>());
+    assert_eq!(again(n, || path.try_resolve(&whole)).map(|it| it.kind()), Some(crate::Kind::Primitive));
+    again(n, || path.try_push("x"));
+    again(n, || path.try_step_into());
+    again(n, || FieldPath::try_from_name("x"));
+    let set = again(n, || FieldPathSet::try_from_iter([&path]));
+    let mut longer = again(n, || set.try_clone());
+    if let Err(error) = longer.try_insert(again(n, || "d".parse::<FieldPath>())) {
+        assert_eq!((error, longer.len()), (Error::OutOfMemory, 1));
+        *n += 1;
+        longer.insert(again(n, || "d".parse::<FieldPath>()));
+    }
+    assert_eq!(longer.len(), 2);
+    let mut cover = again(n, || longer.try_cover());
+    loop {
+        match cover.try_next() {
+            Ok(Some(path)) => assert!(path.exists_in(&whole)),
+            Ok(None) => break,
+            Err(error) => {
+                assert_eq!(error, Error::OutOfMemory);
+                *n += 1;
+            }
+        }
+    }
+    assert_eq!(again(n, || whole.try_project_paths(&longer)).map(|it| it.is_struct()), Some(true));
+    assert!(again(n, || whole.try_merge_nullability(&other)).is_some_and(|it| it.eq_ignore_nullability(&other)));
+    assert_eq!(again(n, || whole.try_to_source()), source);
+    let message = again(n, || whole.try_to_message());
+    assert!(again(n, || message.read(false)) == whole);
+    let flat = again(n, || message.to_nodes());
+    assert!(again(n, || Message::from_nodes(&flat)) == message);
+    again(n, || FieldMask::try_prefix(&path)?.step_into());
+    lacked
+}
+
+#[test]
+fn each_allocation_is_refused_in_turn() {
+    let mut refused = 0;
+    loop {
+        BEFORE.set(refused);
+        let lacked = calls();
+        let is_reached = BEFORE.get() > refused;
+        BEFORE.set(usize::MAX);
+        if !is_reached {
+            break;
+        }
+        assert_eq!(lacked, 1, "allocation {refused}");
+        refused += 1;
+    }
+    assert!(refused > 50, "only {refused} allocations");
+}

@@ -218,6 +218,17 @@ uint32_t vlt_dtype_decimal_parts(vlt_slot *dtype, uint8_t *precision, int8_t *sc
 /* Returns 0 if the keys of the map are declared sorted, and 5 if the type is no map. */
 uint32_t vlt_dtype_keys_sorted(vlt_slot *dtype);
 
+/* Reads a type from its text in the form of the console, for example `{a=i32, b=list(utf8)?}`, and puts it.
+ *
+ * If the text can't be read, `position` is the first byte that doesn't fit, counted from 1. */
+uint32_t vlt_dtype_from_text(const uint8_t *text, size_t text_len, vlt_slot *out, size_t *position);
+
+/* Writes a type in the form of the console, which reads back as the same type. */
+uint32_t vlt_dtype_to_text(vlt_slot *dtype, uint8_t *buffer, size_t buffer_len, size_t *length);
+
+/* Writes a type as the library displays it. */
+uint32_t vlt_dtype_display(vlt_slot *dtype, uint8_t *buffer, size_t buffer_len, size_t *length);
+
 /* Puts a copy of the type. */
 uint32_t vlt_dtype_copy(vlt_slot *dtype, vlt_slot *out);
 
@@ -275,15 +286,6 @@ uint32_t vlt_dtype_to_nodes(
         vlt_slot *dtype, vlt_node *nodes, size_t nodes_len, size_t *node_count, uint8_t *texts, size_t texts_len,
         size_t *text_length);
 
-/* Reads a type from the console's form. 4 with the byte's position where it can't be read, 6 where it is too deep. */
-uint32_t vlt_dtype_from_text(const uint8_t *text, size_t text_len, vlt_slot *out, size_t *position);
-
-/* Writes a type in the console's form, which reads back as the same type. */
-uint32_t vlt_dtype_to_text(vlt_slot *dtype, uint8_t *buffer, size_t buffer_len, size_t *length);
-
-/* Writes a type as the library displays it. */
-uint32_t vlt_dtype_display(vlt_slot *dtype, uint8_t *buffer, size_t buffer_len, size_t *length);
-
 
 /* == Structs (of another type the calls return VLT_CONDITION) == */
 
@@ -318,7 +320,7 @@ uint32_t vlt_struct_field(vlt_slot *dtype, const uint8_t *name, size_t name_len,
 /* Writes the name of the field at the position, if it is below the number of fields. */
 uint32_t vlt_struct_field_name(vlt_slot *dtype, size_t index, uint8_t *buffer, size_t buffer_len, size_t *length);
 
-/* Writes the fields, a line each, as the library indents them. */
+/* Writes the fields of a struct over several lines, one field a line, as the library indents them. */
 uint32_t vlt_struct_indented(vlt_slot *dtype, uint8_t *buffer, size_t buffer_len, size_t *length);
 
 
@@ -390,6 +392,9 @@ uint32_t vlt_path_display(vlt_slot *path, uint8_t *buffer, size_t buffer_len, si
 /* Returns 0 if the first step is into the field of this name, and 5 if it is into the element. */
 uint32_t vlt_path_starts_with_name(vlt_slot *path, const uint8_t *name, size_t name_len);
 
+/* Writes a hash of the path, which is the same for equal paths. It may differ from version to version. */
+uint32_t vlt_path_hash(vlt_slot *path, uint64_t *hash);
+
 /* Puts the path of these steps. */
 uint32_t vlt_path_from_steps(
         const uint8_t *names, size_t names_len, const size_t *name_lengths, size_t name_lengths_len, vlt_slot *out);
@@ -399,9 +404,6 @@ uint32_t vlt_path_from_text(const uint8_t *text, size_t text_len, vlt_slot *out,
 
 /* Writes a path in the console's form, which reads back as the same path. */
 uint32_t vlt_path_to_text(vlt_slot *path, uint8_t *buffer, size_t buffer_len, size_t *length);
-
-/* Writes a hash: the same of equal paths. It may differ from version to version. */
-uint32_t vlt_path_hash(vlt_slot *path, uint64_t *hash);
 
 /* Puts the path of a path message of these parts, a name each; VLT_ELEMENT stands for a part without a kind: 136. */
 uint32_t vlt_path_from_message(
@@ -537,9 +539,9 @@ uint32_t vlt_message_to_nodes(
 
 /* == The console == */
 
-/* Writes the answer of the console to one line (without its newline); empty where the line is blank or a comment.
- * 0 where a call was answered, also by an error or a condition of its own; 4 where the line can't be read (the answer says
- * where); 7, 100. Nothing is kept from line to line. */
+/* Writes the answer of the console to one line (without its newline), also if the line can't be read or the call returns an
+ * error: the text says so. 1 if the line has no answer (blank, a comment, `exit`); 7; 100. Nothing is kept from line to line.
+ * (NOT PROVED YET: its libraries aren't built; perhaps it comes later.) */
 uint32_t vlt_answer(const uint8_t *line, size_t line_len, uint8_t *buffer, size_t buffer_len, size_t *length);
 
 /* A call of a function above that takes two slots, or a pointer and a length, is a call of the inline
@@ -668,6 +670,28 @@ static inline uint32_t vlt_checked_dtype_metadata(vlt_slot *dtype, uint8_t *buff
 }
 #define vlt_dtype_metadata vlt_checked_dtype_metadata
 
+static inline uint32_t vlt_checked_dtype_from_text(
+        const uint8_t *text, size_t text_len, vlt_slot *out, size_t *position) {
+    if (!text && text_len)
+        return VLT_RANGE;
+    return vlt_dtype_from_text(text ? text : (const uint8_t *)vlt_no_items(), text_len, out, position);
+}
+#define vlt_dtype_from_text vlt_checked_dtype_from_text
+
+static inline uint32_t vlt_checked_dtype_to_text(vlt_slot *dtype, uint8_t *buffer, size_t buffer_len, size_t *length) {
+    if (!buffer && buffer_len)
+        return VLT_RANGE;
+    return vlt_dtype_to_text(dtype, buffer ? buffer : (uint8_t *)vlt_no_items(), buffer_len, length);
+}
+#define vlt_dtype_to_text vlt_checked_dtype_to_text
+
+static inline uint32_t vlt_checked_dtype_display(vlt_slot *dtype, uint8_t *buffer, size_t buffer_len, size_t *length) {
+    if (!buffer && buffer_len)
+        return VLT_RANGE;
+    return vlt_dtype_display(dtype, buffer ? buffer : (uint8_t *)vlt_no_items(), buffer_len, length);
+}
+#define vlt_dtype_display vlt_checked_dtype_display
+
 static inline uint32_t vlt_checked_dtype_copy(vlt_slot *dtype, vlt_slot *out) {
     if (dtype == out)
         return VLT_SAME_SLOT;
@@ -766,28 +790,6 @@ static inline uint32_t vlt_checked_dtype_to_nodes(
             texts ? texts : (uint8_t *)vlt_no_items(), texts_len, text_length);
 }
 #define vlt_dtype_to_nodes vlt_checked_dtype_to_nodes
-
-static inline uint32_t vlt_checked_dtype_from_text(
-        const uint8_t *text, size_t text_len, vlt_slot *out, size_t *position) {
-    if (!text && text_len)
-        return VLT_RANGE;
-    return vlt_dtype_from_text(text ? text : (const uint8_t *)vlt_no_items(), text_len, out, position);
-}
-#define vlt_dtype_from_text vlt_checked_dtype_from_text
-
-static inline uint32_t vlt_checked_dtype_to_text(vlt_slot *dtype, uint8_t *buffer, size_t buffer_len, size_t *length) {
-    if (!buffer && buffer_len)
-        return VLT_RANGE;
-    return vlt_dtype_to_text(dtype, buffer ? buffer : (uint8_t *)vlt_no_items(), buffer_len, length);
-}
-#define vlt_dtype_to_text vlt_checked_dtype_to_text
-
-static inline uint32_t vlt_checked_dtype_display(vlt_slot *dtype, uint8_t *buffer, size_t buffer_len, size_t *length) {
-    if (!buffer && buffer_len)
-        return VLT_RANGE;
-    return vlt_dtype_display(dtype, buffer ? buffer : (uint8_t *)vlt_no_items(), buffer_len, length);
-}
-#define vlt_dtype_display vlt_checked_dtype_display
 
 static inline uint32_t vlt_checked_struct_without_field(vlt_slot *dtype, size_t index, vlt_slot *out) {
     if (dtype == out)

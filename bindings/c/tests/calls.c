@@ -97,7 +97,7 @@ static void general(void) {
     vlt_free(&s[0]);
     HOLDS(vlt_kind(&s[0]) == 0);
     DONE(vlt_error_text(100, buffer, sizeof buffer, &length));
-    HOLDS(length == 13 && memcmp(buffer, "out of memory", 13) == 0);
+    HOLDS(length == 20 && memcmp(buffer, "an allocation failed", 20) == 0);
     DONE(vlt_error_text(109, buffer, sizeof buffer, &length));
     IS(VLT_RANGE, vlt_error_text(137, buffer, sizeof buffer, &length));
     IS(VLT_RANGE, vlt_error_text(99, buffer, sizeof buffer, &length));
@@ -138,15 +138,15 @@ static void texts(void) {
     /* (a name of a zero byte) */
     DONE(vlt_dtype_from_text((const uint8_t *)"{\"a\0b\"=i32}", 11, &s[1], &position));
     DONE(vlt_struct_find(&s[1], (const uint8_t *)"a\0b", 3, &length));
-    /* 128 levels can be read, and 129 can't. */
-    long_text = (uint8_t *)malloc(6 * 129);
-    for (room = 127; room <= 128; room++) {
+    /* 128 levels below a type can be read, and 129 can't. */
+    long_text = (uint8_t *)malloc(6 * 129 + 2);
+    for (room = 129; room >= 128; room--) {
         size_t at;
         for (at = 0; at < room; at++)
             memcpy(long_text + 5 * at, "list(", 5);
         memcpy(long_text + 5 * room, "i8", 2);
         memset(long_text + 5 * room + 2, ')', room);
-        IS(room == 127 ? VLT_DONE : VLT_DEEP, vlt_dtype_from_text(long_text, 6 * room + 2, &s[1], &position));
+        IS(room == 128 ? VLT_DONE : VLT_DEEP, vlt_dtype_from_text(long_text, 6 * room + 2, &s[1], &position));
     }
     free(long_text);
     IS(VLT_DEEP, vlt_dtype_list(&s[1], false, &s[0]));

@@ -182,7 +182,7 @@ class DType(Object):
     @staticmethod
     def map_(key: DType, value: DType, keys_sorted: bool = False, nullable: bool = False) -> DType:
         """Raises `LibraryError` 109 if the key is nullable."""
-        return made(DType, native.vlt_dtype_map, key._own, value._other_than(key)._own, keys_sorted, nullable)
+        return made(DType, native.vlt_dtype_map, key._own, value._other_than(key), keys_sorted, nullable)
 
     @staticmethod
     def struct(fields: Iterable[tuple[str, DType]], nullable: bool = False) -> DType:
@@ -332,7 +332,7 @@ class DType(Object):
 
     def disjoint_merge(self, other: DType) -> DType:
         """The struct of the fields of both. Raises `LibraryError` 118 if a name is there twice."""
-        return made(DType, native.vlt_struct_disjoint_merge, self._own, other._other_than(self)._own)
+        return made(DType, native.vlt_struct_disjoint_merge, self._own, other._other_than(self))
 
     def indented(self) -> str:
         return text(native.vlt_struct_indented, self._own)
@@ -398,11 +398,11 @@ class DType(Object):
 
     def merge_nullability(self, other: DType) -> Optional[DType]:
         """The least type that takes the values of both, if there is one."""
-        return found(DType, native.vlt_dtype_merge_nullability, self._own, other._other_than(self)._own)
+        return found(DType, native.vlt_dtype_merge_nullability, self._own, other._other_than(self))
 
     def intersect_nullability(self, other: DType) -> Optional[DType]:
         """The greatest type whose values both take, if there is one."""
-        return found(DType, native.vlt_dtype_intersect_nullability, self._own, other._other_than(self)._own)
+        return found(DType, native.vlt_dtype_intersect_nullability, self._own, other._other_than(self))
 
     def project_paths(self, paths: FieldPathSet) -> Optional[DType]:
         """The type as far as the paths lead, or None if none leads to a type."""
@@ -564,7 +564,8 @@ class FieldPathSet(Object):
         self.extend(given)
 
     def insert(self, path: Union[FieldPath, str]) -> None:
-        is_done(native.vlt_set_insert(self._own, _path(path)._own))
+        it = _path(path)
+        is_done(native.vlt_set_insert(self._own, it._own))
 
     def extend(self, paths: Iterable[Union[FieldPath, str]]) -> None:
         """Inserts the paths, in order. The iteration ends before the first is inserted."""
@@ -572,7 +573,8 @@ class FieldPathSet(Object):
             is_done(native.vlt_set_insert(self._own, it._own))
 
     def __contains__(self, path: Union[FieldPath, str]) -> bool:
-        return is_done(native.vlt_set_contains(self._own, _path(path)._own))
+        it = _path(path)
+        return is_done(native.vlt_set_contains(self._own, it._own))
 
     def __len__(self) -> int:
         return number(ctypes.c_size_t, native.vlt_set_len, self._own) or 0
@@ -594,13 +596,14 @@ class FieldPathSet(Object):
     def below(self, path: Union[FieldPath, str]) -> Optional[Below]:
         """What the set says below a path, or None if no path of the set begins with it."""
         is_end, has_element, count = ctypes.c_bool(), ctypes.c_bool(), ctypes.c_size_t()
-        if not is_done(native.vlt_set_below(self._own, _path(path)._own, is_end, has_element, count)):
+        it = _path(path)
+        if not is_done(native.vlt_set_below(self._own, it._own, is_end, has_element, count)):
             return None
         return Below(is_end.value, has_element.value, count.value)
 
     def names_below(self, path: Union[FieldPath, str]) -> Optional[list[str]]:
         """The names by which paths of the set go on below a path, or None if no path of the set begins with it."""
-        it = found(_Paths, native.vlt_set_names_below, self._own, _path(path)._own)
+        it = found(_Paths, native.vlt_set_names_below, self._own, _path(path))
         return None if it is None else [str(path[0]) for path in it.all()]
 
     def copy(self) -> FieldPathSet:
@@ -624,11 +627,11 @@ class FieldMask(Object):
 
     @staticmethod
     def prefix(path: Union[FieldPath, str]) -> FieldMask:
-        return made(FieldMask, native.vlt_mask_prefix, _path(path)._own)
+        return made(FieldMask, native.vlt_mask_prefix, _path(path))
 
     @staticmethod
     def exact(path: Union[FieldPath, str]) -> FieldMask:
-        return made(FieldMask, native.vlt_mask_exact, _path(path)._own)
+        return made(FieldMask, native.vlt_mask_exact, _path(path))
 
     @property
     def kind(self) -> str:

@@ -153,9 +153,10 @@ def is_done(code: int) -> bool:
 
 
 def found(cls: type, call: Callable[..., int], *arguments: Any) -> Any:
-    """The object that a call puts into a slot, or None."""
+    """The object that a call puts into a slot, or None. An argument may be an object that nothing else refers to."""
     out = Slot()
-    return cls.__new__(cls)._take(out) if is_done(call(*arguments, out)) else None
+    slots = [it._own if isinstance(it, Object) else it for it in arguments]
+    return cls.__new__(cls)._take(out) if is_done(call(*slots, out)) else None
 
 
 def made(cls: type, call: Callable[..., int], *arguments: Any) -> Any:

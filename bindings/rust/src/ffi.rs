@@ -179,6 +179,9 @@ unsafe extern "C" {
     fn vlt_dtype_fixed_size(dtype: *mut Lent, size: *mut u32) -> u32;
     fn vlt_dtype_decimal_parts(dtype: *mut Lent, precision: *mut u8, scale: *mut i8) -> u32;
     fn vlt_dtype_keys_sorted(dtype: *mut Lent) -> u32;
+    fn vlt_dtype_from_text(text: *const u8, text_len: usize, out: *mut Slot, position: *mut usize) -> u32;
+    fn vlt_dtype_to_text(dtype: *mut Lent, buffer: *mut u8, buffer_len: usize, length: *mut usize) -> u32;
+    fn vlt_dtype_display(dtype: *mut Lent, buffer: *mut u8, buffer_len: usize, length: *mut usize) -> u32;
     fn vlt_dtype_copy(dtype: *mut Lent, out: *mut Slot) -> u32;
     fn vlt_dtype_eq(one: *mut Lent, other: *mut Lent) -> u32;
     fn vlt_dtype_eq_ignore_nullability(one: *mut Lent, other: *mut Lent) -> u32;
@@ -217,9 +220,6 @@ unsafe extern "C" {
         texts_len: usize,
         text_length: *mut usize,
     ) -> u32;
-    fn vlt_dtype_from_text(text: *const u8, text_len: usize, out: *mut Slot, position: *mut usize) -> u32;
-    fn vlt_dtype_to_text(dtype: *mut Lent, buffer: *mut u8, buffer_len: usize, length: *mut usize) -> u32;
-    fn vlt_dtype_display(dtype: *mut Lent, buffer: *mut u8, buffer_len: usize, length: *mut usize) -> u32;
     fn vlt_struct_without_field(dtype: *mut Lent, index: usize, out: *mut Slot) -> u32;
     fn vlt_struct_disjoint_merge(one: *mut Lent, other: *mut Lent, out: *mut Slot) -> u32;
     fn vlt_struct_project(
@@ -269,6 +269,7 @@ unsafe extern "C" {
     fn vlt_path_exists_in(dtype: *mut Lent, path: *mut Lent) -> u32;
     fn vlt_path_display(path: *mut Lent, buffer: *mut u8, buffer_len: usize, length: *mut usize) -> u32;
     fn vlt_path_starts_with_name(path: *mut Lent, name: *const u8, name_len: usize) -> u32;
+    fn vlt_path_hash(path: *mut Lent, hash: *mut u64) -> u32;
     fn vlt_path_from_steps(
         names: *const u8,
         names_len: usize,
@@ -278,7 +279,6 @@ unsafe extern "C" {
     ) -> u32;
     fn vlt_path_from_text(text: *const u8, text_len: usize, out: *mut Slot, position: *mut usize) -> u32;
     fn vlt_path_to_text(path: *mut Lent, buffer: *mut u8, buffer_len: usize, length: *mut usize) -> u32;
-    fn vlt_path_hash(path: *mut Lent, hash: *mut u64) -> u32;
     fn vlt_path_from_message(
         names: *const u8,
         names_len: usize,
@@ -629,6 +629,32 @@ pub(crate) fn dtype_keys_sorted(dtype: &Slot) -> u32 {
     result
 }
 
+/// Reads a type from its text in the form of the console, for example `{a=i32, b=list(utf8)?}`, and puts it.
+///
+/// If the text can't be read, `position` is the first byte that doesn't fit, counted from 1.
+pub(crate) fn dtype_from_text(text: &[u8], out: &mut Slot, position: &mut usize) -> u32 {
+    // SAFETY: see the head of this file.
+    unsafe { vlt_dtype_from_text(text.as_ptr(), text.len(), out, position) }
+}
+
+/// Writes a type in the form of the console, which reads back as the same type.
+pub(crate) fn dtype_to_text(dtype: &Slot, buffer: &mut [u8], length: &mut usize) -> u32 {
+    let mut lent_dtype = dtype.lent();
+    // SAFETY: see the head of this file.
+    let result = unsafe { vlt_dtype_to_text(&mut lent_dtype, buffer.as_mut_ptr(), buffer.len(), length) };
+    dtype.keeps(lent_dtype);
+    result
+}
+
+/// Writes a type as the library displays it.
+pub(crate) fn dtype_display(dtype: &Slot, buffer: &mut [u8], length: &mut usize) -> u32 {
+    let mut lent_dtype = dtype.lent();
+    // SAFETY: see the head of this file.
+    let result = unsafe { vlt_dtype_display(&mut lent_dtype, buffer.as_mut_ptr(), buffer.len(), length) };
+    dtype.keeps(lent_dtype);
+    result
+}
+
 /// Puts a copy of the type.
 pub(crate) fn dtype_copy(dtype: &Slot, out: &mut Slot) -> u32 {
     let mut lent_dtype = dtype.lent();
@@ -826,30 +852,6 @@ pub(crate) fn dtype_to_nodes(
     result
 }
 
-/// Reads a type from the console's form. 4 with the byte's position where it can't be read, 6 where it is too deep.
-pub(crate) fn dtype_from_text(text: &[u8], out: &mut Slot, position: &mut usize) -> u32 {
-    // SAFETY: see the head of this file.
-    unsafe { vlt_dtype_from_text(text.as_ptr(), text.len(), out, position) }
-}
-
-/// Writes a type in the console's form, which reads back as the same type.
-pub(crate) fn dtype_to_text(dtype: &Slot, buffer: &mut [u8], length: &mut usize) -> u32 {
-    let mut lent_dtype = dtype.lent();
-    // SAFETY: see the head of this file.
-    let result = unsafe { vlt_dtype_to_text(&mut lent_dtype, buffer.as_mut_ptr(), buffer.len(), length) };
-    dtype.keeps(lent_dtype);
-    result
-}
-
-/// Writes a type as the library displays it.
-pub(crate) fn dtype_display(dtype: &Slot, buffer: &mut [u8], length: &mut usize) -> u32 {
-    let mut lent_dtype = dtype.lent();
-    // SAFETY: see the head of this file.
-    let result = unsafe { vlt_dtype_display(&mut lent_dtype, buffer.as_mut_ptr(), buffer.len(), length) };
-    dtype.keeps(lent_dtype);
-    result
-}
-
 /// Puts the struct without the field at the position, with the nullability of the type. If the position is not below the
 /// number of fields, it returns 117.
 pub(crate) fn struct_without_field(dtype: &Slot, index: usize, out: &mut Slot) -> u32 {
@@ -934,7 +936,7 @@ pub(crate) fn struct_field_name(dtype: &Slot, index: usize, buffer: &mut [u8], l
     result
 }
 
-/// Writes the fields, a line each, as the library indents them.
+/// Writes the fields of a struct over several lines, one field a line, as the library indents them.
 pub(crate) fn struct_indented(dtype: &Slot, buffer: &mut [u8], length: &mut usize) -> u32 {
     let mut lent_dtype = dtype.lent();
     // SAFETY: see the head of this file.
@@ -1149,6 +1151,15 @@ pub(crate) fn path_starts_with_name(path: &Slot, name: &[u8]) -> u32 {
     result
 }
 
+/// Writes a hash of the path, which is the same for equal paths. It may differ from version to version.
+pub(crate) fn path_hash(path: &Slot, hash: &mut u64) -> u32 {
+    let mut lent_path = path.lent();
+    // SAFETY: see the head of this file.
+    let result = unsafe { vlt_path_hash(&mut lent_path, hash) };
+    path.keeps(lent_path);
+    result
+}
+
 /// Puts the path of these steps.
 pub(crate) fn path_from_steps(names: &[u8], name_lengths: &[usize], out: &mut Slot) -> u32 {
     // SAFETY: see the head of this file.
@@ -1166,15 +1177,6 @@ pub(crate) fn path_to_text(path: &Slot, buffer: &mut [u8], length: &mut usize) -
     let mut lent_path = path.lent();
     // SAFETY: see the head of this file.
     let result = unsafe { vlt_path_to_text(&mut lent_path, buffer.as_mut_ptr(), buffer.len(), length) };
-    path.keeps(lent_path);
-    result
-}
-
-/// Writes a hash: the same of equal paths. It may differ from version to version.
-pub(crate) fn path_hash(path: &Slot, hash: &mut u64) -> u32 {
-    let mut lent_path = path.lent();
-    // SAFETY: see the head of this file.
-    let result = unsafe { vlt_path_hash(&mut lent_path, hash) };
     path.keeps(lent_path);
     result
 }
@@ -1559,9 +1561,9 @@ pub(crate) fn message_to_nodes(
     result
 }
 
-/// Writes the answer of the console to one line (without its newline); empty where the line is blank or a comment.
-/// 0 where a call was answered, also by an error or a condition of its own; 4 where the line can't be read (the answer says
-/// where); 7, 100. Nothing is kept from line to line.
+/// Writes the answer of the console to one line (without its newline), also if the line can't be read or the call returns an
+/// error: the text says so. 1 if the line has no answer (blank, a comment, `exit`); 7; 100. Nothing is kept from line to line.
+/// (NOT PROVED YET: its libraries aren't built; perhaps it comes later.)
 pub(crate) fn answer(line: &[u8], buffer: &mut [u8], length: &mut usize) -> u32 {
     // SAFETY: see the head of this file.
     unsafe { vlt_answer(line.as_ptr(), line.len(), buffer.as_mut_ptr(), buffer.len(), length) }

@@ -19,7 +19,7 @@ use std::str::FromStr;
 /// let message = dtype.to_message();
 /// assert_eq!(message.to_source(), "list { element_type { primitive { type: 6 nullable: true } } }");
 /// assert_eq!(message.read(false)?, dtype);
-/// assert_eq!("list {}".parse::<Message>()?.read(false).unwrap_err().to_string(), "Invalid list element type");
+/// assert_eq!("list {}".parse::<Message>()?.read(false).unwrap_err().to_string(), "a message of a list has no element");
 /// # Ok::<(), vortex_logical_types::Error>(())
 /// ```
 pub struct Message {

@@ -125,7 +125,18 @@ fn session_of(words: &str) -> Result<bool, Left> {
 
 /// A text as the console prints it.
 fn shown(text: &str) -> String {
-    if text.is_empty() { "\"\"".to_owned() } else { text.replace('\n', "\\n") }
+    if text.is_empty() {
+        return "\"\"".to_owned();
+    }
+    let escaped = text.chars().map(|it| match it {
+        '\\' | '"' => format!("\\{it}"),
+        '\t' => "\\t".to_owned(),
+        '\n' => "\\n".to_owned(),
+        '\r' => "\\r".to_owned(),
+        '\x00'..' ' | '\x7f' => format!("\\x{:02x}", it as u32),
+        _ => it.to_string(),
+    });
+    escaped.collect()
 }
 
 fn sources(dtypes: impl Iterator<Item = DType>) -> String {

@@ -619,7 +619,7 @@ static void sets(void) {
     IS_LIST(&s[2], "b ");
     type_of(&s[1], "{a=list({c=u32, d=i8})?, y=i64}");
     DONE(vlt_set_unresolved(&s[0], &s[1], &s[2]));
-    IS_LIST(&s[2], "x ");
+    IS_LIST(&s[2], "a.b x ");
     DONE(vlt_set_new(&s[3]));
     DONE(vlt_set_insert(&s[3], &p[2]));
     DONE(vlt_project_paths(&s[1], &s[3], &s[2]));

@@ -139,7 +139,7 @@ class Calls(unittest.TestCase):
         self.assertEqual((len(paths), "a" in paths, FieldPath("b") in paths), (4, True, False))
         self.assertEqual((paths.below("a"), paths.below("b")), (Below(True, True, 1), None))
         self.assertEqual((paths.names_below("a"), paths.names_below("b")), (["b"], None))
-        self.assertEqual([*paths.unresolved(DType("{a=i8}"))], [FieldPath("x")])
+        self.assertEqual(sorted(map(FieldPath.to_source, paths.unresolved(DType("{a=i8}")))), ["a.[].c", "a.b", "x"])
         other = paths.copy()
         other.insert("y")
         self.assertEqual((len(other), len(paths)), (5, 4))

@@ -9,7 +9,7 @@ DType('utf8?')
 >>> wanted = FieldPathSet(["lines.[].sku", "lines.[]", "id"])
 >>> orders.project_paths(wanted)
 DType('{id=u64, lines=list({sku=utf8})}')
->>> [path.to_source() for path in wanted.cover()]
+>>> sorted(path.to_source() for path in wanted.cover())
 ['id', 'lines.[]']
 
 A text in quotes here is the form of the library's console, which reads back as the same value; `str` of a type or a path
@@ -590,7 +590,7 @@ class FieldPathSet(Object):
         return made(_Paths, native.vlt_set_cover, self._own).all()
 
     def unresolved(self, dtype: DType) -> list[FieldPath]:
-        """The paths of the cover at which the type has nothing."""
+        """The paths of the set at which the type has nothing."""
         return made(_Paths, native.vlt_set_unresolved, self._own, dtype._own).all()
 
     def below(self, path: Union[FieldPath, str]) -> Optional[Below]:

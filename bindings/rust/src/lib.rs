@@ -18,8 +18,10 @@
 //! let wanted: FieldPathSet = ["lines.[].price", "lines.[]", "id"].iter().map(|it| it.parse()).collect::<Result<_, _>>()?;
 //! let projected = orders.project_paths(&wanted).expect("a column is found");
 //! assert_eq!(projected.to_source(), "{id=u64, lines=list({sku=utf8, price=decimal(10,2)?})}");
-//! // `into_iter` of a set is its cover: the paths that no other path of the set begins.
-//! assert_eq!(wanted.into_iter().map(|path| path.to_source()).collect::<Vec<_>>(), ["id", "lines.[]"]);
+//! // `into_iter` of a set is its cover, in no promised order: the paths that no other path of the set begins.
+//! let mut cover: Vec<String> = wanted.into_iter().map(|path| path.to_source()).collect();
+//! cover.sort();
+//! assert_eq!(cover, ["id", "lines.[]"]);
 //! # Ok::<(), vortex_logical_types::Error>(())
 //! ```
 //!

@@ -21,8 +21,10 @@ use std::fmt;
 /// }
 /// assert_eq!(set.len(), 3);
 /// assert!(set.contains(&FieldPath::from_name("x")));
-/// // The cover has the paths that no other path of the set begins.
-/// assert_eq!(set.cover().map(|it| it.to_source()).collect::<Vec<_>>(), ["a", "x"]);
+/// // The cover has the paths that no other path of the set begins, in no promised order.
+/// let mut cover: Vec<String> = set.cover().map(|it| it.to_source()).collect();
+/// cover.sort();
+/// assert_eq!(cover, ["a", "x"]);
 /// # Ok::<(), vortex_logical_types::Error>(())
 /// ```
 pub struct FieldPathSet {
@@ -94,7 +96,7 @@ impl FieldPathSet {
         self.len() == 0
     }
 
-    /// Returns the paths of the set, each once.
+    /// Returns the paths of the set, each once, in no promised order.
     pub fn iter(&self) -> Paths {
         or_abort(self.try_iter())
     }
@@ -104,7 +106,8 @@ impl FieldPathSet {
         made(|out| ffi::set_members(&self.slot, out)).map(Paths::of)
     }
 
-    /// Returns the cover: the fewest paths of the set such that each path of it begins with one of them.
+    /// Returns the cover, in no promised order: the fewest paths of the set such that each path of it begins with one of
+    /// them.
     pub fn cover(&self) -> Paths {
         or_abort(self.try_cover())
     }
@@ -114,12 +117,12 @@ impl FieldPathSet {
         made(|out| ffi::set_cover(&self.slot, out)).map(Paths::of)
     }
 
-    /// Returns the paths of the cover at which the type has nothing.
+    /// Returns the paths of the set at which the type has nothing, in no promised order.
     pub fn unresolved(&self, dtype: &DType) -> Paths {
         or_abort(self.try_unresolved(dtype))
     }
 
-    /// Returns the paths of the cover at which the type has nothing, or that memory ran out.
+    /// Returns the paths of the set at which the type has nothing, or that memory ran out.
     pub fn try_unresolved(&self, dtype: &DType) -> Result<Paths, Error> {
         made(|out| ffi::set_unresolved(&self.slot, &dtype.slot, out)).map(Paths::of)
     }

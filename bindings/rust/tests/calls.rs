@@ -194,7 +194,7 @@ fn sets() {
     assert_eq!((it.len(), copy.len(), copy.contains(&path("y"))), (6, 4, false));
     assert_eq!(it.below(&path("a")), Some(Below { is_end: true, has_element: true, name_count: 1 }));
     assert_eq!((it.names_below(&path("a")), it.names_below(&path("b"))), (Some(vec!["b".to_owned()]), None));
-    assert_eq!(texts(copy.unresolved(&dtype("{a=i32}"))), ["x"]);
+    assert_eq!(texts(copy.unresolved(&dtype("{a=i32}"))), ["a.[].c", "a.b", "x"]);
     assert_eq!(texts(copy), ["a", "x"]);
     let mut paths = it.iter();
     let (first, last) = (paths.next(), paths.next_back());

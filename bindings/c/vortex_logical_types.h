@@ -218,17 +218,6 @@ uint32_t vlt_dtype_decimal_parts(vlt_slot *dtype, uint8_t *precision, int8_t *sc
 /* Returns 0 if the keys of the map are declared sorted, and 5 if the type is no map. */
 uint32_t vlt_dtype_keys_sorted(vlt_slot *dtype);
 
-/* Reads a type from its text in the form of the console, for example `{a=i32, b=list(utf8)?}`, and puts it.
- *
- * If the text can't be read, `position` is the first byte that doesn't fit, counted from 1. */
-uint32_t vlt_dtype_from_text(const uint8_t *text, size_t text_len, vlt_slot *out, size_t *position);
-
-/* Writes a type in the form of the console, which reads back as the same type. */
-uint32_t vlt_dtype_to_text(vlt_slot *dtype, uint8_t *buffer, size_t buffer_len, size_t *length);
-
-/* Writes a type as the library displays it. */
-uint32_t vlt_dtype_display(vlt_slot *dtype, uint8_t *buffer, size_t buffer_len, size_t *length);
-
 /* Puts a copy of the type. */
 uint32_t vlt_dtype_copy(vlt_slot *dtype, vlt_slot *out);
 
@@ -286,6 +275,15 @@ uint32_t vlt_dtype_to_nodes(
         vlt_slot *dtype, vlt_node *nodes, size_t nodes_len, size_t *node_count, uint8_t *texts, size_t texts_len,
         size_t *text_length);
 
+/* Reads a type from the console's form. 4 with the byte's position where it can't be read, 6 where it is too deep. */
+uint32_t vlt_dtype_from_text(const uint8_t *text, size_t text_len, vlt_slot *out, size_t *position);
+
+/* Writes a type in the console's form, which reads back as the same type. */
+uint32_t vlt_dtype_to_text(vlt_slot *dtype, uint8_t *buffer, size_t buffer_len, size_t *length);
+
+/* Writes a type as the library displays it. */
+uint32_t vlt_dtype_display(vlt_slot *dtype, uint8_t *buffer, size_t buffer_len, size_t *length);
+
 
 /* == Structs (of another type the calls return VLT_CONDITION) == */
 
@@ -320,7 +318,7 @@ uint32_t vlt_struct_field(vlt_slot *dtype, const uint8_t *name, size_t name_len,
 /* Writes the name of the field at the position, if it is below the number of fields. */
 uint32_t vlt_struct_field_name(vlt_slot *dtype, size_t index, uint8_t *buffer, size_t buffer_len, size_t *length);
 
-/* Writes the fields of a struct over several lines, one field a line, as the library indents them. */
+/* Writes the fields, a line each, as the library indents them. */
 uint32_t vlt_struct_indented(vlt_slot *dtype, uint8_t *buffer, size_t buffer_len, size_t *length);
 
 
@@ -448,8 +446,8 @@ uint32_t vlt_set_len(vlt_slot *paths, size_t *count);
  * before it are in. */
 uint32_t vlt_set_extend(vlt_slot *set, vlt_slot *paths, size_t paths_len, size_t *inserted);
 
-/* Inserts copies of the paths of a list. */
-uint32_t vlt_set_extend_from_list(vlt_slot *set, vlt_slot *paths);
+/* Inserts copies of the paths of the list, in their order. After an error those before it are in. */
+uint32_t vlt_set_extend_from_list(vlt_slot *paths, vlt_slot *list);
 
 
 /* == Lists of paths == */
@@ -670,28 +668,6 @@ static inline uint32_t vlt_checked_dtype_metadata(vlt_slot *dtype, uint8_t *buff
 }
 #define vlt_dtype_metadata vlt_checked_dtype_metadata
 
-static inline uint32_t vlt_checked_dtype_from_text(
-        const uint8_t *text, size_t text_len, vlt_slot *out, size_t *position) {
-    if (!text && text_len)
-        return VLT_RANGE;
-    return vlt_dtype_from_text(text ? text : (const uint8_t *)vlt_no_items(), text_len, out, position);
-}
-#define vlt_dtype_from_text vlt_checked_dtype_from_text
-
-static inline uint32_t vlt_checked_dtype_to_text(vlt_slot *dtype, uint8_t *buffer, size_t buffer_len, size_t *length) {
-    if (!buffer && buffer_len)
-        return VLT_RANGE;
-    return vlt_dtype_to_text(dtype, buffer ? buffer : (uint8_t *)vlt_no_items(), buffer_len, length);
-}
-#define vlt_dtype_to_text vlt_checked_dtype_to_text
-
-static inline uint32_t vlt_checked_dtype_display(vlt_slot *dtype, uint8_t *buffer, size_t buffer_len, size_t *length) {
-    if (!buffer && buffer_len)
-        return VLT_RANGE;
-    return vlt_dtype_display(dtype, buffer ? buffer : (uint8_t *)vlt_no_items(), buffer_len, length);
-}
-#define vlt_dtype_display vlt_checked_dtype_display
-
 static inline uint32_t vlt_checked_dtype_copy(vlt_slot *dtype, vlt_slot *out) {
     if (dtype == out)
         return VLT_SAME_SLOT;
@@ -790,6 +766,28 @@ static inline uint32_t vlt_checked_dtype_to_nodes(
             texts ? texts : (uint8_t *)vlt_no_items(), texts_len, text_length);
 }
 #define vlt_dtype_to_nodes vlt_checked_dtype_to_nodes
+
+static inline uint32_t vlt_checked_dtype_from_text(
+        const uint8_t *text, size_t text_len, vlt_slot *out, size_t *position) {
+    if (!text && text_len)
+        return VLT_RANGE;
+    return vlt_dtype_from_text(text ? text : (const uint8_t *)vlt_no_items(), text_len, out, position);
+}
+#define vlt_dtype_from_text vlt_checked_dtype_from_text
+
+static inline uint32_t vlt_checked_dtype_to_text(vlt_slot *dtype, uint8_t *buffer, size_t buffer_len, size_t *length) {
+    if (!buffer && buffer_len)
+        return VLT_RANGE;
+    return vlt_dtype_to_text(dtype, buffer ? buffer : (uint8_t *)vlt_no_items(), buffer_len, length);
+}
+#define vlt_dtype_to_text vlt_checked_dtype_to_text
+
+static inline uint32_t vlt_checked_dtype_display(vlt_slot *dtype, uint8_t *buffer, size_t buffer_len, size_t *length) {
+    if (!buffer && buffer_len)
+        return VLT_RANGE;
+    return vlt_dtype_display(dtype, buffer ? buffer : (uint8_t *)vlt_no_items(), buffer_len, length);
+}
+#define vlt_dtype_display vlt_checked_dtype_display
 
 static inline uint32_t vlt_checked_struct_without_field(vlt_slot *dtype, size_t index, vlt_slot *out) {
     if (dtype == out)
@@ -1069,10 +1067,10 @@ static inline uint32_t vlt_checked_set_extend(vlt_slot *set, vlt_slot *paths, si
 }
 #define vlt_set_extend vlt_checked_set_extend
 
-static inline uint32_t vlt_checked_set_extend_from_list(vlt_slot *set, vlt_slot *paths) {
-    if (set == paths)
+static inline uint32_t vlt_checked_set_extend_from_list(vlt_slot *paths, vlt_slot *list) {
+    if (paths == list)
         return VLT_SAME_SLOT;
-    return vlt_set_extend_from_list(set, paths);
+    return vlt_set_extend_from_list(paths, list);
 }
 #define vlt_set_extend_from_list vlt_checked_set_extend_from_list
 

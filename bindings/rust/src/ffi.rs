@@ -179,9 +179,6 @@ unsafe extern "C" {
     fn vlt_dtype_fixed_size(dtype: *mut Lent, size: *mut u32) -> u32;
     fn vlt_dtype_decimal_parts(dtype: *mut Lent, precision: *mut u8, scale: *mut i8) -> u32;
     fn vlt_dtype_keys_sorted(dtype: *mut Lent) -> u32;
-    fn vlt_dtype_from_text(text: *const u8, text_len: usize, out: *mut Slot, position: *mut usize) -> u32;
-    fn vlt_dtype_to_text(dtype: *mut Lent, buffer: *mut u8, buffer_len: usize, length: *mut usize) -> u32;
-    fn vlt_dtype_display(dtype: *mut Lent, buffer: *mut u8, buffer_len: usize, length: *mut usize) -> u32;
     fn vlt_dtype_copy(dtype: *mut Lent, out: *mut Slot) -> u32;
     fn vlt_dtype_eq(one: *mut Lent, other: *mut Lent) -> u32;
     fn vlt_dtype_eq_ignore_nullability(one: *mut Lent, other: *mut Lent) -> u32;
@@ -220,6 +217,9 @@ unsafe extern "C" {
         texts_len: usize,
         text_length: *mut usize,
     ) -> u32;
+    fn vlt_dtype_from_text(text: *const u8, text_len: usize, out: *mut Slot, position: *mut usize) -> u32;
+    fn vlt_dtype_to_text(dtype: *mut Lent, buffer: *mut u8, buffer_len: usize, length: *mut usize) -> u32;
+    fn vlt_dtype_display(dtype: *mut Lent, buffer: *mut u8, buffer_len: usize, length: *mut usize) -> u32;
     fn vlt_struct_without_field(dtype: *mut Lent, index: usize, out: *mut Slot) -> u32;
     fn vlt_struct_disjoint_merge(one: *mut Lent, other: *mut Lent, out: *mut Slot) -> u32;
     fn vlt_struct_project(
@@ -303,7 +303,7 @@ unsafe extern "C" {
     fn vlt_set_unresolved(paths: *mut Lent, dtype: *mut Lent, out: *mut Slot) -> u32;
     fn vlt_set_len(paths: *mut Lent, count: *mut usize) -> u32;
     fn vlt_set_extend(set: *mut Lent, paths: *mut Slot, paths_len: usize, inserted: *mut usize) -> u32;
-    fn vlt_set_extend_from_list(set: *mut Lent, paths: *mut Lent) -> u32;
+    fn vlt_set_extend_from_list(paths: *mut Lent, list: *mut Lent) -> u32;
     fn vlt_paths_len(paths: *mut Lent, count: *mut usize) -> u32;
     fn vlt_paths_get(paths: *mut Lent, index: usize, out: *mut Slot) -> u32;
     fn vlt_project_paths(dtype: *mut Lent, paths: *mut Lent, out: *mut Slot) -> u32;
@@ -629,32 +629,6 @@ pub(crate) fn dtype_keys_sorted(dtype: &Slot) -> u32 {
     result
 }
 
-/// Reads a type from its text in the form of the console, for example `{a=i32, b=list(utf8)?}`, and puts it.
-///
-/// If the text can't be read, `position` is the first byte that doesn't fit, counted from 1.
-pub(crate) fn dtype_from_text(text: &[u8], out: &mut Slot, position: &mut usize) -> u32 {
-    // SAFETY: see the head of this file.
-    unsafe { vlt_dtype_from_text(text.as_ptr(), text.len(), out, position) }
-}
-
-/// Writes a type in the form of the console, which reads back as the same type.
-pub(crate) fn dtype_to_text(dtype: &Slot, buffer: &mut [u8], length: &mut usize) -> u32 {
-    let mut lent_dtype = dtype.lent();
-    // SAFETY: see the head of this file.
-    let result = unsafe { vlt_dtype_to_text(&mut lent_dtype, buffer.as_mut_ptr(), buffer.len(), length) };
-    dtype.keeps(lent_dtype);
-    result
-}
-
-/// Writes a type as the library displays it.
-pub(crate) fn dtype_display(dtype: &Slot, buffer: &mut [u8], length: &mut usize) -> u32 {
-    let mut lent_dtype = dtype.lent();
-    // SAFETY: see the head of this file.
-    let result = unsafe { vlt_dtype_display(&mut lent_dtype, buffer.as_mut_ptr(), buffer.len(), length) };
-    dtype.keeps(lent_dtype);
-    result
-}
-
 /// Puts a copy of the type.
 pub(crate) fn dtype_copy(dtype: &Slot, out: &mut Slot) -> u32 {
     let mut lent_dtype = dtype.lent();
@@ -852,6 +826,30 @@ pub(crate) fn dtype_to_nodes(
     result
 }
 
+/// Reads a type from the console's form. 4 with the byte's position where it can't be read, 6 where it is too deep.
+pub(crate) fn dtype_from_text(text: &[u8], out: &mut Slot, position: &mut usize) -> u32 {
+    // SAFETY: see the head of this file.
+    unsafe { vlt_dtype_from_text(text.as_ptr(), text.len(), out, position) }
+}
+
+/// Writes a type in the console's form, which reads back as the same type.
+pub(crate) fn dtype_to_text(dtype: &Slot, buffer: &mut [u8], length: &mut usize) -> u32 {
+    let mut lent_dtype = dtype.lent();
+    // SAFETY: see the head of this file.
+    let result = unsafe { vlt_dtype_to_text(&mut lent_dtype, buffer.as_mut_ptr(), buffer.len(), length) };
+    dtype.keeps(lent_dtype);
+    result
+}
+
+/// Writes a type as the library displays it.
+pub(crate) fn dtype_display(dtype: &Slot, buffer: &mut [u8], length: &mut usize) -> u32 {
+    let mut lent_dtype = dtype.lent();
+    // SAFETY: see the head of this file.
+    let result = unsafe { vlt_dtype_display(&mut lent_dtype, buffer.as_mut_ptr(), buffer.len(), length) };
+    dtype.keeps(lent_dtype);
+    result
+}
+
 /// Puts the struct without the field at the position, with the nullability of the type. If the position is not below the
 /// number of fields, it returns 117.
 pub(crate) fn struct_without_field(dtype: &Slot, index: usize, out: &mut Slot) -> u32 {
@@ -936,7 +934,7 @@ pub(crate) fn struct_field_name(dtype: &Slot, index: usize, buffer: &mut [u8], l
     result
 }
 
-/// Writes the fields of a struct over several lines, one field a line, as the library indents them.
+/// Writes the fields, a line each, as the library indents them.
 pub(crate) fn struct_indented(dtype: &Slot, buffer: &mut [u8], length: &mut usize) -> u32 {
     let mut lent_dtype = dtype.lent();
     // SAFETY: see the head of this file.
@@ -1317,17 +1315,17 @@ pub(crate) fn set_extend(set: &Slot, paths: &mut [Slot], inserted: &mut usize) -
     result
 }
 
-/// Inserts copies of the paths of a list.
-pub(crate) fn set_extend_from_list(set: &Slot, paths: &Slot) -> u32 {
-    if set.is(paths) {
+/// Inserts copies of the paths of the list, in their order. After an error those before it are in.
+pub(crate) fn set_extend_from_list(paths: &Slot, list: &Slot) -> u32 {
+    if paths.is(list) {
         return SAME_SLOT;
     }
-    let mut lent_set = set.lent();
     let mut lent_paths = paths.lent();
+    let mut lent_list = list.lent();
     // SAFETY: see the head of this file.
-    let result = unsafe { vlt_set_extend_from_list(&mut lent_set, &mut lent_paths) };
-    set.keeps(lent_set);
+    let result = unsafe { vlt_set_extend_from_list(&mut lent_paths, &mut lent_list) };
     paths.keeps(lent_paths);
+    list.keeps(lent_list);
     result
 }
 

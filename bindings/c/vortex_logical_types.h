@@ -175,6 +175,17 @@ uint32_t vlt_dtype_union_consecutive(
         const uint8_t *names, size_t names_len, const size_t *name_lengths, size_t name_lengths_len, vlt_slot *dtypes,
         size_t dtypes_len, bool nullable, vlt_slot *out);
 
+/* Puts the type that the message of these nodes and texts describes. Returns the errors of `vlt_message_from_nodes` and of
+ * `vlt_message_read`. */
+uint32_t vlt_dtype_from_nodes(
+        const vlt_node *nodes, size_t nodes_len, const uint8_t *texts, size_t texts_len, bool allow_unknown,
+        vlt_slot *out);
+
+/* Writes the nodes and the texts of the message of the type, as `vlt_message_to_nodes` does. */
+uint32_t vlt_dtype_to_nodes(
+        vlt_slot *dtype, vlt_node *nodes, size_t nodes_len, size_t *node_count, uint8_t *texts, size_t texts_len,
+        size_t *text_length);
+
 /* Puts the type with this outer nullability; for an extension it is that of its storage. If the type can't be
  * non-nullable, it returns 5. */
 uint32_t vlt_dtype_with_nullability(vlt_slot *dtype, bool nullable, vlt_slot *out);
@@ -217,6 +228,17 @@ uint32_t vlt_dtype_decimal_parts(vlt_slot *dtype, uint8_t *precision, int8_t *sc
 
 /* Returns 0 if the keys of the map are declared sorted, and 5 if the type is no map. */
 uint32_t vlt_dtype_keys_sorted(vlt_slot *dtype);
+
+/* Reads a type from its text in the form of the console, for example `{a=i32, b=list(utf8)?}`, and puts it.
+ *
+ * If the text can't be read, `position` is the first byte that doesn't fit, counted from 1. */
+uint32_t vlt_dtype_from_text(const uint8_t *text, size_t text_len, vlt_slot *out, size_t *position);
+
+/* Writes a type in the form of the console, which reads back as the same type. */
+uint32_t vlt_dtype_to_text(vlt_slot *dtype, uint8_t *buffer, size_t buffer_len, size_t *length);
+
+/* Writes a type as the library displays it. */
+uint32_t vlt_dtype_display(vlt_slot *dtype, uint8_t *buffer, size_t buffer_len, size_t *length);
 
 /* Puts a copy of the type. */
 uint32_t vlt_dtype_copy(vlt_slot *dtype, vlt_slot *out);
@@ -265,25 +287,6 @@ uint32_t vlt_dtype_extension(
         const uint8_t *id, size_t id_len, const uint8_t *metadata, size_t metadata_len, vlt_slot *storage,
         vlt_slot *out);
 
-/* Puts the type that `vlt_message_read` gives of the message of these nodes. */
-uint32_t vlt_dtype_from_nodes(
-        const vlt_node *nodes, size_t nodes_len, const uint8_t *texts, size_t texts_len, bool allow_unknown,
-        vlt_slot *out);
-
-/* Writes the nodes and the pool of the message of a type. */
-uint32_t vlt_dtype_to_nodes(
-        vlt_slot *dtype, vlt_node *nodes, size_t nodes_len, size_t *node_count, uint8_t *texts, size_t texts_len,
-        size_t *text_length);
-
-/* Reads a type from the console's form. 4 with the byte's position where it can't be read, 6 where it is too deep. */
-uint32_t vlt_dtype_from_text(const uint8_t *text, size_t text_len, vlt_slot *out, size_t *position);
-
-/* Writes a type in the console's form, which reads back as the same type. */
-uint32_t vlt_dtype_to_text(vlt_slot *dtype, uint8_t *buffer, size_t buffer_len, size_t *length);
-
-/* Writes a type as the library displays it. */
-uint32_t vlt_dtype_display(vlt_slot *dtype, uint8_t *buffer, size_t buffer_len, size_t *length);
-
 
 /* == Structs (of another type the calls return VLT_CONDITION) == */
 
@@ -318,7 +321,7 @@ uint32_t vlt_struct_field(vlt_slot *dtype, const uint8_t *name, size_t name_len,
 /* Writes the name of the field at the position, if it is below the number of fields. */
 uint32_t vlt_struct_field_name(vlt_slot *dtype, size_t index, uint8_t *buffer, size_t buffer_len, size_t *length);
 
-/* Writes the fields, a line each, as the library indents them. */
+/* Writes the fields of a struct over several lines, one field a line, as the library indents them. */
 uint32_t vlt_struct_indented(vlt_slot *dtype, uint8_t *buffer, size_t buffer_len, size_t *length);
 
 
@@ -350,6 +353,14 @@ uint32_t vlt_union_is_consecutive(vlt_slot *dtype);
 
 
 /* == Paths == */
+
+/* Reads a path from its text in the form of the console, for example `a.[].b`, or `.` for the root, and puts it.
+ *
+ * If the text can't be read, `position` is the first byte that doesn't fit, counted from 1. */
+uint32_t vlt_path_from_text(const uint8_t *text, size_t text_len, vlt_slot *out, size_t *position);
+
+/* Writes a path in the form of the console, which reads back as the same path. */
+uint32_t vlt_path_to_text(vlt_slot *path, uint8_t *buffer, size_t buffer_len, size_t *length);
 
 /* Puts the path with no step, the root. */
 uint32_t vlt_path_root(vlt_slot *out);
@@ -395,16 +406,6 @@ uint32_t vlt_path_hash(vlt_slot *path, uint64_t *hash);
 
 /* Puts the path of these steps. */
 uint32_t vlt_path_from_steps(
-        const uint8_t *names, size_t names_len, const size_t *name_lengths, size_t name_lengths_len, vlt_slot *out);
-
-/* Reads a path in the console's form, such as `a.[].b`, or `.` for the root. */
-uint32_t vlt_path_from_text(const uint8_t *text, size_t text_len, vlt_slot *out, size_t *position);
-
-/* Writes a path in the console's form, which reads back as the same path. */
-uint32_t vlt_path_to_text(vlt_slot *path, uint8_t *buffer, size_t buffer_len, size_t *length);
-
-/* Puts the path of a path message of these parts, a name each; VLT_ELEMENT stands for a part without a kind: 136. */
-uint32_t vlt_path_from_message(
         const uint8_t *names, size_t names_len, const size_t *name_lengths, size_t name_lengths_len, vlt_slot *out);
 
 
@@ -503,43 +504,40 @@ uint32_t vlt_mask_eq(vlt_slot *one, vlt_slot *other);
 
 /* == Messages == */
 
-/* Reads the message of a type in the console's form. */
-uint32_t vlt_message_from_text(const uint8_t *text, size_t text_len, vlt_slot *out, size_t *position);
+/* Puts the type that the message describes. Returns 100 and the number of the first error in the message; an extension is one (135) unless `allow_unknown`. */
+uint32_t vlt_message_read(vlt_slot *proto, bool allow_unknown, vlt_slot *out);
 
-/* Writes a message in the console's form, which reads back as the same message. */
-uint32_t vlt_message_to_text(vlt_slot *message, uint8_t *buffer, size_t buffer_len, size_t *length);
-
-/* Puts the type of a message. 1xx: the first error. Extensions of every id are kept where `allow_unknown`, else 135. */
-uint32_t vlt_message_read(vlt_slot *message, bool allow_unknown, vlt_slot *out);
-
-/* Puts the message of a type. */
+/* Puts the message of the type. */
 uint32_t vlt_message_write(vlt_slot *dtype, vlt_slot *out);
 
-/* Puts the normal form of a message: what is written of the type that is read from it. */
-uint32_t vlt_message_normal(vlt_slot *message, bool allow_unknown, vlt_slot *out);
+/* Puts the message of the type that the message describes, in which missing metadata is empty. Returns the errors of `vlt_message_read`. */
+uint32_t vlt_message_normal(vlt_slot *proto, bool allow_unknown, vlt_slot *out);
 
-/* Returns 0 where the messages are equal in all fields. */
+/* Returns 0 if the messages are equal in every field. */
 uint32_t vlt_message_eq(vlt_slot *one, vlt_slot *other);
 
-/* Puts a copy. */
-uint32_t vlt_message_copy(vlt_slot *message, vlt_slot *out);
+/* Puts a copy of the message. */
+uint32_t vlt_message_copy(vlt_slot *proto, vlt_slot *out);
 
-/* Puts the message of these nodes. 9 where they aren't one message with exactly this pool, 3 where a text isn't UTF-8,
- * 6 where it is deeper than 128 levels. */
+/* Puts the message of these nodes and texts. Returns 9 if they aren't those of one message, 3 if a name or an id isn't
+ * UTF-8, and 6 if a message is nested in more than 128 others. */
 uint32_t vlt_message_from_nodes(
         const vlt_node *nodes, size_t nodes_len, const uint8_t *texts, size_t texts_len, vlt_slot *out);
 
-/* Writes the nodes and the pool of a message, and how many of each; 7 with both counts where either is too small. */
+/* Writes the nodes and the texts of the message, and how many there are of each. If either buffer is too small it writes
+ * the two numbers alone, and returns 7. */
 uint32_t vlt_message_to_nodes(
-        vlt_slot *message, vlt_node *nodes, size_t nodes_len, size_t *node_count, uint8_t *texts, size_t texts_len,
+        vlt_slot *proto, vlt_node *nodes, size_t nodes_len, size_t *node_count, uint8_t *texts, size_t texts_len,
         size_t *text_length);
 
 
 /* == The console == */
 
-/* Writes the answer of the console to one line (without its newline), also if the line can't be read or the call returns an
- * error: the text says so. 1 if the line has no answer (blank, a comment, `exit`); 7; 100. Nothing is kept from line to line.
- * (NOT PROVED YET: its libraries aren't built; perhaps it comes later.) */
+/* Writes the answer of the console to one line, which is given without its newline. The answer is a text also if the
+ * line can't be read, or if the call that it names returns an error.
+ *
+ * Returns 1 if the line has no answer, because it is blank, a comment or `exit`. No line knows the sets and sessions that
+ * an earlier line named. */
 uint32_t vlt_answer(const uint8_t *line, size_t line_len, uint8_t *buffer, size_t buffer_len, size_t *length);
 
 /* A call of a function above that takes two slots, or a pointer and a length, is a call of the inline
@@ -612,6 +610,28 @@ static inline uint32_t vlt_checked_dtype_union_consecutive(
 }
 #define vlt_dtype_union_consecutive vlt_checked_dtype_union_consecutive
 
+static inline uint32_t vlt_checked_dtype_from_nodes(
+        const vlt_node *nodes, size_t nodes_len, const uint8_t *texts, size_t texts_len, bool allow_unknown,
+        vlt_slot *out) {
+    if ((!nodes && nodes_len) || (!texts && texts_len))
+        return VLT_RANGE;
+    return vlt_dtype_from_nodes(
+            nodes ? nodes : (const vlt_node *)vlt_no_items(), nodes_len,
+            texts ? texts : (const uint8_t *)vlt_no_items(), texts_len, allow_unknown, out);
+}
+#define vlt_dtype_from_nodes vlt_checked_dtype_from_nodes
+
+static inline uint32_t vlt_checked_dtype_to_nodes(
+        vlt_slot *dtype, vlt_node *nodes, size_t nodes_len, size_t *node_count, uint8_t *texts, size_t texts_len,
+        size_t *text_length) {
+    if ((!nodes && nodes_len) || (!texts && texts_len))
+        return VLT_RANGE;
+    return vlt_dtype_to_nodes(
+            dtype, nodes ? nodes : (vlt_node *)vlt_no_items(), nodes_len, node_count,
+            texts ? texts : (uint8_t *)vlt_no_items(), texts_len, text_length);
+}
+#define vlt_dtype_to_nodes vlt_checked_dtype_to_nodes
+
 static inline uint32_t vlt_checked_dtype_with_nullability(vlt_slot *dtype, bool nullable, vlt_slot *out) {
     if (dtype == out)
         return VLT_SAME_SLOT;
@@ -667,6 +687,28 @@ static inline uint32_t vlt_checked_dtype_metadata(vlt_slot *dtype, uint8_t *buff
     return vlt_dtype_metadata(dtype, buffer ? buffer : (uint8_t *)vlt_no_items(), buffer_len, length);
 }
 #define vlt_dtype_metadata vlt_checked_dtype_metadata
+
+static inline uint32_t vlt_checked_dtype_from_text(
+        const uint8_t *text, size_t text_len, vlt_slot *out, size_t *position) {
+    if (!text && text_len)
+        return VLT_RANGE;
+    return vlt_dtype_from_text(text ? text : (const uint8_t *)vlt_no_items(), text_len, out, position);
+}
+#define vlt_dtype_from_text vlt_checked_dtype_from_text
+
+static inline uint32_t vlt_checked_dtype_to_text(vlt_slot *dtype, uint8_t *buffer, size_t buffer_len, size_t *length) {
+    if (!buffer && buffer_len)
+        return VLT_RANGE;
+    return vlt_dtype_to_text(dtype, buffer ? buffer : (uint8_t *)vlt_no_items(), buffer_len, length);
+}
+#define vlt_dtype_to_text vlt_checked_dtype_to_text
+
+static inline uint32_t vlt_checked_dtype_display(vlt_slot *dtype, uint8_t *buffer, size_t buffer_len, size_t *length) {
+    if (!buffer && buffer_len)
+        return VLT_RANGE;
+    return vlt_dtype_display(dtype, buffer ? buffer : (uint8_t *)vlt_no_items(), buffer_len, length);
+}
+#define vlt_dtype_display vlt_checked_dtype_display
 
 static inline uint32_t vlt_checked_dtype_copy(vlt_slot *dtype, vlt_slot *out) {
     if (dtype == out)
@@ -744,50 +786,6 @@ static inline uint32_t vlt_checked_dtype_extension(
             metadata_len, storage, out);
 }
 #define vlt_dtype_extension vlt_checked_dtype_extension
-
-static inline uint32_t vlt_checked_dtype_from_nodes(
-        const vlt_node *nodes, size_t nodes_len, const uint8_t *texts, size_t texts_len, bool allow_unknown,
-        vlt_slot *out) {
-    if ((!nodes && nodes_len) || (!texts && texts_len))
-        return VLT_RANGE;
-    return vlt_dtype_from_nodes(
-            nodes ? nodes : (const vlt_node *)vlt_no_items(), nodes_len,
-            texts ? texts : (const uint8_t *)vlt_no_items(), texts_len, allow_unknown, out);
-}
-#define vlt_dtype_from_nodes vlt_checked_dtype_from_nodes
-
-static inline uint32_t vlt_checked_dtype_to_nodes(
-        vlt_slot *dtype, vlt_node *nodes, size_t nodes_len, size_t *node_count, uint8_t *texts, size_t texts_len,
-        size_t *text_length) {
-    if ((!nodes && nodes_len) || (!texts && texts_len))
-        return VLT_RANGE;
-    return vlt_dtype_to_nodes(
-            dtype, nodes ? nodes : (vlt_node *)vlt_no_items(), nodes_len, node_count,
-            texts ? texts : (uint8_t *)vlt_no_items(), texts_len, text_length);
-}
-#define vlt_dtype_to_nodes vlt_checked_dtype_to_nodes
-
-static inline uint32_t vlt_checked_dtype_from_text(
-        const uint8_t *text, size_t text_len, vlt_slot *out, size_t *position) {
-    if (!text && text_len)
-        return VLT_RANGE;
-    return vlt_dtype_from_text(text ? text : (const uint8_t *)vlt_no_items(), text_len, out, position);
-}
-#define vlt_dtype_from_text vlt_checked_dtype_from_text
-
-static inline uint32_t vlt_checked_dtype_to_text(vlt_slot *dtype, uint8_t *buffer, size_t buffer_len, size_t *length) {
-    if (!buffer && buffer_len)
-        return VLT_RANGE;
-    return vlt_dtype_to_text(dtype, buffer ? buffer : (uint8_t *)vlt_no_items(), buffer_len, length);
-}
-#define vlt_dtype_to_text vlt_checked_dtype_to_text
-
-static inline uint32_t vlt_checked_dtype_display(vlt_slot *dtype, uint8_t *buffer, size_t buffer_len, size_t *length) {
-    if (!buffer && buffer_len)
-        return VLT_RANGE;
-    return vlt_dtype_display(dtype, buffer ? buffer : (uint8_t *)vlt_no_items(), buffer_len, length);
-}
-#define vlt_dtype_display vlt_checked_dtype_display
 
 static inline uint32_t vlt_checked_struct_without_field(vlt_slot *dtype, size_t index, vlt_slot *out) {
     if (dtype == out)
@@ -886,6 +884,21 @@ static inline uint32_t vlt_checked_union_variant_name(
 }
 #define vlt_union_variant_name vlt_checked_union_variant_name
 
+static inline uint32_t vlt_checked_path_from_text(
+        const uint8_t *text, size_t text_len, vlt_slot *out, size_t *position) {
+    if (!text && text_len)
+        return VLT_RANGE;
+    return vlt_path_from_text(text ? text : (const uint8_t *)vlt_no_items(), text_len, out, position);
+}
+#define vlt_path_from_text vlt_checked_path_from_text
+
+static inline uint32_t vlt_checked_path_to_text(vlt_slot *path, uint8_t *buffer, size_t buffer_len, size_t *length) {
+    if (!buffer && buffer_len)
+        return VLT_RANGE;
+    return vlt_path_to_text(path, buffer ? buffer : (uint8_t *)vlt_no_items(), buffer_len, length);
+}
+#define vlt_path_to_text vlt_checked_path_to_text
+
 static inline uint32_t vlt_checked_path_step(
         vlt_slot *path, size_t index, uint8_t *buffer, size_t buffer_len, size_t *length) {
     if (!buffer && buffer_len)
@@ -975,31 +988,6 @@ static inline uint32_t vlt_checked_path_from_steps(
             name_lengths ? name_lengths : (const size_t *)vlt_no_items(), name_lengths_len, out);
 }
 #define vlt_path_from_steps vlt_checked_path_from_steps
-
-static inline uint32_t vlt_checked_path_from_text(
-        const uint8_t *text, size_t text_len, vlt_slot *out, size_t *position) {
-    if (!text && text_len)
-        return VLT_RANGE;
-    return vlt_path_from_text(text ? text : (const uint8_t *)vlt_no_items(), text_len, out, position);
-}
-#define vlt_path_from_text vlt_checked_path_from_text
-
-static inline uint32_t vlt_checked_path_to_text(vlt_slot *path, uint8_t *buffer, size_t buffer_len, size_t *length) {
-    if (!buffer && buffer_len)
-        return VLT_RANGE;
-    return vlt_path_to_text(path, buffer ? buffer : (uint8_t *)vlt_no_items(), buffer_len, length);
-}
-#define vlt_path_to_text vlt_checked_path_to_text
-
-static inline uint32_t vlt_checked_path_from_message(
-        const uint8_t *names, size_t names_len, const size_t *name_lengths, size_t name_lengths_len, vlt_slot *out) {
-    if ((!names && names_len) || (!name_lengths && name_lengths_len))
-        return VLT_RANGE;
-    return vlt_path_from_message(
-            names ? names : (const uint8_t *)vlt_no_items(), names_len,
-            name_lengths ? name_lengths : (const size_t *)vlt_no_items(), name_lengths_len, out);
-}
-#define vlt_path_from_message vlt_checked_path_from_message
 
 static inline uint32_t vlt_checked_set_below(
         vlt_slot *paths, vlt_slot *path, bool *is_end, bool *has_element, size_t *name_count) {
@@ -1138,26 +1126,10 @@ static inline uint32_t vlt_checked_mask_eq(vlt_slot *one, vlt_slot *other) {
 }
 #define vlt_mask_eq vlt_checked_mask_eq
 
-static inline uint32_t vlt_checked_message_from_text(
-        const uint8_t *text, size_t text_len, vlt_slot *out, size_t *position) {
-    if (!text && text_len)
-        return VLT_RANGE;
-    return vlt_message_from_text(text ? text : (const uint8_t *)vlt_no_items(), text_len, out, position);
-}
-#define vlt_message_from_text vlt_checked_message_from_text
-
-static inline uint32_t vlt_checked_message_to_text(
-        vlt_slot *message, uint8_t *buffer, size_t buffer_len, size_t *length) {
-    if (!buffer && buffer_len)
-        return VLT_RANGE;
-    return vlt_message_to_text(message, buffer ? buffer : (uint8_t *)vlt_no_items(), buffer_len, length);
-}
-#define vlt_message_to_text vlt_checked_message_to_text
-
-static inline uint32_t vlt_checked_message_read(vlt_slot *message, bool allow_unknown, vlt_slot *out) {
-    if (message == out)
+static inline uint32_t vlt_checked_message_read(vlt_slot *proto, bool allow_unknown, vlt_slot *out) {
+    if (proto == out)
         return VLT_SAME_SLOT;
-    return vlt_message_read(message, allow_unknown, out);
+    return vlt_message_read(proto, allow_unknown, out);
 }
 #define vlt_message_read vlt_checked_message_read
 
@@ -1168,10 +1140,10 @@ static inline uint32_t vlt_checked_message_write(vlt_slot *dtype, vlt_slot *out)
 }
 #define vlt_message_write vlt_checked_message_write
 
-static inline uint32_t vlt_checked_message_normal(vlt_slot *message, bool allow_unknown, vlt_slot *out) {
-    if (message == out)
+static inline uint32_t vlt_checked_message_normal(vlt_slot *proto, bool allow_unknown, vlt_slot *out) {
+    if (proto == out)
         return VLT_SAME_SLOT;
-    return vlt_message_normal(message, allow_unknown, out);
+    return vlt_message_normal(proto, allow_unknown, out);
 }
 #define vlt_message_normal vlt_checked_message_normal
 
@@ -1182,10 +1154,10 @@ static inline uint32_t vlt_checked_message_eq(vlt_slot *one, vlt_slot *other) {
 }
 #define vlt_message_eq vlt_checked_message_eq
 
-static inline uint32_t vlt_checked_message_copy(vlt_slot *message, vlt_slot *out) {
-    if (message == out)
+static inline uint32_t vlt_checked_message_copy(vlt_slot *proto, vlt_slot *out) {
+    if (proto == out)
         return VLT_SAME_SLOT;
-    return vlt_message_copy(message, out);
+    return vlt_message_copy(proto, out);
 }
 #define vlt_message_copy vlt_checked_message_copy
 
@@ -1200,12 +1172,12 @@ static inline uint32_t vlt_checked_message_from_nodes(
 #define vlt_message_from_nodes vlt_checked_message_from_nodes
 
 static inline uint32_t vlt_checked_message_to_nodes(
-        vlt_slot *message, vlt_node *nodes, size_t nodes_len, size_t *node_count, uint8_t *texts, size_t texts_len,
+        vlt_slot *proto, vlt_node *nodes, size_t nodes_len, size_t *node_count, uint8_t *texts, size_t texts_len,
         size_t *text_length) {
     if ((!nodes && nodes_len) || (!texts && texts_len))
         return VLT_RANGE;
     return vlt_message_to_nodes(
-            message, nodes ? nodes : (vlt_node *)vlt_no_items(), nodes_len, node_count,
+            proto, nodes ? nodes : (vlt_node *)vlt_no_items(), nodes_len, node_count,
             texts ? texts : (uint8_t *)vlt_no_items(), texts_len, text_length);
 }
 #define vlt_message_to_nodes vlt_checked_message_to_nodes

@@ -122,10 +122,12 @@ static void trim(vlt_slot *slot) {
         vlt_paths_len(slot, &size);
         size *= 64;
         break;
-    case 6:
-        vlt_message_to_text(slot, NULL, 0, &size);
-        size /= 4;
+    case 6: {
+        size_t length = 0;
+        vlt_message_to_nodes(slot, NULL, 0, &size, NULL, 0, &length);
+        size *= 8;
         break;
+    }
     default:
         break;
     }

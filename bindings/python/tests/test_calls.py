@@ -128,8 +128,7 @@ class Calls(unittest.TestCase):
         whole = DType('{a=list({"b c"=u32})?}')
         self.assertEqual((path.resolve(whole), FieldPath("x").resolve(whole)), (DType("u32"), None))
         self.assertTrue(path.exists_in(whole) and path.overlap(FieldPath("a")) and FieldPath().is_root)
-        self.assertEqual((FieldPath.root(), FieldPath.from_message(["a"])), (FieldPath("."), FieldPath("a")))
-        self.refused(136, FieldPath.from_message, [None])
+        self.assertEqual(FieldPath.root(), FieldPath("."))
         self.refused(5, FieldPath("[]").starts_with_name, "a")
 
     def test_has_sets(self):
@@ -162,9 +161,8 @@ class Calls(unittest.TestCase):
         self.refused(121, FieldMask.all().starting_field)
         whole = DType("{a=list(i32?), bc=x.unknown[0x00ff](utf8)}")
         message = whole.to_message()
-        self.assertEqual((message, message.read(True)), (Message(message.to_source()), whole))
+        self.assertEqual((message, message.read(True)), (message.copy(), whole))
         self.refused(135, message.read)
-        self.refused(128, Message("list {}").read)
         nodes = whole.to_nodes()
         self.assertEqual((DType.from_nodes(nodes, True), Message.from_nodes(nodes), message.to_nodes()),
                          (whole, message, nodes))

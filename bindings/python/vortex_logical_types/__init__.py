@@ -456,11 +456,6 @@ class FieldPath(Object):
     def from_steps(steps: Iterable[Step]) -> FieldPath:
         return made(FieldPath, native.vlt_path_from_steps, *names(None if it is ELEMENT else it for it in steps))
 
-    @staticmethod
-    def from_message(parts: Iterable[Optional[str]]) -> FieldPath:
-        """The path that a path message of these parts says. Raises `LibraryError` 136 for a part without a kind, None."""
-        return made(FieldPath, native.vlt_path_from_message, *names(parts))
-
     def __len__(self) -> int:
         return number(ctypes.c_size_t, native.vlt_path_len, self._own) or 0
 
@@ -675,12 +670,12 @@ class FieldMask(Object):
 
 
 class Message(Object):
-    """The message of a type, which may say a type or not. `Message("list {}")` reads the console's text."""
+    """The message of a type, which may say a type or not: from `DType.to_message` or from `Message.from_nodes`."""
 
     __slots__ = ()
 
-    def __init__(self, source: str) -> None:
-        read(self, native.vlt_message_from_text, source)
+    def __init__(self) -> None:
+        raise TypeError("a message is made by DType.to_message or Message.from_nodes")
 
     def read(self, allow_unknown: bool = False) -> DType:
         """The type that the message says. Raises `LibraryError` for its first fault."""
@@ -707,12 +702,8 @@ class Message(Object):
 
     __hash__ = None  # type: ignore[assignment]
 
-    def to_source(self) -> str:
-        """The console's text, which reads back as the same message."""
-        return text(native.vlt_message_to_text, self._own)
-
     def __repr__(self) -> str:
-        return f"Message({self.to_source()!r})"
+        return f"Message.from_nodes({self.to_nodes()!r})"
 
 
 def console_answer(line: str) -> Optional[str]:

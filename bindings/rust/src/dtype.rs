@@ -490,8 +490,8 @@ fn taken_apart<N: AsRef<str>>(fields: impl IntoIterator<Item = (N, DType)>) -> R
 /// Reads the console's text of a type, such as `{a=list(i32?), "b c"=decimal(10,2)}`.
 ///
 /// # Errors
-/// [`Error::Unreadable`] with the position, [`Error::TooDeep`], [`Error::OutOfMemory`], and the library's errors where a
-/// type in the text can't be made, such as `decimal(0,0)`.
+/// [`Error::Unreadable`] with the position, also where the text is nested more than 128 levels deep;
+/// [`Error::OutOfMemory`]; and the library's errors if a type in the text can't be made, such as `decimal(0,0)`.
 impl FromStr for DType {
     type Err = Error;
 

@@ -165,6 +165,23 @@ unsafe extern "C" {
         nullable: bool,
         out: *mut Slot,
     ) -> u32;
+    fn vlt_dtype_from_nodes(
+        nodes: *const Node,
+        nodes_len: usize,
+        texts: *const u8,
+        texts_len: usize,
+        allow_unknown: bool,
+        out: *mut Slot,
+    ) -> u32;
+    fn vlt_dtype_to_nodes(
+        dtype: *mut Lent,
+        nodes: *mut Node,
+        nodes_len: usize,
+        node_count: *mut usize,
+        texts: *mut u8,
+        texts_len: usize,
+        text_length: *mut usize,
+    ) -> u32;
     fn vlt_dtype_with_nullability(dtype: *mut Lent, nullable: bool, out: *mut Slot) -> u32;
     fn vlt_dtype_union_nullability(dtype: *mut Lent, nullable: bool, out: *mut Slot) -> u32;
     fn vlt_dtype_hash(dtype: *mut Lent, hash: *mut u64) -> u32;
@@ -179,6 +196,9 @@ unsafe extern "C" {
     fn vlt_dtype_fixed_size(dtype: *mut Lent, size: *mut u32) -> u32;
     fn vlt_dtype_decimal_parts(dtype: *mut Lent, precision: *mut u8, scale: *mut i8) -> u32;
     fn vlt_dtype_keys_sorted(dtype: *mut Lent) -> u32;
+    fn vlt_dtype_from_text(text: *const u8, text_len: usize, out: *mut Slot, position: *mut usize) -> u32;
+    fn vlt_dtype_to_text(dtype: *mut Lent, buffer: *mut u8, buffer_len: usize, length: *mut usize) -> u32;
+    fn vlt_dtype_display(dtype: *mut Lent, buffer: *mut u8, buffer_len: usize, length: *mut usize) -> u32;
     fn vlt_dtype_copy(dtype: *mut Lent, out: *mut Slot) -> u32;
     fn vlt_dtype_eq(one: *mut Lent, other: *mut Lent) -> u32;
     fn vlt_dtype_eq_ignore_nullability(one: *mut Lent, other: *mut Lent) -> u32;
@@ -200,26 +220,6 @@ unsafe extern "C" {
         storage: *mut Lent,
         out: *mut Slot,
     ) -> u32;
-    fn vlt_dtype_from_nodes(
-        nodes: *const Node,
-        nodes_len: usize,
-        texts: *const u8,
-        texts_len: usize,
-        allow_unknown: bool,
-        out: *mut Slot,
-    ) -> u32;
-    fn vlt_dtype_to_nodes(
-        dtype: *mut Lent,
-        nodes: *mut Node,
-        nodes_len: usize,
-        node_count: *mut usize,
-        texts: *mut u8,
-        texts_len: usize,
-        text_length: *mut usize,
-    ) -> u32;
-    fn vlt_dtype_from_text(text: *const u8, text_len: usize, out: *mut Slot, position: *mut usize) -> u32;
-    fn vlt_dtype_to_text(dtype: *mut Lent, buffer: *mut u8, buffer_len: usize, length: *mut usize) -> u32;
-    fn vlt_dtype_display(dtype: *mut Lent, buffer: *mut u8, buffer_len: usize, length: *mut usize) -> u32;
     fn vlt_struct_without_field(dtype: *mut Lent, index: usize, out: *mut Slot) -> u32;
     fn vlt_struct_disjoint_merge(one: *mut Lent, other: *mut Lent, out: *mut Slot) -> u32;
     fn vlt_struct_project(
@@ -256,6 +256,8 @@ unsafe extern "C" {
         length: *mut usize,
     ) -> u32;
     fn vlt_union_is_consecutive(dtype: *mut Lent) -> u32;
+    fn vlt_path_from_text(text: *const u8, text_len: usize, out: *mut Slot, position: *mut usize) -> u32;
+    fn vlt_path_to_text(path: *mut Lent, buffer: *mut u8, buffer_len: usize, length: *mut usize) -> u32;
     fn vlt_path_root(out: *mut Slot) -> u32;
     fn vlt_path_len(path: *mut Lent, count: *mut usize) -> u32;
     fn vlt_path_step(path: *mut Lent, index: usize, buffer: *mut u8, buffer_len: usize, length: *mut usize) -> u32;
@@ -271,15 +273,6 @@ unsafe extern "C" {
     fn vlt_path_starts_with_name(path: *mut Lent, name: *const u8, name_len: usize) -> u32;
     fn vlt_path_hash(path: *mut Lent, hash: *mut u64) -> u32;
     fn vlt_path_from_steps(
-        names: *const u8,
-        names_len: usize,
-        name_lengths: *const usize,
-        name_lengths_len: usize,
-        out: *mut Slot,
-    ) -> u32;
-    fn vlt_path_from_text(text: *const u8, text_len: usize, out: *mut Slot, position: *mut usize) -> u32;
-    fn vlt_path_to_text(path: *mut Lent, buffer: *mut u8, buffer_len: usize, length: *mut usize) -> u32;
-    fn vlt_path_from_message(
         names: *const u8,
         names_len: usize,
         name_lengths: *const usize,
@@ -318,13 +311,11 @@ unsafe extern "C" {
     fn vlt_mask_matches_all(mask: *mut Lent) -> u32;
     fn vlt_mask_matches_root(mask: *mut Lent) -> u32;
     fn vlt_mask_eq(one: *mut Lent, other: *mut Lent) -> u32;
-    fn vlt_message_from_text(text: *const u8, text_len: usize, out: *mut Slot, position: *mut usize) -> u32;
-    fn vlt_message_to_text(message: *mut Lent, buffer: *mut u8, buffer_len: usize, length: *mut usize) -> u32;
-    fn vlt_message_read(message: *mut Lent, allow_unknown: bool, out: *mut Slot) -> u32;
+    fn vlt_message_read(proto: *mut Lent, allow_unknown: bool, out: *mut Slot) -> u32;
     fn vlt_message_write(dtype: *mut Lent, out: *mut Slot) -> u32;
-    fn vlt_message_normal(message: *mut Lent, allow_unknown: bool, out: *mut Slot) -> u32;
+    fn vlt_message_normal(proto: *mut Lent, allow_unknown: bool, out: *mut Slot) -> u32;
     fn vlt_message_eq(one: *mut Lent, other: *mut Lent) -> u32;
-    fn vlt_message_copy(message: *mut Lent, out: *mut Slot) -> u32;
+    fn vlt_message_copy(proto: *mut Lent, out: *mut Slot) -> u32;
     fn vlt_message_from_nodes(
         nodes: *const Node,
         nodes_len: usize,
@@ -333,7 +324,7 @@ unsafe extern "C" {
         out: *mut Slot,
     ) -> u32;
     fn vlt_message_to_nodes(
-        message: *mut Lent,
+        proto: *mut Lent,
         nodes: *mut Node,
         nodes_len: usize,
         node_count: *mut usize,
@@ -502,6 +493,38 @@ pub(crate) fn dtype_union_consecutive(
     }
 }
 
+/// Puts the type that the message of these nodes and texts describes. Returns the errors of `vlt_message_from_nodes` and of
+/// `vlt_message_read`.
+pub(crate) fn dtype_from_nodes(nodes: &[Node], texts: &[u8], allow_unknown: bool, out: &mut Slot) -> u32 {
+    // SAFETY: see the head of this file.
+    unsafe { vlt_dtype_from_nodes(nodes.as_ptr(), nodes.len(), texts.as_ptr(), texts.len(), allow_unknown, out) }
+}
+
+/// Writes the nodes and the texts of the message of the type, as `vlt_message_to_nodes` does.
+pub(crate) fn dtype_to_nodes(
+    dtype: &Slot,
+    nodes: &mut [Node],
+    node_count: &mut usize,
+    texts: &mut [u8],
+    text_length: &mut usize,
+) -> u32 {
+    let mut lent_dtype = dtype.lent();
+    // SAFETY: see the head of this file.
+    let result = unsafe {
+        vlt_dtype_to_nodes(
+            &mut lent_dtype,
+            nodes.as_mut_ptr(),
+            nodes.len(),
+            node_count,
+            texts.as_mut_ptr(),
+            texts.len(),
+            text_length,
+        )
+    };
+    dtype.keeps(lent_dtype);
+    result
+}
+
 /// Puts the type with this outer nullability; for an extension it is that of its storage. If the type can't be
 /// non-nullable, it returns 5.
 pub(crate) fn dtype_with_nullability(dtype: &Slot, nullable: bool, out: &mut Slot) -> u32 {
@@ -625,6 +648,32 @@ pub(crate) fn dtype_keys_sorted(dtype: &Slot) -> u32 {
     let mut lent_dtype = dtype.lent();
     // SAFETY: see the head of this file.
     let result = unsafe { vlt_dtype_keys_sorted(&mut lent_dtype) };
+    dtype.keeps(lent_dtype);
+    result
+}
+
+/// Reads a type from its text in the form of the console, for example `{a=i32, b=list(utf8)?}`, and puts it.
+///
+/// If the text can't be read, `position` is the first byte that doesn't fit, counted from 1.
+pub(crate) fn dtype_from_text(text: &[u8], out: &mut Slot, position: &mut usize) -> u32 {
+    // SAFETY: see the head of this file.
+    unsafe { vlt_dtype_from_text(text.as_ptr(), text.len(), out, position) }
+}
+
+/// Writes a type in the form of the console, which reads back as the same type.
+pub(crate) fn dtype_to_text(dtype: &Slot, buffer: &mut [u8], length: &mut usize) -> u32 {
+    let mut lent_dtype = dtype.lent();
+    // SAFETY: see the head of this file.
+    let result = unsafe { vlt_dtype_to_text(&mut lent_dtype, buffer.as_mut_ptr(), buffer.len(), length) };
+    dtype.keeps(lent_dtype);
+    result
+}
+
+/// Writes a type as the library displays it.
+pub(crate) fn dtype_display(dtype: &Slot, buffer: &mut [u8], length: &mut usize) -> u32 {
+    let mut lent_dtype = dtype.lent();
+    // SAFETY: see the head of this file.
+    let result = unsafe { vlt_dtype_display(&mut lent_dtype, buffer.as_mut_ptr(), buffer.len(), length) };
     dtype.keeps(lent_dtype);
     result
 }
@@ -795,61 +844,6 @@ pub(crate) fn dtype_extension(id: &[u8], metadata: &[u8], storage: &Slot, out: &
     result
 }
 
-/// Puts the type that `vlt_message_read` gives of the message of these nodes.
-pub(crate) fn dtype_from_nodes(nodes: &[Node], texts: &[u8], allow_unknown: bool, out: &mut Slot) -> u32 {
-    // SAFETY: see the head of this file.
-    unsafe { vlt_dtype_from_nodes(nodes.as_ptr(), nodes.len(), texts.as_ptr(), texts.len(), allow_unknown, out) }
-}
-
-/// Writes the nodes and the pool of the message of a type.
-pub(crate) fn dtype_to_nodes(
-    dtype: &Slot,
-    nodes: &mut [Node],
-    node_count: &mut usize,
-    texts: &mut [u8],
-    text_length: &mut usize,
-) -> u32 {
-    let mut lent_dtype = dtype.lent();
-    // SAFETY: see the head of this file.
-    let result = unsafe {
-        vlt_dtype_to_nodes(
-            &mut lent_dtype,
-            nodes.as_mut_ptr(),
-            nodes.len(),
-            node_count,
-            texts.as_mut_ptr(),
-            texts.len(),
-            text_length,
-        )
-    };
-    dtype.keeps(lent_dtype);
-    result
-}
-
-/// Reads a type from the console's form. 4 with the byte's position where it can't be read, 6 where it is too deep.
-pub(crate) fn dtype_from_text(text: &[u8], out: &mut Slot, position: &mut usize) -> u32 {
-    // SAFETY: see the head of this file.
-    unsafe { vlt_dtype_from_text(text.as_ptr(), text.len(), out, position) }
-}
-
-/// Writes a type in the console's form, which reads back as the same type.
-pub(crate) fn dtype_to_text(dtype: &Slot, buffer: &mut [u8], length: &mut usize) -> u32 {
-    let mut lent_dtype = dtype.lent();
-    // SAFETY: see the head of this file.
-    let result = unsafe { vlt_dtype_to_text(&mut lent_dtype, buffer.as_mut_ptr(), buffer.len(), length) };
-    dtype.keeps(lent_dtype);
-    result
-}
-
-/// Writes a type as the library displays it.
-pub(crate) fn dtype_display(dtype: &Slot, buffer: &mut [u8], length: &mut usize) -> u32 {
-    let mut lent_dtype = dtype.lent();
-    // SAFETY: see the head of this file.
-    let result = unsafe { vlt_dtype_display(&mut lent_dtype, buffer.as_mut_ptr(), buffer.len(), length) };
-    dtype.keeps(lent_dtype);
-    result
-}
-
 /// Puts the struct without the field at the position, with the nullability of the type. If the position is not below the
 /// number of fields, it returns 117.
 pub(crate) fn struct_without_field(dtype: &Slot, index: usize, out: &mut Slot) -> u32 {
@@ -934,7 +928,7 @@ pub(crate) fn struct_field_name(dtype: &Slot, index: usize, buffer: &mut [u8], l
     result
 }
 
-/// Writes the fields, a line each, as the library indents them.
+/// Writes the fields of a struct over several lines, one field a line, as the library indents them.
 pub(crate) fn struct_indented(dtype: &Slot, buffer: &mut [u8], length: &mut usize) -> u32 {
     let mut lent_dtype = dtype.lent();
     // SAFETY: see the head of this file.
@@ -1012,6 +1006,23 @@ pub(crate) fn union_is_consecutive(dtype: &Slot) -> u32 {
     // SAFETY: see the head of this file.
     let result = unsafe { vlt_union_is_consecutive(&mut lent_dtype) };
     dtype.keeps(lent_dtype);
+    result
+}
+
+/// Reads a path from its text in the form of the console, for example `a.[].b`, or `.` for the root, and puts it.
+///
+/// If the text can't be read, `position` is the first byte that doesn't fit, counted from 1.
+pub(crate) fn path_from_text(text: &[u8], out: &mut Slot, position: &mut usize) -> u32 {
+    // SAFETY: see the head of this file.
+    unsafe { vlt_path_from_text(text.as_ptr(), text.len(), out, position) }
+}
+
+/// Writes a path in the form of the console, which reads back as the same path.
+pub(crate) fn path_to_text(path: &Slot, buffer: &mut [u8], length: &mut usize) -> u32 {
+    let mut lent_path = path.lent();
+    // SAFETY: see the head of this file.
+    let result = unsafe { vlt_path_to_text(&mut lent_path, buffer.as_mut_ptr(), buffer.len(), length) };
+    path.keeps(lent_path);
     result
 }
 
@@ -1162,27 +1173,6 @@ pub(crate) fn path_hash(path: &Slot, hash: &mut u64) -> u32 {
 pub(crate) fn path_from_steps(names: &[u8], name_lengths: &[usize], out: &mut Slot) -> u32 {
     // SAFETY: see the head of this file.
     unsafe { vlt_path_from_steps(names.as_ptr(), names.len(), name_lengths.as_ptr(), name_lengths.len(), out) }
-}
-
-/// Reads a path in the console's form, such as `a.[].b`, or `.` for the root.
-pub(crate) fn path_from_text(text: &[u8], out: &mut Slot, position: &mut usize) -> u32 {
-    // SAFETY: see the head of this file.
-    unsafe { vlt_path_from_text(text.as_ptr(), text.len(), out, position) }
-}
-
-/// Writes a path in the console's form, which reads back as the same path.
-pub(crate) fn path_to_text(path: &Slot, buffer: &mut [u8], length: &mut usize) -> u32 {
-    let mut lent_path = path.lent();
-    // SAFETY: see the head of this file.
-    let result = unsafe { vlt_path_to_text(&mut lent_path, buffer.as_mut_ptr(), buffer.len(), length) };
-    path.keeps(lent_path);
-    result
-}
-
-/// Puts the path of a path message of these parts, a name each; VLT_ELEMENT stands for a part without a kind: 136.
-pub(crate) fn path_from_message(names: &[u8], name_lengths: &[usize], out: &mut Slot) -> u32 {
-    // SAFETY: see the head of this file.
-    unsafe { vlt_path_from_message(names.as_ptr(), names.len(), name_lengths.as_ptr(), name_lengths.len(), out) }
 }
 
 /// Writes what the set asks for below the path: whether the path itself is in it, whether a path of it goes on with the
@@ -1462,31 +1452,16 @@ pub(crate) fn mask_eq(one: &Slot, other: &Slot) -> u32 {
     result
 }
 
-/// Reads the message of a type in the console's form.
-pub(crate) fn message_from_text(text: &[u8], out: &mut Slot, position: &mut usize) -> u32 {
+/// Puts the type that the message describes. Returns 100 and the number of the first error in the message; an extension is one (135) unless `allow_unknown`.
+pub(crate) fn message_read(proto: &Slot, allow_unknown: bool, out: &mut Slot) -> u32 {
+    let mut lent_proto = proto.lent();
     // SAFETY: see the head of this file.
-    unsafe { vlt_message_from_text(text.as_ptr(), text.len(), out, position) }
-}
-
-/// Writes a message in the console's form, which reads back as the same message.
-pub(crate) fn message_to_text(message: &Slot, buffer: &mut [u8], length: &mut usize) -> u32 {
-    let mut lent_message = message.lent();
-    // SAFETY: see the head of this file.
-    let result = unsafe { vlt_message_to_text(&mut lent_message, buffer.as_mut_ptr(), buffer.len(), length) };
-    message.keeps(lent_message);
+    let result = unsafe { vlt_message_read(&mut lent_proto, allow_unknown, out) };
+    proto.keeps(lent_proto);
     result
 }
 
-/// Puts the type of a message. 1xx: the first error. Extensions of every id are kept where `allow_unknown`, else 135.
-pub(crate) fn message_read(message: &Slot, allow_unknown: bool, out: &mut Slot) -> u32 {
-    let mut lent_message = message.lent();
-    // SAFETY: see the head of this file.
-    let result = unsafe { vlt_message_read(&mut lent_message, allow_unknown, out) };
-    message.keeps(lent_message);
-    result
-}
-
-/// Puts the message of a type.
+/// Puts the message of the type.
 pub(crate) fn message_write(dtype: &Slot, out: &mut Slot) -> u32 {
     let mut lent_dtype = dtype.lent();
     // SAFETY: see the head of this file.
@@ -1495,16 +1470,16 @@ pub(crate) fn message_write(dtype: &Slot, out: &mut Slot) -> u32 {
     result
 }
 
-/// Puts the normal form of a message: what is written of the type that is read from it.
-pub(crate) fn message_normal(message: &Slot, allow_unknown: bool, out: &mut Slot) -> u32 {
-    let mut lent_message = message.lent();
+/// Puts the message of the type that the message describes, in which missing metadata is empty. Returns the errors of `vlt_message_read`.
+pub(crate) fn message_normal(proto: &Slot, allow_unknown: bool, out: &mut Slot) -> u32 {
+    let mut lent_proto = proto.lent();
     // SAFETY: see the head of this file.
-    let result = unsafe { vlt_message_normal(&mut lent_message, allow_unknown, out) };
-    message.keeps(lent_message);
+    let result = unsafe { vlt_message_normal(&mut lent_proto, allow_unknown, out) };
+    proto.keeps(lent_proto);
     result
 }
 
-/// Returns 0 where the messages are equal in all fields.
+/// Returns 0 if the messages are equal in every field.
 pub(crate) fn message_eq(one: &Slot, other: &Slot) -> u32 {
     if one.is(other) {
         return SAME_SLOT;
@@ -1518,35 +1493,36 @@ pub(crate) fn message_eq(one: &Slot, other: &Slot) -> u32 {
     result
 }
 
-/// Puts a copy.
-pub(crate) fn message_copy(message: &Slot, out: &mut Slot) -> u32 {
-    let mut lent_message = message.lent();
+/// Puts a copy of the message.
+pub(crate) fn message_copy(proto: &Slot, out: &mut Slot) -> u32 {
+    let mut lent_proto = proto.lent();
     // SAFETY: see the head of this file.
-    let result = unsafe { vlt_message_copy(&mut lent_message, out) };
-    message.keeps(lent_message);
+    let result = unsafe { vlt_message_copy(&mut lent_proto, out) };
+    proto.keeps(lent_proto);
     result
 }
 
-/// Puts the message of these nodes. 9 where they aren't one message with exactly this pool, 3 where a text isn't UTF-8,
-/// 6 where it is deeper than 128 levels.
+/// Puts the message of these nodes and texts. Returns 9 if they aren't those of one message, 3 if a name or an id isn't
+/// UTF-8, and 6 if a message is nested in more than 128 others.
 pub(crate) fn message_from_nodes(nodes: &[Node], texts: &[u8], out: &mut Slot) -> u32 {
     // SAFETY: see the head of this file.
     unsafe { vlt_message_from_nodes(nodes.as_ptr(), nodes.len(), texts.as_ptr(), texts.len(), out) }
 }
 
-/// Writes the nodes and the pool of a message, and how many of each; 7 with both counts where either is too small.
+/// Writes the nodes and the texts of the message, and how many there are of each. If either buffer is too small it writes
+/// the two numbers alone, and returns 7.
 pub(crate) fn message_to_nodes(
-    message: &Slot,
+    proto: &Slot,
     nodes: &mut [Node],
     node_count: &mut usize,
     texts: &mut [u8],
     text_length: &mut usize,
 ) -> u32 {
-    let mut lent_message = message.lent();
+    let mut lent_proto = proto.lent();
     // SAFETY: see the head of this file.
     let result = unsafe {
         vlt_message_to_nodes(
-            &mut lent_message,
+            &mut lent_proto,
             nodes.as_mut_ptr(),
             nodes.len(),
             node_count,
@@ -1555,13 +1531,15 @@ pub(crate) fn message_to_nodes(
             text_length,
         )
     };
-    message.keeps(lent_message);
+    proto.keeps(lent_proto);
     result
 }
 
-/// Writes the answer of the console to one line (without its newline), also if the line can't be read or the call returns an
-/// error: the text says so. 1 if the line has no answer (blank, a comment, `exit`); 7; 100. Nothing is kept from line to line.
-/// (NOT PROVED YET: its libraries aren't built; perhaps it comes later.)
+/// Writes the answer of the console to one line, which is given without its newline. The answer is a text also if the
+/// line can't be read, or if the call that it names returns an error.
+///
+/// Returns 1 if the line has no answer, because it is blank, a comment or `exit`. No line knows the sets and sessions that
+/// an earlier line named.
 pub(crate) fn answer(line: &[u8], buffer: &mut [u8], length: &mut usize) -> u32 {
     // SAFETY: see the head of this file.
     unsafe { vlt_answer(line.as_ptr(), line.len(), buffer.as_mut_ptr(), buffer.len(), length) }

@@ -2,24 +2,25 @@
 // SPDX-FileCopyrightText: Copyright the Vortex contributors
 
 //! Schemas as messages, and their flat form.
-use crate::calls::{self, holds, made, or_abort, read, room};
+use crate::calls::{self, holds, made, or_abort, room};
 use crate::dtype::DType;
 use crate::error::Error;
 use crate::ffi::{self, Node, Slot};
 use std::fmt;
 use std::ptr;
-use std::str::FromStr;
 
 /// A message of a type: the tree of a protobuf message, which may say a type or not.
 ///
 /// ```
-/// use vortex_logical_types::{DType, Message};
+/// use vortex_logical_types::{DType, Message, Node, Nodes};
 ///
 /// let dtype: DType = "list(i32?)".parse()?;
-/// let message = dtype.to_message();
-/// assert_eq!(message.to_source(), "list { element_type { primitive { type: 6 nullable: true } } }");
-/// assert_eq!(message.read(false)?, dtype);
-/// assert_eq!("list {}".parse::<Message>()?.read(false).unwrap_err().to_string(), "a message of a list has no element");
+/// assert_eq!(dtype.to_message().read(false)?, dtype);
+///
+/// // A program that has decoded the bytes of a message makes its nodes: here a list without an element.
+/// let list = Node { kind: 7, ..Node::default() };
+/// let message = Message::from_nodes(&Nodes { nodes: vec![list], texts: Vec::new() })?;
+/// assert_eq!(message.read(false).unwrap_err().to_string(), "a message of a list has no element");
 /// # Ok::<(), vortex_logical_types::Error>(())
 /// ```
 pub struct Message {
@@ -78,16 +79,6 @@ impl Message {
     pub fn try_clone(&self) -> Result<Message, Error> {
         made(|out| ffi::message_copy(&self.slot, out)).map(Message::of)
     }
-
-    /// Returns the console's text of the message, from which [`FromStr`] reads the same message.
-    pub fn to_source(&self) -> String {
-        or_abort(self.try_to_source())
-    }
-
-    /// Returns the console's text of the message, or that memory ran out.
-    pub fn try_to_source(&self) -> Result<String, Error> {
-        calls::text(|buffer, length| ffi::message_to_text(&self.slot, buffer, length))
-    }
 }
 
 impl DType {
@@ -138,21 +129,9 @@ fn flat(call: impl Fn(&mut [Node], &mut usize, &mut [u8], &mut usize) -> u32) ->
     calls::done(code).map(|_| flat)
 }
 
-/// Reads the console's text of a message, which is protobuf's text format.
-///
-/// # Errors
-/// [`Error::Unreadable`] with the position, [`Error::TooDeep`], and [`Error::OutOfMemory`].
-impl FromStr for Message {
-    type Err = Error;
-
-    fn from_str(text: &str) -> Result<Message, Error> {
-        read(text, ffi::message_from_text).map(Message::of)
-    }
-}
-
 impl fmt::Debug for Message {
     fn fmt(&self, f: &mut fmt::Formatter<'_>) -> fmt::Result {
-        write!(f, "Message({})", self.try_to_source().map_err(|_| fmt::Error)?)
+        f.debug_tuple("Message").field(&self.to_nodes().map_err(|_| fmt::Error)?).finish()
     }
 }
 

@@ -111,21 +111,6 @@ impl FieldPath {
         made(|out| ffi::path_from_steps(names, lengths, out)).map(FieldPath::of)
     }
 
-    /// Returns the path that a path message of these parts says: a name, or `None` for a part without a kind.
-    ///
-    /// # Errors
-    /// The library's error 36 if a part has no kind, and [`Error::OutOfMemory`].
-    pub fn from_message<N: AsRef<str>>(parts: impl IntoIterator<Item = Option<N>>) -> Result<FieldPath, Error> {
-        let mut names = Names::default();
-        for part in parts {
-            match part {
-                Some(name) => names.push(name.as_ref())?,
-                None => names.push_element()?,
-            }
-        }
-        made(|out| ffi::path_from_message(&names.text, &names.lengths, out)).map(FieldPath::of)
-    }
-
     /// Returns the steps.
     pub fn parts(&self) -> Vec<Field> {
         or_abort(self.try_parts())

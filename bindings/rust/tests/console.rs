@@ -308,17 +308,9 @@ fn answer(words: &[String]) -> Answer {
         ("members", _) => sorted(paths_of(rest)?.iter()),
         ("contains", [p, ..]) => paths_of(&rest[1..])?.contains(&path_of(p)?).to_string(),
         ("project_paths", [t, ..]) => source_or_none(type_of(t)?.try_project_paths(&paths_of(&rest[1..])?)?),
-        ("write", [t]) => type_of(t)?.try_to_message()?.to_source(),
-        ("read", [session, ..]) => message_of(&rest[1..])?.read(session_of(session)?)?.to_source(),
-        ("normal", [session, ..]) => message_of(&rest[1..])?.normal(session_of(session)?)?.to_source(),
         ("round_trip", [session, t]) => type_of(t)?.to_message().read(session_of(session)?)?.to_source(),
-        ("message", [_, ..]) => message_of(rest)?.to_source(),
         _ => return Err(Left::NoCounterpart),
     })
-}
-
-fn message_of(words: &[String]) -> Result<Message, Left> {
-    Ok(words.join(" ").parse::<Message>()?)
 }
 
 /// Whether the line needs a set or a session that an earlier line made.

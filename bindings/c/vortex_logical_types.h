@@ -462,8 +462,8 @@ uint32_t vlt_paths_get(vlt_slot *paths, size_t index, vlt_slot *out);
 
 /* == The part of a type that paths lead to == */
 
-/* Puts the type as far as the paths of the set lead; there is none if no path of the set is in the type. */
-uint32_t vlt_project_paths(vlt_slot *dtype, vlt_slot *paths, vlt_slot *out);
+/* Puts the type as far as the paths of the set lead; 1 where none does. */
+uint32_t vlt_project_paths(vlt_slot *dtype, vlt_slot *set, vlt_slot *out);
 
 
 /* == Masks == */
@@ -1069,10 +1069,10 @@ static inline uint32_t vlt_checked_paths_get(vlt_slot *paths, size_t index, vlt_
 }
 #define vlt_paths_get vlt_checked_paths_get
 
-static inline uint32_t vlt_checked_project_paths(vlt_slot *dtype, vlt_slot *paths, vlt_slot *out) {
-    if (dtype == paths || dtype == out || paths == out)
+static inline uint32_t vlt_checked_project_paths(vlt_slot *dtype, vlt_slot *set, vlt_slot *out) {
+    if (dtype == set || dtype == out || set == out)
         return VLT_SAME_SLOT;
-    return vlt_project_paths(dtype, paths, out);
+    return vlt_project_paths(dtype, set, out);
 }
 #define vlt_project_paths vlt_checked_project_paths
 

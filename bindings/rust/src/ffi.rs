@@ -299,7 +299,7 @@ unsafe extern "C" {
     fn vlt_set_extend_from_list(paths: *mut Lent, list: *mut Lent) -> u32;
     fn vlt_paths_len(paths: *mut Lent, count: *mut usize) -> u32;
     fn vlt_paths_get(paths: *mut Lent, index: usize, out: *mut Slot) -> u32;
-    fn vlt_project_paths(dtype: *mut Lent, paths: *mut Lent, out: *mut Slot) -> u32;
+    fn vlt_project_paths(dtype: *mut Lent, set: *mut Lent, out: *mut Slot) -> u32;
     fn vlt_mask_all(out: *mut Slot) -> u32;
     fn vlt_mask_prefix(path: *mut Lent, out: *mut Slot) -> u32;
     fn vlt_mask_exact(path: *mut Lent, out: *mut Slot) -> u32;
@@ -1337,17 +1337,17 @@ pub(crate) fn paths_get(paths: &Slot, index: usize, out: &mut Slot) -> u32 {
     result
 }
 
-/// Puts the type as far as the paths of the set lead; there is none if no path of the set is in the type.
-pub(crate) fn project_paths(dtype: &Slot, paths: &Slot, out: &mut Slot) -> u32 {
-    if dtype.is(paths) {
+/// Puts the type as far as the paths of the set lead; 1 where none does.
+pub(crate) fn project_paths(dtype: &Slot, set: &Slot, out: &mut Slot) -> u32 {
+    if dtype.is(set) {
         return SAME_SLOT;
     }
     let mut lent_dtype = dtype.lent();
-    let mut lent_paths = paths.lent();
+    let mut lent_set = set.lent();
     // SAFETY: see the head of this file.
-    let result = unsafe { vlt_project_paths(&mut lent_dtype, &mut lent_paths, out) };
+    let result = unsafe { vlt_project_paths(&mut lent_dtype, &mut lent_set, out) };
     dtype.keeps(lent_dtype);
-    paths.keeps(lent_paths);
+    set.keeps(lent_set);
     result
 }
 

@@ -2,10 +2,9 @@
 // SPDX-FileCopyrightText: Copyright the Vortex contributors
 
 // Structs: other fields.
-ghost use Rattle.std.specs.Prelude.{◌≡◌, ◌⊎◌, ◌++◌, remove};
+ghost use Rattle.std.specs.Prelude.{◌≡◌, ◌⊎◌};
 ghost use Rattle.std.specs.declared.option.Option.TheVariants.{Some};
 ghost use Rattle.c_objects.specs.declared.object.Object.{Object};
-ghost use Rattle.dtype_types.specs.tree.Kinds.{struct_fields};
 ghost use Rattle.dtype_types.specs.tree.Tree as t;
 ghost use Rattle.dtype_types.specs.tree.TreeOf.{children, tree};
 ghost use Rattle.vortex_logical_types.specs.Answers.{JoinsFields, PutsFields, PutsThe, PutsWithout, Within, WithinBoth, WithinThe, struct_parts, type_in};

@@ -6,7 +6,7 @@ ghost use Rattle.std.specs.Prelude.{◌≡◌};
 ghost use Rattle.std.specs.declared.option.Option.TheVariants.{Some};
 ghost use Rattle.c_objects.specs.declared.object.Object.{Object};
 ghost use Rattle.dtype_base.specs.Nullability.{either, nullability_of};
-ghost use Rattle.dtype_types.specs.nullability.Nullable.{CanBeNonNullable, nullability, set_null};
+ghost use Rattle.dtype_types.specs.nullability.Nullable.{nullability};
 ghost use Rattle.dtype_types.specs.tree.TreeOf.{tree};
 ghost use Rattle.vortex_logical_types.specs.Answers.{ChangesNullability, ChangesNullabilityOf, Writes, WritesThe, hash_ignoring_nullability, hash_of_type, type_in};
 

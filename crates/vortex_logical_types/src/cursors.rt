@@ -91,7 +91,7 @@ fn below(
     }
     *is_end = cursor.is_end();
     *has_element = cursor.element().is_some();
-    *name_count = cursor.name_count();
+    *name_count = cursor.names().len();
     OK
 }
 
@@ -143,7 +143,7 @@ fn names(alloc: Global, paths: &FieldPathSet, path: &FieldPath, out: &mut Slot) 
 }
 
 fn names_at(alloc: Global, cursor: FieldPathCursor<'_>) -> VortexResult<Vec<FieldPath>> {
-    let mut names = Vec::with_capacity(alloc, cursor.name_count())?;
+    let mut names = Vec::with_capacity(alloc, cursor.names().len())?;
     for (name, _below) in cursor.names() {
         let step = Field::Name(name.try_clone(alloc)?);
         names.push(FieldPath::from_field(alloc, step)?)?;

@@ -2,9 +2,10 @@
 // SPDX-FileCopyrightText: Copyright the Vortex contributors
 
 // What an export returns: 0 to 9 as below, or 100 and the number of the library's error.
-ghost use Rattle.std.specs.Prelude.{◌≡◌, ◌+◌};
+ghost use Rattle.std.specs.Prelude.{◌≡◌, ◌≤◌, ◌⊎◌, ◌+◌};
 ghost use Rattle.dtype_base.specs.Errors.{number_of};
 
+use console_core::ConsoleError;
 use dtype_base::VortexError;
 
 /// The call did what it says, or the answer is yes.
@@ -35,4 +36,28 @@ pub fn of_library(error: VortexError) -> u32
     ensures { result ≡ 100 + number_of error }
 {
     LIBRARY + u32::from(error.number())
+}
+
+/// Returns what an export returns of this error of the console's reader. If a text can't be read, it writes the position of
+/// the first byte that doesn't fit, counted from 1.
+pub fn of_console(error: &ConsoleError, position: &mut usize) -> u32
+    ensures code { 4 ≤ result }
+    ensures unchanged { (result ≡ 4) ⊎ (position.new ≡ position.old) }
+{
+    match error {
+        ConsoleError::Library { number, .. } => LIBRARY + u32::from(*number),
+        ConsoleError::Column { number, .. } => LIBRARY + u32::from(*number),
+        ConsoleError::Unreadable { position: at, .. } => unreadable(*at, position),
+        ConsoleError::Misread { position: at, .. } => unreadable(*at, position),
+        ConsoleError::UnknownWord { position: at, .. } => unreadable(*at, position),
+        ConsoleError::Condition(_) => CONDITION,
+        ConsoleError::UnknownName(_) => CONDITION,
+    }
+}
+
+fn unreadable(at: usize, position: &mut usize) -> u32
+    ensures { result ≡ 4 }
+{
+    *position = at;
+    UNREADABLE
 }

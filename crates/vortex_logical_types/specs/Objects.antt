@@ -23,7 +23,9 @@ use Rattle.dtype_paths.specs.declared.field.Field.{Field}
 use Rattle.dtype_paths.specs.declared.field.Field.TheVariants.{ElementType, Name}
 use Rattle.dtype_paths.specs.declared.field_mask.FieldMask.{FieldMask}
 use Rattle.dtype_paths.specs.declared.field_mask.FieldMask.TheVariants.{All, Exact, Prefix}
-use Rattle.vortex_logical_types.specs.Answers.{Buffer, Tells, WritesBytes}
+use Rattle.dtype_projection.specs.Projected.{projected}
+use Rattle.dtype_types.specs.tree.Tree.{Tree}
+use Rattle.vortex_logical_types.specs.Answers.{Buffer, PutsIfAny, Tells, WritesBytes}
 
 -- the object in a slot, if it is of the kind
 abbrev pub path_in : Option Object → Option (List Field)
@@ -80,11 +82,6 @@ GivesIf see (Some y) code old new = ((code ≡ 0) × (see new ≡ Some y)) ⊎ (
 abbrev pub GivesIfOf : {X Y : Type 0} → Option X → (Option Object → Option Y) → (X → Option Y) → ℕ → Option Object → Option Object → Type 0
 GivesIfOf None see f code old new = (code ≡ 2) × (new ≡ old)
 GivesIfOf (Some x) see f code old new = GivesIf see (f x) code old new
-
-abbrev pub GivesIfOfBoth : {X Y Z : Type 0} → Option X → Option Y → (Option Object → Option Z) → (X → Y → Option Z) → ℕ → Option Object → Option Object → Type 0
-GivesIfOfBoth None y see f code old new = (code ≡ 2) × (new ≡ old)
-GivesIfOfBoth (Some x) None see f code old new = (code ≡ 2) × (new ≡ old)
-GivesIfOfBoth (Some x) (Some y) see f code old new = GivesIf see (f x y) code old new
 
 -- a list of paths is put into a slot: some list with the property P
 abbrev pub GivesList : (List (List Field) → Type 0) → ℕ → Option Object → Option Object → Type 0
@@ -194,3 +191,13 @@ BelowOf (Some s) (Some p) code old new = TellsBelow (after_steps p (set.contains
 -- the hash of a path by std's hasher
 abbrev pub hash_of_path : List Field → ℕ
 hash_of_path p = sip.finish (fold sip.write sip.initial (path_writes p))
+
+-- the part of a type that the paths of a set lead to, if any of them exists in the type
+abbrev pub projection : Tree → PathSet → Option Tree
+projection t s = projected t (set.contains s)
+
+-- that part of the type in one slot, for the set in another, is put into a slot
+abbrev pub PutsProjected : Option Tree → Option PathSet → ℕ → Option Object → Option Object → Type 0
+PutsProjected None s code old new = (code ≡ 2) × (new ≡ old)
+PutsProjected (Some t) None code old new = (code ≡ 2) × (new ≡ old)
+PutsProjected (Some t) (Some s) code old new = PutsIfAny (projection t s) code old new

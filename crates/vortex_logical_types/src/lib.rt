@@ -28,6 +28,7 @@ mod objects;
 mod parts;
 mod path_texts;
 mod paths;
+mod projections;
 mod sets;
 mod source_texts;
 mod steps;

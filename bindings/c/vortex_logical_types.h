@@ -84,32 +84,6 @@ static inline bool vlt_is_among(const vlt_slot *slot, const vlt_slot *slots, siz
 /* The library's error 0, out of memory. Its error n, up to 36, is this number and n. */
 #define VLT_LIBRARY 100u
 
-/* A message, a text or a tag in the flat form. A message is followed by its texts, its tags and then its parts, each
- * with what follows it. Fields that a kind doesn't use are 0. */
-typedef struct {
-    /* 0 of a message without a kind; 1 null, 2 bool, 3 primitive, 4 decimal, 5 utf8, 6 binary, 7 list, 8 fixed-size list,
-     * 9 map, 10 struct, 11 union, 12 variant, 13 extension; 14 of a text, 15 of a tag. */
-    uint32_t kind;
-    /* 1 if values may be null, else 0. */
-    uint8_t nullable;
-    /* 1 if a map's keys are declared to be sorted, else 0. */
-    uint8_t keys_sorted;
-    /* 1 if a list's element, a map's key or an extension's storage follows, else 0. */
-    uint8_t has_first;
-    /* 1 if a map's value or the text of an extension's metadata follows, else 0. */
-    uint8_t has_second;
-    /* How many names follow a struct or a union. */
-    uint32_t names;
-    /* How many tags follow a union. */
-    uint32_t tags;
-    /* How many types follow a struct or a union. */
-    uint32_t types;
-    /* A decimal's precision, a fixed-size list's size, or how many bytes a text has. */
-    uint32_t number;
-    /* A primitive type's number, a decimal's scale, or a tag. */
-    int32_t value;
-} vlt_node;
-
 
 /* == All objects == */
 
@@ -174,17 +148,6 @@ uint32_t vlt_dtype_union(
 uint32_t vlt_dtype_union_consecutive(
         const uint8_t *names, size_t names_len, const size_t *name_lengths, size_t name_lengths_len, vlt_slot *dtypes,
         size_t dtypes_len, bool nullable, vlt_slot *out);
-
-/* Puts the type that the message of these nodes and texts describes. Returns the errors of `vlt_message_from_nodes` and of
- * `vlt_message_read`. */
-uint32_t vlt_dtype_from_nodes(
-        const vlt_node *nodes, size_t nodes_len, const uint8_t *texts, size_t texts_len, bool allow_unknown,
-        vlt_slot *out);
-
-/* Writes the nodes and the texts of the message of the type, as `vlt_message_to_nodes` does. */
-uint32_t vlt_dtype_to_nodes(
-        vlt_slot *dtype, vlt_node *nodes, size_t nodes_len, size_t *node_count, uint8_t *texts, size_t texts_len,
-        size_t *text_length);
 
 /* Puts the type with this outer nullability; for an extension it is that of its storage. If the type can't be
  * non-nullable, it returns 5. */
@@ -462,7 +425,7 @@ uint32_t vlt_paths_get(vlt_slot *paths, size_t index, vlt_slot *out);
 
 /* == The part of a type that paths lead to == */
 
-/* Puts the type as far as the paths of the set lead; 1 where none does. */
+/* Puts the part of the type that the paths of the set lead to. If no path of the set exists in the type, it returns 1. */
 uint32_t vlt_project_paths(vlt_slot *dtype, vlt_slot *set, vlt_slot *out);
 
 
@@ -500,45 +463,6 @@ uint32_t vlt_mask_matches_root(vlt_slot *mask);
 
 /* Returns 0 if the masks are equal. */
 uint32_t vlt_mask_eq(vlt_slot *one, vlt_slot *other);
-
-
-/* == Messages == */
-
-/* Puts the type that the message describes. Returns 100 and the number of the first error in the message; an extension is one (135) unless `allow_unknown`. */
-uint32_t vlt_message_read(vlt_slot *proto, bool allow_unknown, vlt_slot *out);
-
-/* Puts the message of the type. */
-uint32_t vlt_message_write(vlt_slot *dtype, vlt_slot *out);
-
-/* Puts the message of the type that the message describes, in which missing metadata is empty. Returns the errors of `vlt_message_read`. */
-uint32_t vlt_message_normal(vlt_slot *proto, bool allow_unknown, vlt_slot *out);
-
-/* Returns 0 if the messages are equal in every field. */
-uint32_t vlt_message_eq(vlt_slot *one, vlt_slot *other);
-
-/* Puts a copy of the message. */
-uint32_t vlt_message_copy(vlt_slot *proto, vlt_slot *out);
-
-/* Puts the message of these nodes and texts. Returns 9 if they aren't those of one message, 3 if a name or an id isn't
- * UTF-8, and 6 if a message is nested in more than 128 others. */
-uint32_t vlt_message_from_nodes(
-        const vlt_node *nodes, size_t nodes_len, const uint8_t *texts, size_t texts_len, vlt_slot *out);
-
-/* Writes the nodes and the texts of the message, and how many there are of each. If either buffer is too small it writes
- * the two numbers alone, and returns 7. */
-uint32_t vlt_message_to_nodes(
-        vlt_slot *proto, vlt_node *nodes, size_t nodes_len, size_t *node_count, uint8_t *texts, size_t texts_len,
-        size_t *text_length);
-
-
-/* == The console == */
-
-/* Writes the answer of the console to one line, which is given without its newline. The answer is a text also if the
- * line can't be read, or if the call that it names returns an error.
- *
- * Returns 1 if the line has no answer, because it is blank, a comment or `exit`. No line knows the sets and sessions that
- * an earlier line named. */
-uint32_t vlt_answer(const uint8_t *line, size_t line_len, uint8_t *buffer, size_t buffer_len, size_t *length);
 
 /* A call of a function above that takes two slots, or a pointer and a length, is a call of the inline
  * function below: it returns VLT_SAME_SLOT if two of the slots are one, because the proofs of the exports suppose
@@ -609,28 +533,6 @@ static inline uint32_t vlt_checked_dtype_union_consecutive(
             dtypes ? dtypes : (vlt_slot *)vlt_no_items(), dtypes_len, nullable, out);
 }
 #define vlt_dtype_union_consecutive vlt_checked_dtype_union_consecutive
-
-static inline uint32_t vlt_checked_dtype_from_nodes(
-        const vlt_node *nodes, size_t nodes_len, const uint8_t *texts, size_t texts_len, bool allow_unknown,
-        vlt_slot *out) {
-    if ((!nodes && nodes_len) || (!texts && texts_len))
-        return VLT_RANGE;
-    return vlt_dtype_from_nodes(
-            nodes ? nodes : (const vlt_node *)vlt_no_items(), nodes_len,
-            texts ? texts : (const uint8_t *)vlt_no_items(), texts_len, allow_unknown, out);
-}
-#define vlt_dtype_from_nodes vlt_checked_dtype_from_nodes
-
-static inline uint32_t vlt_checked_dtype_to_nodes(
-        vlt_slot *dtype, vlt_node *nodes, size_t nodes_len, size_t *node_count, uint8_t *texts, size_t texts_len,
-        size_t *text_length) {
-    if ((!nodes && nodes_len) || (!texts && texts_len))
-        return VLT_RANGE;
-    return vlt_dtype_to_nodes(
-            dtype, nodes ? nodes : (vlt_node *)vlt_no_items(), nodes_len, node_count,
-            texts ? texts : (uint8_t *)vlt_no_items(), texts_len, text_length);
-}
-#define vlt_dtype_to_nodes vlt_checked_dtype_to_nodes
 
 static inline uint32_t vlt_checked_dtype_with_nullability(vlt_slot *dtype, bool nullable, vlt_slot *out) {
     if (dtype == out)
@@ -1125,72 +1027,6 @@ static inline uint32_t vlt_checked_mask_eq(vlt_slot *one, vlt_slot *other) {
     return vlt_mask_eq(one, other);
 }
 #define vlt_mask_eq vlt_checked_mask_eq
-
-static inline uint32_t vlt_checked_message_read(vlt_slot *proto, bool allow_unknown, vlt_slot *out) {
-    if (proto == out)
-        return VLT_SAME_SLOT;
-    return vlt_message_read(proto, allow_unknown, out);
-}
-#define vlt_message_read vlt_checked_message_read
-
-static inline uint32_t vlt_checked_message_write(vlt_slot *dtype, vlt_slot *out) {
-    if (dtype == out)
-        return VLT_SAME_SLOT;
-    return vlt_message_write(dtype, out);
-}
-#define vlt_message_write vlt_checked_message_write
-
-static inline uint32_t vlt_checked_message_normal(vlt_slot *proto, bool allow_unknown, vlt_slot *out) {
-    if (proto == out)
-        return VLT_SAME_SLOT;
-    return vlt_message_normal(proto, allow_unknown, out);
-}
-#define vlt_message_normal vlt_checked_message_normal
-
-static inline uint32_t vlt_checked_message_eq(vlt_slot *one, vlt_slot *other) {
-    if (one == other)
-        return VLT_SAME_SLOT;
-    return vlt_message_eq(one, other);
-}
-#define vlt_message_eq vlt_checked_message_eq
-
-static inline uint32_t vlt_checked_message_copy(vlt_slot *proto, vlt_slot *out) {
-    if (proto == out)
-        return VLT_SAME_SLOT;
-    return vlt_message_copy(proto, out);
-}
-#define vlt_message_copy vlt_checked_message_copy
-
-static inline uint32_t vlt_checked_message_from_nodes(
-        const vlt_node *nodes, size_t nodes_len, const uint8_t *texts, size_t texts_len, vlt_slot *out) {
-    if ((!nodes && nodes_len) || (!texts && texts_len))
-        return VLT_RANGE;
-    return vlt_message_from_nodes(
-            nodes ? nodes : (const vlt_node *)vlt_no_items(), nodes_len,
-            texts ? texts : (const uint8_t *)vlt_no_items(), texts_len, out);
-}
-#define vlt_message_from_nodes vlt_checked_message_from_nodes
-
-static inline uint32_t vlt_checked_message_to_nodes(
-        vlt_slot *proto, vlt_node *nodes, size_t nodes_len, size_t *node_count, uint8_t *texts, size_t texts_len,
-        size_t *text_length) {
-    if ((!nodes && nodes_len) || (!texts && texts_len))
-        return VLT_RANGE;
-    return vlt_message_to_nodes(
-            proto, nodes ? nodes : (vlt_node *)vlt_no_items(), nodes_len, node_count,
-            texts ? texts : (uint8_t *)vlt_no_items(), texts_len, text_length);
-}
-#define vlt_message_to_nodes vlt_checked_message_to_nodes
-
-static inline uint32_t vlt_checked_answer(
-        const uint8_t *line, size_t line_len, uint8_t *buffer, size_t buffer_len, size_t *length) {
-    if ((!line && line_len) || (!buffer && buffer_len))
-        return VLT_RANGE;
-    return vlt_answer(
-            line ? line : (const uint8_t *)vlt_no_items(), line_len, buffer ? buffer : (uint8_t *)vlt_no_items(),
-            buffer_len, length);
-}
-#define vlt_answer vlt_checked_answer
 /* end of what tools/bindings writes */
 
 #ifdef __cplusplus

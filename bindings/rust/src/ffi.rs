@@ -91,34 +91,6 @@ pub(crate) const RANGE: u32 = 9;
 /// The library's error 0, out of memory. Its error n, up to 36, is this number and n.
 pub(crate) const LIBRARY: u32 = 100;
 
-/// A message, a text or a tag in the flat form. A message is followed by its texts, its tags and then its parts, each
-/// with what follows it. Fields that a kind doesn't use are 0.
-#[repr(C)]
-#[derive(Debug, Clone, Copy, PartialEq, Eq, Default)]
-pub struct Node {
-    /// 0 of a message without a kind; 1 null, 2 bool, 3 primitive, 4 decimal, 5 utf8, 6 binary, 7 list, 8 fixed-size list,
-    /// 9 map, 10 struct, 11 union, 12 variant, 13 extension; 14 of a text, 15 of a tag.
-    pub kind: u32,
-    /// 1 if values may be null, else 0.
-    pub nullable: u8,
-    /// 1 if a map's keys are declared to be sorted, else 0.
-    pub keys_sorted: u8,
-    /// 1 if a list's element, a map's key or an extension's storage follows, else 0.
-    pub has_first: u8,
-    /// 1 if a map's value or the text of an extension's metadata follows, else 0.
-    pub has_second: u8,
-    /// How many names follow a struct or a union.
-    pub names: u32,
-    /// How many tags follow a union.
-    pub tags: u32,
-    /// How many types follow a struct or a union.
-    pub types: u32,
-    /// A decimal's precision, a fixed-size list's size, or how many bytes a text has.
-    pub number: u32,
-    /// A primitive type's number, a decimal's scale, or a tag.
-    pub value: i32,
-}
-
 unsafe extern "C" {
     fn vlt_error_text(code: u32, buffer: *mut u8, buffer_len: usize, length: *mut usize) -> u32;
     fn vlt_abi_version() -> u32;
@@ -164,23 +136,6 @@ unsafe extern "C" {
         dtypes_len: usize,
         nullable: bool,
         out: *mut Slot,
-    ) -> u32;
-    fn vlt_dtype_from_nodes(
-        nodes: *const Node,
-        nodes_len: usize,
-        texts: *const u8,
-        texts_len: usize,
-        allow_unknown: bool,
-        out: *mut Slot,
-    ) -> u32;
-    fn vlt_dtype_to_nodes(
-        dtype: *mut Lent,
-        nodes: *mut Node,
-        nodes_len: usize,
-        node_count: *mut usize,
-        texts: *mut u8,
-        texts_len: usize,
-        text_length: *mut usize,
     ) -> u32;
     fn vlt_dtype_with_nullability(dtype: *mut Lent, nullable: bool, out: *mut Slot) -> u32;
     fn vlt_dtype_union_nullability(dtype: *mut Lent, nullable: bool, out: *mut Slot) -> u32;
@@ -311,28 +266,6 @@ unsafe extern "C" {
     fn vlt_mask_matches_all(mask: *mut Lent) -> u32;
     fn vlt_mask_matches_root(mask: *mut Lent) -> u32;
     fn vlt_mask_eq(one: *mut Lent, other: *mut Lent) -> u32;
-    fn vlt_message_read(proto: *mut Lent, allow_unknown: bool, out: *mut Slot) -> u32;
-    fn vlt_message_write(dtype: *mut Lent, out: *mut Slot) -> u32;
-    fn vlt_message_normal(proto: *mut Lent, allow_unknown: bool, out: *mut Slot) -> u32;
-    fn vlt_message_eq(one: *mut Lent, other: *mut Lent) -> u32;
-    fn vlt_message_copy(proto: *mut Lent, out: *mut Slot) -> u32;
-    fn vlt_message_from_nodes(
-        nodes: *const Node,
-        nodes_len: usize,
-        texts: *const u8,
-        texts_len: usize,
-        out: *mut Slot,
-    ) -> u32;
-    fn vlt_message_to_nodes(
-        proto: *mut Lent,
-        nodes: *mut Node,
-        nodes_len: usize,
-        node_count: *mut usize,
-        texts: *mut u8,
-        texts_len: usize,
-        text_length: *mut usize,
-    ) -> u32;
-    fn vlt_answer(line: *const u8, line_len: usize, buffer: *mut u8, buffer_len: usize, length: *mut usize) -> u32;
 }
 
 /// Writes what a result means in a few words. If no export returns this number, it returns 9.
@@ -491,38 +424,6 @@ pub(crate) fn dtype_union_consecutive(
             out,
         )
     }
-}
-
-/// Puts the type that the message of these nodes and texts describes. Returns the errors of `vlt_message_from_nodes` and of
-/// `vlt_message_read`.
-pub(crate) fn dtype_from_nodes(nodes: &[Node], texts: &[u8], allow_unknown: bool, out: &mut Slot) -> u32 {
-    // SAFETY: see the head of this file.
-    unsafe { vlt_dtype_from_nodes(nodes.as_ptr(), nodes.len(), texts.as_ptr(), texts.len(), allow_unknown, out) }
-}
-
-/// Writes the nodes and the texts of the message of the type, as `vlt_message_to_nodes` does.
-pub(crate) fn dtype_to_nodes(
-    dtype: &Slot,
-    nodes: &mut [Node],
-    node_count: &mut usize,
-    texts: &mut [u8],
-    text_length: &mut usize,
-) -> u32 {
-    let mut lent_dtype = dtype.lent();
-    // SAFETY: see the head of this file.
-    let result = unsafe {
-        vlt_dtype_to_nodes(
-            &mut lent_dtype,
-            nodes.as_mut_ptr(),
-            nodes.len(),
-            node_count,
-            texts.as_mut_ptr(),
-            texts.len(),
-            text_length,
-        )
-    };
-    dtype.keeps(lent_dtype);
-    result
 }
 
 /// Puts the type with this outer nullability; for an extension it is that of its storage. If the type can't be
@@ -1337,7 +1238,7 @@ pub(crate) fn paths_get(paths: &Slot, index: usize, out: &mut Slot) -> u32 {
     result
 }
 
-/// Puts the type as far as the paths of the set lead; 1 where none does.
+/// Puts the part of the type that the paths of the set lead to. If no path of the set exists in the type, it returns 1.
 pub(crate) fn project_paths(dtype: &Slot, set: &Slot, out: &mut Slot) -> u32 {
     if dtype.is(set) {
         return SAME_SLOT;
@@ -1450,98 +1351,5 @@ pub(crate) fn mask_eq(one: &Slot, other: &Slot) -> u32 {
     one.keeps(lent_one);
     other.keeps(lent_other);
     result
-}
-
-/// Puts the type that the message describes. Returns 100 and the number of the first error in the message; an extension is one (135) unless `allow_unknown`.
-pub(crate) fn message_read(proto: &Slot, allow_unknown: bool, out: &mut Slot) -> u32 {
-    let mut lent_proto = proto.lent();
-    // SAFETY: see the head of this file.
-    let result = unsafe { vlt_message_read(&mut lent_proto, allow_unknown, out) };
-    proto.keeps(lent_proto);
-    result
-}
-
-/// Puts the message of the type.
-pub(crate) fn message_write(dtype: &Slot, out: &mut Slot) -> u32 {
-    let mut lent_dtype = dtype.lent();
-    // SAFETY: see the head of this file.
-    let result = unsafe { vlt_message_write(&mut lent_dtype, out) };
-    dtype.keeps(lent_dtype);
-    result
-}
-
-/// Puts the message of the type that the message describes, in which missing metadata is empty. Returns the errors of `vlt_message_read`.
-pub(crate) fn message_normal(proto: &Slot, allow_unknown: bool, out: &mut Slot) -> u32 {
-    let mut lent_proto = proto.lent();
-    // SAFETY: see the head of this file.
-    let result = unsafe { vlt_message_normal(&mut lent_proto, allow_unknown, out) };
-    proto.keeps(lent_proto);
-    result
-}
-
-/// Returns 0 if the messages are equal in every field.
-pub(crate) fn message_eq(one: &Slot, other: &Slot) -> u32 {
-    if one.is(other) {
-        return SAME_SLOT;
-    }
-    let mut lent_one = one.lent();
-    let mut lent_other = other.lent();
-    // SAFETY: see the head of this file.
-    let result = unsafe { vlt_message_eq(&mut lent_one, &mut lent_other) };
-    one.keeps(lent_one);
-    other.keeps(lent_other);
-    result
-}
-
-/// Puts a copy of the message.
-pub(crate) fn message_copy(proto: &Slot, out: &mut Slot) -> u32 {
-    let mut lent_proto = proto.lent();
-    // SAFETY: see the head of this file.
-    let result = unsafe { vlt_message_copy(&mut lent_proto, out) };
-    proto.keeps(lent_proto);
-    result
-}
-
-/// Puts the message of these nodes and texts. Returns 9 if they aren't those of one message, 3 if a name or an id isn't
-/// UTF-8, and 6 if a message is nested in more than 128 others.
-pub(crate) fn message_from_nodes(nodes: &[Node], texts: &[u8], out: &mut Slot) -> u32 {
-    // SAFETY: see the head of this file.
-    unsafe { vlt_message_from_nodes(nodes.as_ptr(), nodes.len(), texts.as_ptr(), texts.len(), out) }
-}
-
-/// Writes the nodes and the texts of the message, and how many there are of each. If either buffer is too small it writes
-/// the two numbers alone, and returns 7.
-pub(crate) fn message_to_nodes(
-    proto: &Slot,
-    nodes: &mut [Node],
-    node_count: &mut usize,
-    texts: &mut [u8],
-    text_length: &mut usize,
-) -> u32 {
-    let mut lent_proto = proto.lent();
-    // SAFETY: see the head of this file.
-    let result = unsafe {
-        vlt_message_to_nodes(
-            &mut lent_proto,
-            nodes.as_mut_ptr(),
-            nodes.len(),
-            node_count,
-            texts.as_mut_ptr(),
-            texts.len(),
-            text_length,
-        )
-    };
-    proto.keeps(lent_proto);
-    result
-}
-
-/// Writes the answer of the console to one line, which is given without its newline. The answer is a text also if the
-/// line can't be read, or if the call that it names returns an error.
-///
-/// Returns 1 if the line has no answer, because it is blank, a comment or `exit`. No line knows the sets and sessions that
-/// an earlier line named.
-pub(crate) fn answer(line: &[u8], buffer: &mut [u8], length: &mut usize) -> u32 {
-    // SAFETY: see the head of this file.
-    unsafe { vlt_answer(line.as_ptr(), line.len(), buffer.as_mut_ptr(), buffer.len(), length) }
 }
 // end of what tools/bindings writes

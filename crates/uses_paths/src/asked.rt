@@ -63,7 +63,7 @@ pub fn stays_within(asked: &FieldPathSet, column: &FieldPath) -> VortexResult<bo
 }
 
 /// Whether a query asks for something in a column.
-#[tactic(auto, using(vortex_dtype::proofs::rulesets::set_cursors))]
+#[tactic(auto, using(vortex_dtype::proofs::rulesets::stepping_into))]
 pub fn asks_in(asked: &FieldPathSet, column: &Field) -> bool
     ensures { IsTrue result ↔ ((q : List Field) × IsTrue (set.contains asked.now (column.now ∷ q))) }
 {

@@ -15,6 +15,7 @@ ghost use Rattle.vortex_dtype.specs.PathOrder.{set_of};
 ghost use Rattle.vortex_dtype.specs.TreeOf.{tree};
 ghost use Rattle.vortex_dtype.specs.Types.Field.{Field};
 
+use crate::path_sets::ask_for_all;
 use std::alloc::Global;
 use std::vec;
 use vortex_dtype::{DType, Field, FieldPath, FieldPathSet, VortexResult};
@@ -135,7 +136,7 @@ pub fn ask_list(asked: &mut FieldPathSet, columns: Vec<FieldPath>) -> VortexResu
     ensures { OnOk result ((q : List Field) → IsTrue (covers asked.new q)
         ↔ (IsTrue (covers asked.old q) ⊎ Any (λ p. Beginning p q) columns.items)) }
 {
-    asked.extend(columns)
+    ask_for_all(asked, columns)
 }
 
 /// The query for the elements of a list column: it covers what is in them.

@@ -110,12 +110,30 @@ static void general(void) {
     free_all(s, 2);
 }
 
+/* 128 levels below a type can be made, and 129 can't. (Not with allocations refused: there are thousands.) */
+static void levels(void) {
+    vlt_slot s[2] = {{0}, {0}};
+    size_t position = 77, depth;
+    uint8_t *text = (uint8_t *)malloc(6 * 129 + 2);
+    for (depth = 129; depth >= 128; depth--) {
+        size_t at;
+        for (at = 0; at < depth; at++)
+            memcpy(text + 5 * at, "list(", 5);
+        memcpy(text + 5 * depth, "i8", 2);
+        memset(text + 5 * depth + 2, ')', depth);
+        IS(depth == 128 ? VLT_DONE : VLT_UNREADABLE, vlt_dtype_from_text(text, 6 * depth + 2, &s[0], &position));
+    }
+    free(text);
+    IS(VLT_DEEP, vlt_dtype_list(&s[0], false, &s[1]));
+    HOLDS(s[1].at == NULL);
+    free_all(s, 2);
+}
+
 /* The texts of a type, in buffers of every length, and what can't be read. */
 static void texts(void) {
     vlt_slot s[2] = {{0}, {0}};
     const char *text = "{a=list(i32?), \"b c\"=utf8}?";
     size_t position = 77, length, room, needed = strlen(text);
-    uint8_t *long_text;
     type_of(&s[0], text);
     for (room = 0; room <= needed + 1; room++) {
         uint8_t *buffer = (uint8_t *)malloc(room + 1);
@@ -138,20 +156,8 @@ static void texts(void) {
     /* (a name of a zero byte) */
     DONE(vlt_dtype_from_text((const uint8_t *)"{\"a\0b\"=i32}", 11, &s[1], &position));
     DONE(vlt_struct_find(&s[1], (const uint8_t *)"a\0b", 3, &length));
-    /* 128 levels below a type can be read, and 129 can't. */
-    long_text = (uint8_t *)malloc(6 * 129 + 2);
-    for (room = 129; room >= 128; room--) {
-        size_t at;
-        for (at = 0; at < room; at++)
-            memcpy(long_text + 5 * at, "list(", 5);
-        memcpy(long_text + 5 * room, "i8", 2);
-        memset(long_text + 5 * room + 2, ')', room);
-        IS(room == 128 ? VLT_DONE : VLT_UNREADABLE, vlt_dtype_from_text(long_text, 6 * room + 2, &s[1], &position));
-    }
-    free(long_text);
-    IS(VLT_DEEP, vlt_dtype_list(&s[1], false, &s[0]));
-    HAS(&s[0], text);
-    IS(VLT_SMALL, vlt_dtype_display(&s[1], NULL, 0, &length));
+    if (heap_refused == 0)
+        levels();
     type_of(&s[1], "{\"a, b\"=i32}");
     IS(VLT_SMALL, vlt_dtype_display(&s[1], NULL, 0, &length));
     HOLDS(length == 10);

@@ -1,8 +1,8 @@
 // SPDX-License-Identifier: Apache-2.0
 // SPDX-FileCopyrightText: Copyright the Vortex contributors
 
-/* The logical types of columnar data, paths into them, and schemas as messages: the C interface of a library that is
- * proved up to the functions below. Each of them has a contract in crates/vortex_logical_types that says what it returns.
+/* The logical types of columnar data, and paths into them: the C interface of a library that is proved up to the
+ * functions below. Each of them has a contract in crates/vortex_logical_types that says what it returns.
  *
  * Slots. An object (a type, a path, a set of paths ..) stands in a slot, which owns it. Begin a slot as {0}, which is
  * empty, and empty it with vlt_free when it isn't needed any more. Never copy a slot by =, because then two slots own one
@@ -25,7 +25,7 @@
  * What the caller owes, and no call can test: pointers are valid for their lengths; a pointer to a slot or to an
  * out-parameter isn't null, and neither it nor a buffer overlaps another argument of the call; a slot is empty or was
  * filled by the library; and an object, with all that was copied from it, stays on the thread that made it, because
- * types share their parts and count them without a lock. To take a type to another thread, send its text or its nodes. */
+ * types share their parts and count them without a lock. To take a type to another thread, send its text. */
 #ifndef VORTEX_LOGICAL_TYPES_H
 #define VORTEX_LOGICAL_TYPES_H
 
@@ -73,7 +73,7 @@ static inline bool vlt_is_among(const vlt_slot *slot, const vlt_slot *slots, siz
 #define VLT_UNREADABLE 4u
 /* The call has a precondition, and the arguments don't meet it. */
 #define VLT_CONDITION 5u
-/* A type or a message would be nested more than 128 levels deep. */
+/* A type would be nested more than 128 levels deep. */
 #define VLT_DEEP 6u
 /* A buffer is too small. The out-parameter has the size that is needed. */
 #define VLT_SMALL 7u

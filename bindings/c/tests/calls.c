@@ -101,12 +101,6 @@ static void general(void) {
     DONE(vlt_error_text(109, buffer, sizeof buffer, &length));
     IS(VLT_RANGE, vlt_error_text(137, buffer, sizeof buffer, &length));
     IS(VLT_RANGE, vlt_error_text(99, buffer, sizeof buffer, &length));
-    DONE(vlt_answer(TEXT("find b {a=i32, b=u8}"), buffer, sizeof buffer, &length));
-    HOLDS(length == 1 && buffer[0] == '1');
-    NONE(vlt_answer(NULL, 0, buffer, sizeof buffer, &length));
-    NONE(vlt_answer(TEXT("# a comment"), buffer, sizeof buffer, &length));
-    IS(VLT_SMALL, vlt_answer(TEXT("text {a=i32}"), NULL, 0, &length));
-    HOLDS(length == 7);
     free_all(s, 2);
 }
 
@@ -457,59 +451,6 @@ static void paths(void) {
     free_all(s, 4);
 }
 
-static void messages(void) {
-    vlt_slot s[3] = {{0}, {0}, {0}};
-    uint8_t texts[16];
-    size_t length = 77, count = 77;
-    vlt_node nodes[16];
-    type_of(&s[1], "list(i32?)");
-    DONE(vlt_message_write(&s[1], &s[0]));
-    DONE(vlt_message_read(&s[0], false, &s[1]));
-    HAS(&s[1], "list(i32?)");
-    DONE(vlt_message_normal(&s[0], false, &s[2]));
-    DONE(vlt_message_eq(&s[0], &s[2]));
-    memset(nodes, 0, sizeof nodes);
-    nodes[0].kind = 7;
-    DONE(vlt_message_from_nodes(nodes, 1, NULL, 0, &s[2]));
-    NONE(vlt_message_eq(&s[0], &s[2]));
-    IS(128, vlt_message_read(&s[2], false, &s[1]));
-    IS(128, vlt_message_normal(&s[2], false, &s[1]));
-    DONE(vlt_message_copy(&s[0], &s[2]));
-    DONE(vlt_message_eq(&s[0], &s[2]));
-    HAS(&s[1], "list(i32?)");
-    type_of(&s[1], "x.unknown[0x61](i8)");
-    DONE(vlt_message_write(&s[1], &s[0]));
-    IS(135, vlt_message_read(&s[0], false, &s[1]));
-    DONE(vlt_message_read(&s[0], true, &s[1]));
-    HAS(&s[1], "x.unknown[0x61](i8)");
-
-    type_of(&s[1], "{a=list(i32?), bc=utf8}");
-    IS(VLT_SMALL, vlt_dtype_to_nodes(&s[1], NULL, 0, &count, NULL, 0, &length));
-    HOLDS(count > 3 && count <= 16 && length == 3);
-    IS(VLT_SMALL, vlt_dtype_to_nodes(&s[1], nodes, count, &count, texts, length - 1, &length));
-    IS(VLT_SMALL, vlt_dtype_to_nodes(&s[1], nodes, count - 1, &count, texts, length, &length));
-    DONE(vlt_dtype_to_nodes(&s[1], nodes, count, &count, texts, length, &length));
-    HOLDS(length == 3 && memcmp(texts, "abc", 3) == 0 && nodes[0].kind == 10);
-    DONE(vlt_dtype_from_nodes(nodes, count, texts, length, false, &s[2]));
-    HAS(&s[2], "{a=list(i32?), bc=utf8}");
-    IS(VLT_RANGE, vlt_dtype_from_nodes(nodes, count - 1, texts, length, false, &s[2]));
-    IS(VLT_RANGE, vlt_dtype_from_nodes(nodes, count, texts, length - 1, false, &s[2]));
-    IS(VLT_RANGE, vlt_dtype_from_nodes(NULL, 0, NULL, 0, false, &s[2]));
-    texts[0] = 0xff;
-    IS(VLT_UTF8, vlt_dtype_from_nodes(nodes, count, texts, length, false, &s[2]));
-    texts[0] = 'a';
-    nodes[0].kind = 99;
-    IS(VLT_RANGE, vlt_dtype_from_nodes(nodes, count, texts, length, false, &s[2]));
-    nodes[0].kind = 10;
-    HAS(&s[2], "{a=list(i32?), bc=utf8}");
-    DONE(vlt_message_from_nodes(nodes, count, texts, length, &s[0]));
-    IS(VLT_SMALL, vlt_message_to_nodes(&s[0], NULL, 0, &count, NULL, 0, &length));
-    DONE(vlt_message_to_nodes(&s[0], nodes, count, &count, texts, length, &length));
-    DONE(vlt_message_write(&s[1], &s[2]));
-    DONE(vlt_message_eq(&s[0], &s[2]));
-    free_all(s, 3);
-}
-
 static void masks(void) {
     vlt_slot s[4] = {{0}, {0}, {0}, {0}};
     uint32_t kind = 77;
@@ -642,7 +583,6 @@ static void all(void) {
     structs();
     unions();
     paths();
-    messages();
     masks();
     sets();
     HOLDS(heap_blocks == 0);

@@ -14,7 +14,7 @@
 #include <stdlib.h>
 #include <string.h>
 
-enum { SLOTS = 64, NODES = 512, ROOM = 4096 };
+enum { SLOTS = 64, ROOM = 4096 };
 
 typedef struct {
     const uint8_t *at;
@@ -22,9 +22,8 @@ typedef struct {
 } bytes;
 
 static vlt_slot slots[SLOTS];
-static uint8_t buffer[ROOM], names[256], pool[ROOM];
-static vlt_node nodes[NODES];
-static size_t lengths[8], lengths_count, nodes_count, pool_length, failed;
+static uint8_t buffer[ROOM], names[256];
+static size_t lengths[8], lengths_count, failed;
 static uint64_t state;
 
 /* A number below this one (xorshift). */
@@ -48,10 +47,7 @@ static bytes any_text(void) {
         "fixed_size_list(u8)[3]", "map(utf8, i32?, keys_sorted=true)", "union(a@5=i64, b@9=utf8)?", "union(a=i32, b={c=i8})",
         "x.tag[0x6162](utf8)", "{\"a b\"=f64, a={b={c=list(i16)}}}", "decimal(0,0)", "{a=i33}", "list(",
         ".", "a", "b", "c", "a.b", "a.[].b", "[]", "[].[]", "a.b.c", "\"a b\".[]", "a..b",
-        "list { element_type { primitive { type: 6 nullable: true } } }", "list {}", "bool { nullable: true }",
-        "struct { names: \"a\" dtypes { utf8 {} } }", "union { names: \"a\" dtypes { bool {} } type_ids: 3 }", "{}",
-        "extension { id: \"x.id\" storage_dtype { bool {} } metadata: \"m\" }", "find b {a=i32, b=u8}", "cover a.b x a",
-        "\xff", "a\xc0", "", "x.tag", "read unknown list {}",
+        "\xff", "a\xc0", "", "x.tag",
     };
     size_t at = any(sizeof texts / sizeof *texts + 1);
     bytes text = {NULL, 0};
@@ -80,28 +76,12 @@ static bytes any_names(void) {
     return text;
 }
 
-static bytes any_pool(void) {
-    bytes text = {pool, any(16) == 0 ? any(8) : pool_length};
-    return text;
-}
-
 static void expect(bool is_right) {
     if (!is_right)
         failed++;
 }
 
 static bool is_result(uint32_t result) { return result <= VLT_RANGE || (result >= VLT_LIBRARY && result <= VLT_LIBRARY + 36); }
-
-/* Keeps the nodes that a call has written, with a small change now and then, for those that read nodes. */
-static void keep_nodes(uint32_t result, size_t count, size_t length) {
-    if (result != VLT_DONE)
-        return;
-    nodes_count = count;
-    pool_length = length;
-    memcpy(pool, buffer, length);
-    if (any(4) == 0 && count != 0)
-        ((uint8_t *)nodes)[any(count * sizeof *nodes)] ^= (uint8_t)(1u << any(8));
-}
 
 /* Empties a slot whose object is large. */
 static void trim(vlt_slot *slot) {
@@ -122,12 +102,6 @@ static void trim(vlt_slot *slot) {
         vlt_paths_len(slot, &size);
         size *= 64;
         break;
-    case 6: {
-        size_t length = 0;
-        vlt_message_to_nodes(slot, NULL, 0, &size, NULL, 0, &length);
-        size *= 8;
-        break;
-    }
     default:
         break;
     }

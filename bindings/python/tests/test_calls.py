@@ -1,20 +1,17 @@
 # SPDX-License-Identifier: Apache-2.0
 # SPDX-FileCopyrightText: Copyright the Vortex contributors
 
-"""The calls of the package, each on a value or two; threads; and a sample of the console's golden tests."""
+"""The calls of the package, each on a value or two; and threads."""
 import copy
 import doctest
 import gc
-import os
 import pickle
 import threading
 import unittest
 
 import vortex_logical_types
-from vortex_logical_types import (ELEMENT, Below, DType, FieldMask, FieldPath, FieldPathSet, Kind, LibraryError, Message,
-                                  Nodes, PType, Unreadable, VortexError, WrongThread, _native, console_answer)
-
-TOP = os.path.join(os.path.dirname(os.path.abspath(__file__)), "../../..")
+from vortex_logical_types import (ELEMENT, Below, DType, FieldMask, FieldPath, FieldPathSet, Kind, LibraryError, PType,
+                                  Unreadable, VortexError, WrongThread, _native)
 
 
 def on_another_thread(call):
@@ -152,28 +149,19 @@ class Calls(unittest.TestCase):
         self.assertRaises(KeyError, paths.extend, failing())
         self.assertEqual(len(paths), 4)
 
-    def test_has_masks_and_messages(self):
+    def test_has_masks(self):
         mask = FieldMask.prefix("a.[]")
         self.assertEqual((mask.kind, mask.path, mask.starting_field()), ("prefix", FieldPath("a.[]"), "a"))
         self.assertEqual((mask.step_into().starting_field(), repr(mask)), (ELEMENT, "FieldMask.prefix('a.[]')"))
         self.assertTrue(mask == mask.copy() and mask != FieldMask.all() and FieldMask.all().matches_all)
         self.refused(120, FieldMask.exact(".").step_into)
         self.refused(121, FieldMask.all().starting_field)
-        whole = DType("{a=list(i32?), bc=x.unknown[0x00ff](utf8)}")
-        message = whole.to_message()
-        self.assertEqual((message, message.read(True)), (message.copy(), whole))
-        self.refused(135, message.read)
-        nodes = whole.to_nodes()
-        self.assertEqual((DType.from_nodes(nodes, True), Message.from_nodes(nodes), message.to_nodes()),
-                         (whole, message, nodes))
-        self.refused(9, DType.from_nodes, Nodes(b"", b""))
-        self.assertRaises(ValueError, DType.from_nodes, Nodes(b"x", b""))
-        self.assertEqual(on_another_thread(lambda: DType.from_nodes(nodes, True).to_source()), whole.to_source())
-
     def test_keeps_to_its_thread(self):
         whole, path = DType("{a=i8}"), FieldPath("a")
         for call in (whole.copy, lambda: path.resolve(whole), lambda: whole == DType("i8"), lambda: hash(path)):
             self.assertIsInstance(on_another_thread(call), WrongThread)
+        sent = whole.to_source()
+        self.assertEqual(on_another_thread(lambda: DType(sent).names), ["a"])
         held = [DType("i8")]
         self.assertEqual(on_another_thread(lambda: (held.clear(), gc.collect()) and None), None)
         self.assertEqual(len(_native.here.thread.garbage), 1)
@@ -185,28 +173,6 @@ class Calls(unittest.TestCase):
         del made
         gc.collect()
         self.assertEqual(len(_native.here.thread.garbage), 0)
-
-    def test_answers_as_the_golden_tests(self):
-        """Each line, but those that need a set or a session from an earlier one; every seventh after the first 700."""
-        folder = os.path.join(TOP, "crates/dtype_console")
-        if not os.path.exists(f"{folder}/stdin"):
-            self.skipTest("the golden tests aren't here")
-        with open(f"{folder}/stdin", encoding="utf-8", newline="\n") as lines, open(
-                f"{folder}/stdout", encoding="utf-8", newline="\n") as shown:
-            lines, shown = lines.read().split("\n")[:-1], iter(shown.read().split("\n"))
-        asked = 0
-        for at, line in enumerate(lines):
-            while next(shown) not in (f"> {line}", line):
-                pass
-            words = line.split()
-            if (not words or words[0].startswith("#") or words[0] in ("set", "session", "help")
-                    or any(it.startswith("@") for it in words[1:])):
-                continue
-            wanted = next(shown)
-            if at < 700 or at % 7 == 0:
-                asked += 1
-                self.assertEqual(console_answer(line), wanted, line)
-        self.assertGreater(asked, 1000)
 
     def test_has_examples(self):
         self.assertEqual(doctest.testmod(vortex_logical_types).failed, 0)

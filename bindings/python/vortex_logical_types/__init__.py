@@ -1,7 +1,7 @@
 # SPDX-License-Identifier: Apache-2.0
 # SPDX-FileCopyrightText: Copyright the Vortex contributors
 
-"""The logical types of columnar data, paths into them, and schemas as messages, over a library that is proved.
+"""The logical types of columnar data, and paths into them, over a library that is proved.
 
 >>> orders = DType("{id=u64, customer={city=utf8?}, lines=list({sku=utf8})}")
 >>> FieldPath("customer.city").resolve(orders)
@@ -14,7 +14,7 @@ DType('{id=u64, lines=list({sku=utf8})}')
 
 A text in quotes here is the form of the library's console, which reads back as the same value; `str` of a type or a path
 is the text that the library displays. An object belongs to the thread that made it, and a call from another raises
-`WrongThread`: send its text, or `DType.to_nodes`.
+`WrongThread`: send its text.
 """
 
 from __future__ import annotations
@@ -55,14 +55,11 @@ __all__ = [
     "Below",
     "Kind",
     "LibraryError",
-    "Message",
-    "Nodes",
     "OutOfMemory",
     "PType",
     "Unreadable",
     "VortexError",
     "WrongThread",
-    "console_answer",
 ]
 
 
@@ -92,14 +89,6 @@ class Kind(enum.IntEnum):
     NULL, BOOL, PRIMITIVE, DECIMAL, UTF8, BINARY, LIST, FIXED_SIZE_LIST, MAP, STRUCT, UNION, VARIANT, EXTENSION = range(13)
 
 
-class Nodes(NamedTuple):
-    """The flat form of a message: the bytes of its nodes, and those of its names, ids and metadata. Plain data, which any
-    thread and any process can read."""
-
-    nodes: bytes
-    texts: bytes
-
-
 class Below(NamedTuple):
     """What a set of paths says below a path."""
 
@@ -109,25 +98,6 @@ class Below(NamedTuple):
     """Whether a path goes on with the step into the element."""
     name_count: int
     """By how many names paths go on."""
-
-
-def _flat(call: Any, it: Object) -> Nodes:
-    count, length = ctypes.c_size_t(), ctypes.c_size_t()
-    nodes, texts = (_table.Node * 0)(), ctypes.create_string_buffer(0)
-    code = call(it._own, nodes, 0, count, texts, 0, length)
-    if code == _table.SMALL:
-        nodes, texts = (_table.Node * count.value)(), ctypes.create_string_buffer(length.value)
-        code = call(it._own, nodes, count.value, count, texts, length.value, length)
-    if code:
-        raise error_of(code)
-    return Nodes(bytes(nodes), texts.raw)
-
-
-def _nodes(given: Nodes) -> tuple[Any, int, bytes, int]:
-    count, rest = divmod(len(given.nodes), ctypes.sizeof(_table.Node))
-    if rest:
-        raise ValueError(f"nodes have {ctypes.sizeof(_table.Node)} bytes each, and {len(given.nodes)} aren't so many nodes")
-    return (_table.Node * count).from_buffer_copy(given.nodes), count, given.texts, len(given.texts)
 
 
 class DType(Object):
@@ -408,17 +378,6 @@ class DType(Object):
         """The type as far as the paths lead, or None if none leads to a type."""
         return found(DType, native.vlt_project_paths, self._own, paths._own)
 
-    def to_message(self) -> Message:
-        return made(Message, native.vlt_message_write, self._own)
-
-    def to_nodes(self) -> Nodes:
-        """The flat form of the type's message, which can be sent to another thread."""
-        return _flat(native.vlt_dtype_to_nodes, self)
-
-    @staticmethod
-    def from_nodes(nodes: Nodes, allow_unknown: bool = False) -> DType:
-        return made(DType, native.vlt_dtype_from_nodes, *_nodes(nodes), allow_unknown)
-
     def to_source(self) -> str:
         """The console's text, which reads back as the same type."""
         return text(native.vlt_dtype_to_text, self._own)
@@ -667,46 +626,3 @@ class FieldMask(Object):
     def __repr__(self) -> str:
         path = self.path
         return f"FieldMask.{self.kind}({'' if path is None else repr(path.to_source())})"
-
-
-class Message(Object):
-    """The message of a type, which may say a type or not: from `DType.to_message` or from `Message.from_nodes`."""
-
-    __slots__ = ()
-
-    def __init__(self) -> None:
-        raise TypeError("a message is made by DType.to_message or Message.from_nodes")
-
-    def read(self, allow_unknown: bool = False) -> DType:
-        """The type that the message says. Raises `LibraryError` for its first fault."""
-        return made(DType, native.vlt_message_read, self._own, allow_unknown)
-
-    def normal(self, allow_unknown: bool = False) -> Message:
-        """The message that is written for the type that this one says."""
-        return made(Message, native.vlt_message_normal, self._own, allow_unknown)
-
-    def to_nodes(self) -> Nodes:
-        return _flat(native.vlt_message_to_nodes, self)
-
-    @staticmethod
-    def from_nodes(nodes: Nodes) -> Message:
-        return made(Message, native.vlt_message_from_nodes, *_nodes(nodes))
-
-    def copy(self) -> Message:
-        return made(Message, native.vlt_message_copy, self._own)
-
-    def __eq__(self, other: object) -> bool:
-        if not isinstance(other, Message):
-            return NotImplemented
-        return self is other or is_done(native.vlt_message_eq(self._own, other._own))
-
-    __hash__ = None  # type: ignore[assignment]
-
-    def __repr__(self) -> str:
-        return f"Message.from_nodes({self.to_nodes()!r})"
-
-
-def console_answer(line: str) -> Optional[str]:
-    """The answer of the library's console to one line, or None if it is blank, a comment or `exit`."""
-    given = line.encode()
-    return text_found(native.vlt_answer, given, len(given))

@@ -121,7 +121,7 @@ class Object:
     def _own(self) -> Slot:
         """The slot, on the thread of the object."""
         if self._thread is not here.thread:
-            raise WrongThread("an object belongs to the thread that made it: send its text or its nodes instead")
+            raise WrongThread("an object belongs to the thread that made it: send its text instead")
         return self._slot
 
     def _take(self, slot: Slot) -> Any:

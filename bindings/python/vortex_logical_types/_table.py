@@ -31,7 +31,7 @@ UTF8 = 3
 UNREADABLE = 4
 # The call has a precondition, and the arguments don't meet it.
 CONDITION = 5
-# A type or a message would be nested more than 128 levels deep.
+# A type would be nested more than 128 levels deep.
 DEEP = 6
 # A buffer is too small. The out-parameter has the size that is needed.
 SMALL = 7

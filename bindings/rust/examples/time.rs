@@ -23,7 +23,7 @@ fn main() {
     let seventh = FieldPath::from_name("n7");
     let wide =
         DType::struct_((0..1000).map(|at| (format!("column_{at}"), DType::utf8(NonNullable))), NonNullable).unwrap();
-    let (flat, fields) = (wide.to_nodes().unwrap(), wide.as_struct_fields_opt().unwrap());
+    let fields = wide.as_struct_fields_opt().unwrap();
     let leaf: DType = "u32".parse().unwrap();
     time("is_nullable", 1_000_000, || {
         black_box(whole.is_nullable());
@@ -66,14 +66,5 @@ fn main() {
     });
     time("to_source", 100_000, || {
         black_box(whole.to_source());
-    });
-    time("to_nodes, 1,000 columns", 300, || {
-        black_box(wide.to_nodes().unwrap());
-    });
-    time("from_nodes, 1,000 columns", 300, || {
-        black_box(DType::from_nodes(&flat, false).unwrap());
-    });
-    time("to_message and read, 1,000 columns", 300, || {
-        black_box(wide.to_message().read(false).unwrap());
     });
 }

@@ -20,7 +20,7 @@ pub enum Error {
     NotUtf8,
     /// The call has a precondition, and the arguments don't meet it.
     Precondition,
-    /// A type or a message would be nested more than 128 levels deep.
+    /// A type would be nested more than 128 levels deep.
     TooDeep,
     /// An argument is out of its range.
     OutOfRange,

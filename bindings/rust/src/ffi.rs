@@ -80,7 +80,7 @@ pub(crate) const UTF8: u32 = 3;
 pub(crate) const UNREADABLE: u32 = 4;
 /// The call has a precondition, and the arguments don't meet it.
 pub(crate) const CONDITION: u32 = 5;
-/// A type or a message would be nested more than 128 levels deep.
+/// A type would be nested more than 128 levels deep.
 pub(crate) const DEEP: u32 = 6;
 /// A buffer is too small. The out-parameter has the size that is needed.
 pub(crate) const SMALL: u32 = 7;

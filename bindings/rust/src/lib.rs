@@ -1,7 +1,7 @@
 // SPDX-License-Identifier: Apache-2.0
 // SPDX-FileCopyrightText: Copyright the Vortex contributors
 
-//! The logical types of columnar data, paths into them, and schemas as messages: safe Rust over a library that is proved.
+//! The logical types of columnar data, and paths into them: safe Rust over a library that is proved.
 //!
 //! The library is written in Rattle, Rust with contracts that a checker proves. This package calls it: a type, a path or a
 //! set of paths is a pointer to an object that the library made, and each method is one of the library's calls, under the
@@ -52,15 +52,15 @@
 //! std::thread::scope(|scope| { scope.spawn(|| path.is_root()); });
 //! ```
 //!
-//! What can be sent is the flat form of a type, [`Nodes`]:
+//! The text of a type can be sent, from which the other thread reads a type of its own:
 //!
 //! ```
 //! use vortex_logical_types::DType;
 //!
 //! let dtype: DType = "{a=list(i32?), b=utf8}".parse()?;
-//! let sent = dtype.to_nodes()?;
+//! let sent = dtype.to_source();
 //! let width = std::thread::spawn(move || {
-//!     let dtype = DType::from_nodes(&sent, true)?;
+//!     let dtype: DType = sent.parse()?;
 //!     Ok::<_, vortex_logical_types::Error>(dtype.as_struct_fields_opt().map(|fields| fields.nfields()))
 //! });
 //! assert_eq!(width.join().unwrap()?, Some(2));
@@ -70,9 +70,7 @@
 
 pub use dtype::DType;
 pub use error::{Error, LibraryError};
-pub use ffi::Node;
 pub use masks::{FieldMask, MaskKind};
-pub use messages::{Message, Nodes};
 pub use parts::{ExtDTypeRef, MapDType, StructFields, UnionVariants};
 pub use paths::{Field, FieldPath};
 pub use scalars::{DecimalDType, Kind, Nullability, PType};
@@ -87,27 +85,7 @@ mod ffi;
 mod masks;
 #[cfg(test)]
 mod memory;
-mod messages;
 mod parts;
 mod paths;
 mod scalars;
 mod sets;
-
-/// Returns the answer of the library's console to one line, or `None` if the line is blank, a comment or `exit`. The console
-/// has a command for each call of the library (`docs/CONSOLE.md` of the repository has them all), and answers a line that it
-/// can't read by a text too. Nothing is kept from one line to the next.
-///
-/// ```
-/// use vortex_logical_types::console_answer;
-///
-/// assert_eq!(console_answer("find b {a=i32, b=u8}")?.as_deref(), Some("1"));
-/// assert_eq!(console_answer("type decimal(0,0)")?.as_deref(), Some("refused 1: decimal precision must be between 1 and 76 (inclusive)"));
-/// assert_eq!(console_answer("# a comment")?, None);
-/// # Ok::<(), vortex_logical_types::Error>(())
-/// ```
-///
-/// # Errors
-/// [`Error::OutOfMemory`].
-pub fn console_answer(line: &str) -> Result<Option<String>, Error> {
-    calls::text_found(|buffer, length| ffi::answer(line.as_bytes(), buffer, length))
-}

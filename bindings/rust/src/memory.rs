@@ -3,7 +3,7 @@
 
 //! Tests of what calls do when memory runs out: each allocation of the library is refused in turn.
 use crate::ffi::heap::refusing::BEFORE;
-use crate::{DType, Error, FieldMask, FieldPath, FieldPathSet, Message, Nullability::Nullable, PType};
+use crate::{DType, Error, FieldMask, FieldPath, FieldPathSet, Nullability::Nullable, PType};
 
 /// What a call returns, which if it says that memory ran out is made once more.
 fn again<T>(lacked: &mut usize, call: impl Fn() -> Result<T, Error>) -> T {
@@ -55,10 +55,6 @@ fn calls() -> usize {
     assert_eq!(again(n, || whole.try_project_paths(&longer)).map(|it| it.is_struct()), Some(true));
     assert!(again(n, || whole.try_merge_nullability(&other)).is_some_and(|it| it.eq_ignore_nullability(&other)));
     assert_eq!(again(n, || whole.try_to_source()), source);
-    let message = again(n, || whole.try_to_message());
-    assert!(again(n, || message.read(false)) == whole);
-    let flat = again(n, || message.to_nodes());
-    assert!(again(n, || Message::from_nodes(&flat)) == message);
     again(n, || FieldMask::try_prefix(&path)?.step_into());
     lacked
 }

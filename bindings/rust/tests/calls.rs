@@ -228,29 +228,6 @@ fn masks() {
 }
 
 #[test]
-fn messages() {
-    let whole = dtype(
-        "{a=list(i32?), bc=union(x@5=utf8, y@9=decimal(10,-2)?), d=x.unknown[0x00ff](map(utf8, i8, keys_sorted=true))}",
-    );
-    let message = whole.to_message();
-    assert_eq!(message.clone(), message);
-    assert_eq!(message.read(true).unwrap(), whole);
-    assert_eq!(number(message.read(false).unwrap_err()), 35);
-    assert_eq!(message.normal(true).unwrap(), message);
-    let flat = message.to_nodes().unwrap();
-    assert_eq!((whole.to_nodes().unwrap(), Message::from_nodes(&flat).unwrap()), (flat.clone(), message.clone()));
-    assert_eq!(DType::from_nodes(&flat, true).unwrap(), whole);
-    let mut short = flat.clone();
-    short.nodes.pop();
-    assert_eq!(Message::from_nodes(&short).unwrap_err(), Error::OutOfRange);
-    assert_eq!(Message::from_nodes(&Nodes::default()).unwrap_err(), Error::OutOfRange);
-    let sent = std::thread::spawn(move || DType::from_nodes(&flat, true).unwrap().to_source()).join().unwrap();
-    assert_eq!(sent, whole.to_source());
-    let wide = DType::struct_((0..1000).map(|at| (format!("c{at}"), dtype("i64?"))), NonNullable).unwrap();
-    assert_eq!(DType::from_nodes(&wide.to_nodes().unwrap(), false).unwrap(), wide);
-}
-
-#[test]
 fn errors_have_texts_and_numbers() {
     let error = "{a=i33}".parse::<DType>().unwrap_err();
     assert_eq!(

@@ -1,8 +1,8 @@
 // SPDX-License-Identifier: Apache-2.0
 // SPDX-FileCopyrightText: Copyright the Vortex contributors
 
-//! The golden tests of the console, whose answers don't come from the library: each line through `console_answer`, and
-//! each whose command has a counterpart in this package by that call. Without the repository around it this tests nothing.
+//! The golden tests of the console, whose answers don't come from the library: each line whose command has a counterpart
+//! in this package, by that call. Without the repository around it this tests nothing.
 use std::fs;
 use std::path::Path;
 use vortex_logical_types::*;
@@ -111,15 +111,6 @@ fn mask_text(mask: &FieldMask) -> String {
         (MaskKind::Prefix, Some(path)) => format!("prefix {}", path.to_source()),
         (MaskKind::Exact, Some(path)) => format!("exact {}", path.to_source()),
         _ => "all".to_owned(),
-    }
-}
-
-/// Whether a session of these words allows unknown ids. Sessions with plugins have no counterpart.
-fn session_of(words: &str) -> Result<bool, Left> {
-    match words {
-        "strict" => Ok(false),
-        "unknown" => Ok(true),
-        _ => Err(Left::NoCounterpart),
     }
 }
 
@@ -308,7 +299,6 @@ fn answer(words: &[String]) -> Answer {
         ("members", _) => sorted(paths_of(rest)?.iter()),
         ("contains", [p, ..]) => paths_of(&rest[1..])?.contains(&path_of(p)?).to_string(),
         ("project_paths", [t, ..]) => source_or_none(type_of(t)?.try_project_paths(&paths_of(&rest[1..])?)?),
-        ("round_trip", [session, t]) => type_of(t)?.to_message().read(session_of(session)?)?.to_source(),
         _ => return Err(Left::NoCounterpart),
     })
 }
@@ -316,23 +306,6 @@ fn answer(words: &[String]) -> Answer {
 /// Whether the line needs a set or a session that an earlier line made.
 fn needs_another(words: &[String]) -> bool {
     matches!(words[0].as_str(), "set" | "session") || words.iter().skip(1).any(|it| it.starts_with('@'))
-}
-
-#[test]
-fn each_line() {
-    let (mut asked, mut faults) = (0, Vec::new());
-    for (line, wanted) in golden() {
-        if needs_another(&arguments(&line)) {
-            continue;
-        }
-        asked += 1;
-        let answer = console_answer(&line).unwrap().unwrap_or_default();
-        if answer != wanted {
-            faults.push(format!("{line}: {answer:?}, not {wanted:?}"));
-        }
-    }
-    println!("console: {asked} lines through console_answer");
-    assert!(faults.is_empty(), "{}", faults.join("\n"));
 }
 
 #[test]

@@ -15,7 +15,8 @@
 //! let city: FieldPath = "customer.city".parse()?;
 //! assert_eq!(city.resolve(&orders), Some("utf8?".parse()?));
 //!
-//! let wanted: FieldPathSet = ["lines.[].price", "lines.[]", "id"].iter().map(|it| it.parse()).collect::<Result<_, _>>()?;
+//! let wanted = ["lines.[].price", "lines.[]", "id"].map(str::parse::<FieldPath>);
+//! let wanted: FieldPathSet = wanted.into_iter().collect::<Result<_, _>>()?;
 //! let projected = orders.project_paths(&wanted).expect("a column is found");
 //! assert_eq!(projected.to_source(), "{id=u64, lines=list({sku=utf8, price=decimal(10,2)?})}");
 //! // `into_iter` of a set is its cover, in no promised order: the paths that no other path of the set begins.

@@ -2,7 +2,7 @@
 // SPDX-FileCopyrightText: Copyright the Vortex contributors
 
 //! Sets of paths.
-use crate::calls::{done, found, holds, made, or_abort, plain};
+use crate::calls::{done, found, holds, made, or_abort, plain, value};
 use crate::dtype::DType;
 use crate::error::Error;
 use crate::ffi::{self, Slot};
@@ -86,9 +86,14 @@ impl FieldPathSet {
         holds(ffi::set_contains(&self.slot, &path.slot))
     }
 
-    /// Returns how many paths are in the set.
+    /// Returns how many paths are in the set. The library lists them for that, so this takes memory.
     pub fn len(&self) -> usize {
-        plain(|count| ffi::set_len(&self.slot, count))
+        or_abort(self.try_len())
+    }
+
+    /// Returns how many paths are in the set, or that memory ran out.
+    pub fn try_len(&self) -> Result<usize, Error> {
+        value(|count| ffi::set_len(&self.slot, count)).map(Option::unwrap_or_default)
     }
 
     /// Returns whether no path is in the set.
@@ -131,7 +136,8 @@ impl FieldPathSet {
     ///
     /// ```
     /// # use vortex_logical_types::{Below, FieldPath, FieldPathSet};
-    /// let set: FieldPathSet = ["a", "a.[]", "a.b", "a.c.d"].iter().map(|it| it.parse()).collect::<Result<_, _>>()?;
+    /// let paths = ["a", "a.[]", "a.b", "a.c.d"].map(str::parse::<FieldPath>);
+    /// let set: FieldPathSet = paths.into_iter().collect::<Result<_, _>>()?;
     /// let below = set.below(&FieldPath::from_name("a"));
     /// assert_eq!(below, Some(Below { is_end: true, has_element: true, name_count: 2 }));
     /// assert_eq!(set.below(&FieldPath::from_name("b")), None);

@@ -61,7 +61,7 @@ fn calls() -> usize {
 
 #[test]
 fn each_allocation_is_refused_in_turn() {
-    let mut refused = 0;
+    let (mut refused, mut told) = (0, 0);
     loop {
         BEFORE.set(refused);
         let lacked = calls();
@@ -70,8 +70,10 @@ fn each_allocation_is_refused_in_turn() {
         if !is_reached {
             break;
         }
-        assert_eq!(lacked, 1, "allocation {refused}");
+        // (The library does without some allocations, as in the cover of a set, and then no call says that one failed.)
+        assert!(lacked <= 1, "allocation {refused}: {lacked} calls");
+        told += lacked;
         refused += 1;
     }
-    assert!(refused > 50, "only {refused} allocations");
+    assert!(told > 50, "only {told} of {refused} allocations");
 }

@@ -114,13 +114,12 @@ fn mask_text(mask: &FieldMask) -> String {
     }
 }
 
-/// A text as the console prints it.
+/// A text as the console prints it. (The library has escaped the names in it.)
 fn shown(text: &str) -> String {
     if text.is_empty() {
         return "\"\"".to_owned();
     }
     let escaped = text.chars().map(|it| match it {
-        '\\' | '"' => format!("\\{it}"),
         '\t' => "\\t".to_owned(),
         '\n' => "\\n".to_owned(),
         '\r' => "\\r".to_owned(),
@@ -140,9 +139,9 @@ fn listed(texts: impl Iterator<Item = String>) -> String {
 }
 
 fn sorted(paths: Paths) -> String {
-    let mut texts: Vec<_> = paths.map(|it| (it.to_string(), it.to_source())).collect();
+    let mut texts: Vec<_> = paths.map(|it| it.to_source()).collect();
     texts.sort();
-    listed(texts.into_iter().map(|(_, text)| text))
+    listed(texts.into_iter())
 }
 
 fn or_none(it: Option<String>) -> String {

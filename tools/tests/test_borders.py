@@ -6,6 +6,7 @@ from planted import Planted
 
 PATH = "crates/dtype_paths/src/field_path.rt"
 SEARCH = "crates/dtype_base/src/name_search.rt"
+COUNTED = "crates/dtype_base/src/counted_names.rt"
 STRUCT = "crates/dtype_types/src/struct_fields.rt"
 NAMES = "crates/dtype_base/src/field_names.rt"
 NAME = "crates/dtype_base/src/field_name.rt"
@@ -31,13 +32,15 @@ CHANGES = [
      "FieldPath::try_clone: asks for room that can't be had"),
     (PATH, "self.steps.is_empty()", "use std::alloc::Global as Memory; let _: Memory = self.alloc;",
      "FieldPath::is_root: has an import of its own"),
-    (SEARCH, "let here = &names[position];", "let one = names[0].is_it(); let here = &names[position];",
-     "compare: is to read names once"),
-    ("crates/dtype_base/src/indexed_names.rt", "search(self.", "let _ = self.names.iter().max(); search(self.",
-     "IndexedNames::find_counted: reads names beside the function that counts"),
+    (COUNTED, "impl Compared {", "impl Compared { fn again() -> Self { Compared { count: 0 } }",
+     f"{COUNTED}: is to have these functions alone"),
+    ("crates/dtype_base/src/indexed_names.rt", "search(names,", "let _ = is_among(self.names(), name); search(names,",
+     "IndexedNames::find_counted: is to hand the names on"),
+    (SEARCH, "let last = entries[low];", "let last = entries[low]; let _ = is_among(entries, key);",
+     "search_with: passes entries on to is_among"),
     (NAMES, "(alloc, texts.len())?", "(alloc, !0)?", f"{NAMES}: FieldNames::from_texts: asks for room that can't"),
     ("crates/dtype_types/src/named.rt", "self.names.find_counted(name)", "first(self.names.as_slice(), name)",
-     "Named::find_counted: passes names on to first"),
+     "Named::find_counted: is to hand the names on"),
     (SPEC, "", "use Rattle.dtype_base.specs.private.NameOrder.{rising}\n", "LINE: cites specs.private of dtype_base"),
     (SPEC, "", "use Rattle.dtype_base.proofs.Sides.{pairs}\n", f"{SPEC}:LINE: cites proofs of dtype_base"),
     (SPEC, "", LEMMA, "width_below is a lemma"),

@@ -10,6 +10,7 @@ ghost use Rattle.dtype_base.specs.Comparisons.{comparisons, longest_bucket};
 ghost use Rattle.dtype_base.specs.private.NameOrder.{IsIndexOf};
 ghost use Rattle.dtype_base.specs.declared.vortex_error.VortexError.TheVariants.{OutOfMemory};
 
+use crate::counted_names::CountedNames;
 use crate::field_names::copied;
 use crate::name_order::{NameIndex, are_distinct, build_index};
 use crate::name_search::search;
@@ -72,7 +73,8 @@ impl IndexedNames {
         ensures at_most { result.1 ≤ binary_digits (length self.now) + 1 }
         ensures at_least { IsSome result.0 → 1 ≤ result.1 }
     {
-        search(self.names.as_slice(), &self.index, name)
+        let (names, compared) = CountedNames::new(self.names.as_slice());
+        search(names, compared, &self.index, name)
     }
 
     /// Returns the names asked for, in that order and with an index of their own, and for each of them its first
@@ -138,7 +140,8 @@ fn look_up(
 {
     let mut found = Vec::with_capacity(alloc, asked.len())?;
     for position in 0..asked.len() {
-        match search(names, index, asked[position].as_str()).0 {
+        let (counted, compared) = CountedNames::new(names);
+        match search(counted, compared, index, asked[position].as_str()).0 {
             Some(first) => found.push_reserved(first),
             None => return Err(VortexError::FieldNotFound { position }),
         }

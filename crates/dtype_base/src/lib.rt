@@ -25,6 +25,7 @@
 //! theorems about these definitions. `docs/TRUST.md` lists what is proved and what is only tested.
 #![tactic(auto)]
 
+mod counted_names;
 mod decimal;
 mod field_name;
 mod field_names;

@@ -10,32 +10,59 @@ ghost use Rattle.dtype_base.specs.Comparisons.{comparisons, longest_bucket};
 ghost use Rattle.dtype_base.specs.NameHashes.{key_of};
 ghost use Rattle.dtype_base.specs.private.NameOrder.{IsBucketFor, IsEntryOf, IsIndexOf, entry_name_cmp, mask, position_in};
 
-use crate::FieldName;
+use crate::counted_names::{Compared, CountedNames};
 use crate::name_key::{TWO_POW_64, bucket_of_key, key_of, without_bits};
 use crate::name_order::{Discriminator, NameIndex, position_in};
 
 // The first position of the name, or `None`, and how many names were compared. Compiled once for each discriminator, so
 // that no step of a search tests which it is.
-pub(crate) fn search(names: &[FieldName], index: &NameIndex, name: &str) -> (Option<usize>, u64)
-    requires index { IsIndexOf names.now index.now }
-    ensures place { result.0 ≡ first_place names.now name.now }
-    ensures count { result.1 ≡ comparisons (longest_bucket names.now) }
+pub(crate) fn search(
+    names: CountedNames<'_>,
+    compared: Compared,
+    index: &NameIndex,
+    name: &str,
+) -> (Option<usize>, u64)
+    requires none { compared ≡ 0 }
+    requires index { IsIndexOf names index.now }
+    ensures place { result.0 ≡ first_place names.entry name.now }
+    ensures count { result.1 ≡ comparisons (longest_bucket names.entry) }
 {
     if index.entries.is_empty() {
         return (None, 0);
     }
     let bits = index.bits;
     let key = key_of(name.as_bytes(), bits);
-    let entries = bucket_entries(names, index, name, key);
+    let entries = bucket_entries(&names, index, name, key);
     match index.discriminator {
-        Discriminator::Key => search_with(names, bits, Discriminator::Key, entries, name, key),
-        Discriminator::Text => search_with(names, bits, Discriminator::Text, entries, name, key),
+        Discriminator::Key => search_with(
+            &names,
+            compared,
+            bits,
+            Discriminator::Key,
+            entries,
+            name,
+            key,
+        ),
+        Discriminator::Text => search_with(
+            &names,
+            compared,
+            bits,
+            Discriminator::Text,
+            entries,
+            name,
+            key,
+        ),
     }
 }
 
 // As many entries as the longest bucket has, among them those of the bucket of a name with this key.
 #[inline(always)]
-fn bucket_entries<'a>(names: &[FieldName], index: &'a NameIndex, name: &str, key: u64) -> &'a [u64]
+fn bucket_entries<'a>(
+    names: &CountedNames<'_>,
+    index: &'a NameIndex,
+    name: &str,
+    key: u64,
+) -> &'a [u64]
     requires some { 0 < length index.now.entries.items }
     requires index { IsIndexOf names.now index.now }
     requires key { key ≡ key_of index.now.bits name.now }
@@ -64,13 +91,15 @@ fn window(entries: &[u64], start: usize, len: usize) -> &[u64]
 // first step a power of two is left, of which each step takes half. The steps are as many for every name.
 #[inline(always)]
 fn search_with(
-    names: &[FieldName],
+    names: &CountedNames<'_>,
+    mut compared: Compared,
     bits: u32,
     by: Discriminator,
     entries: &[u64],
     name: &str,
     key: u64,
 ) -> (Option<usize>, u64)
+    requires none { compared ≡ 0 }
     requires bits { bits < 64 }
     requires some { 0 < length entries.now }
     requires bucket { IsBucketFor names.now bits by name.now entries.now }
@@ -79,7 +108,6 @@ fn search_with(
     ensures count { result.1 ≡ comparisons (length entries.now) }
 {
     let mut low = 0;
-    let mut compared = 0;
     let size = 1 << entries.len().ilog2();
     if size < entries.len() {
         let half = entries.len() - size;
@@ -96,7 +124,10 @@ fn search_with(
     }
     let last = entries[low];
     let comparison = compare(names, bits, last, name, key, by, true, &mut compared);
-    (comparison.same.then_some(position_in(last, bits)), compared)
+    (
+        comparison.same.then_some(position_in(last, bits)),
+        compared.count(),
+    )
 }
 
 // How an entry's name compares to the one that is looked for.
@@ -113,14 +144,14 @@ struct KeyComparison {
 // with the one that is looked for. Inlined, so that no step asks which it is.
 #[inline(always)]
 fn compare(
-    names: &[FieldName],
+    names: &CountedNames<'_>,
     bits: u32,
     entry: u64,
     name: &str,
     key: u64,
     by: Discriminator,
     is_last: bool,
-    compared: &mut u64,
+    compared: &mut Compared,
 ) -> KeyComparison
     requires bits { bits < 64 }
     requires within { position_in bits entry < length names.now }
@@ -129,9 +160,7 @@ fn compare(
     ensures below { is_last ≡ false → result.below ≡ mask (is_lt (entry_name_cmp bits names.now name.now key by entry)) }
     ensures same { is_last ≡ true → (IsTrue result.same ↔ IsEntryOf bits names.now name.now key entry) }
 {
-    *compared += 1;
-    let position = position_in(entry, bits);
-    let here = &names[position];
+    let here = names.read(position_in(entry, bits), compared);
     let entry_key = without_bits(entry, bits);
     if is_last {
         let same = entry_key == key && here.eq_str(name);

@@ -18,7 +18,7 @@ returns-in-None c =
     let same = c.loop-position.invariant.found in
     let as_many : length found ≡ position = sym (length-map found Some) ∙ ap length same ∙ length-map (take position asked) (first_place names) ∙ length-take-le position asked (omega (arith, within)) in
     inr (record {
-      absent = (get_or asked position [], slice_get-get_or asked position [] within, ap (first_place names) (sym name) ∙ sym c.search.ensures.place ∙ c.in-None.is);
+      absent = (get_or asked position [], slice_get-get_or asked position [] within, ap (first_place names) (sym name) ∙ ap (λ ns. first_place ns c.as_str.result.now) (sym c.new-counted.ensures.names) ∙ sym c.search.ensures.place ∙ c.in-None.is);
       there = λ k n below here absent.
           none-some (get_or found k 0) (
           sym absent

@@ -32,10 +32,10 @@ loop-half-init c =
             (omega (arith, size, as_many_positions c.args.bits entries)) refl (omega arith)
             (λ t. ap is_lt (ap (name_cmp c.args.bits names n) (position_at c.args.bits entries m 0 within)
             ∙ sym (decided c.args.bits names c.args.by n entries c.requires.bucket c.args.key m 0 c.requires.key within t)))
-            (w.compare-comparison.ensures.below refl) w.low-is (omega (arith, w.compared-is, w.compare-comparison.ensures.counted))
+            (w.compare-comparison.ensures.below refl) w.low-is (omega (arith, w.compared-is, w.compare-comparison.ensures.counted, c.requires.none))
         | else-size-entries w ↦
             starts c.args.bits names order c.requires.bucket.rising c.requires.bucket.apart n c.if-size-entries.low (2 ^ k) c.if-size-entries.compared (omega (arith, c.ilog2.ensures.next_power_gt))
-            (omega (arith, w.if-size-entries.false, size, c.ilog2.ensures.power_le, as_many_positions c.args.bits entries)) w.low-is w.compared-is
+            (omega (arith, w.if-size-entries.false, size, c.ilog2.ensures.power_le, as_many_positions c.args.bits entries)) w.low-is (w.compared-is ∙ c.requires.none)
       ];
     }
 
@@ -85,6 +85,6 @@ pub returns-clause-count : goal.returns-clause-count
 returns-clause-count c =
     let inv = c.loop-half.invariant in
     let entries = c.args.entries.now in
-    c.compare-comparison-2.ensures.counted
+    c.count.ensures ∙ c.compare-comparison-2.ensures.counted
     ∙ counts c.args.bits c.args.names.now (positions c.args.bits entries) c.requires.bucket.rising c.requires.bucket.apart c.args.name.now c.loop-half.low (2 ^ inv.steps) c.loop-half.compared inv.left (omega (arith, inv.is, c.loop-half-test.false))
     ∙ ap comparisons (as_many_positions c.args.bits entries)

@@ -10,9 +10,10 @@ use crate::{PType, VortexError, VortexResult};
 use std::fmt;
 use std::marker::Model;
 
-/// The greatest precision of a decimal type, 76: every number of 76 decimal digits fits a signed 256-bit integer.
+/// The greatest precision of a decimal type, 76. It is the greatest number of decimal digits such that every number of
+/// so many digits fits a signed 256-bit integer.
 pub const MAX_PRECISION: u8 = 76;
-/// The greatest scale of a decimal type, 76: a scale is at most the precision.
+/// The greatest scale of a decimal type, 76, because a scale is at most the precision.
 pub const MAX_SCALE: i8 = MAX_PRECISION as i8;
 
 const _: () = prove!(MAX_PRECISION == 76 && MAX_SCALE == 76);
@@ -149,8 +150,8 @@ pub fn check_precision_and_scale(precision: u8, scale: i8, max: u8) -> VortexRes
     Ok(())
 }
 
-/// A storage type of decimal values: a signed integer that stores the digits of a value without its decimal point. For
-/// example, 12.34 of the type `decimal(4,2)` is stored as 1234, for which `I16` is wide enough.
+/// A storage type of decimal values: a signed integer type. A value is stored as the integer of its digits, without the
+/// decimal point. For example, 12.34 of the type `decimal(4,2)` is stored as 1234, for which `I16` is wide enough.
 ///
 /// Its number, from 0 for `I8` to 5 for `I256`, is the one that Vortex messages use. Storage types are ordered by it,
 /// narrowest first.

@@ -42,7 +42,7 @@ impl FieldName {
         })
     }
 
-    /// Returns the name with this shared text, which it takes over. Doesn't allocate.
+    /// Returns the name whose text is this shared text, without a copy. Doesn't allocate.
     pub fn from_inner(text: RcStr) -> Self
         ensures { result ≡ rc_str_bytes text }
     {
@@ -70,7 +70,7 @@ impl FieldName {
         self.inner.as_str()
     }
 
-    /// Returns a new string with the text as it is: without the escapes that `Display` writes.
+    /// Returns a new string with the text, unchanged: without the escapes that `Display` writes.
     ///
     /// # Errors
     ///
@@ -81,7 +81,7 @@ impl FieldName {
         Ok(String::from_str(alloc, self.as_str())?)
     }
 
-    /// Returns whether the name is this text.
+    /// Returns whether the text of the name is equal to this text.
     pub fn eq_str(&self, text: &str) -> bool
         ensures { IsTrue result ↔ (self.now ≡ text.now) }
     {
@@ -90,8 +90,8 @@ impl FieldName {
 
     /// Returns a copy of the name, which shares the text.
     ///
-    /// It raises a reference count and doesn't allocate, so `_alloc` isn't used. The signature takes it so that it
-    /// needn't change if a copy comes to allocate.
+    /// The call raises a reference count and doesn't allocate, so `_alloc` isn't used. It is a parameter so that the
+    /// signature can stay the same if a later version has to allocate.
     ///
     /// # Errors
     ///
@@ -170,8 +170,9 @@ impl Hash for FieldName {
     }
 }
 
-/// Prints the text, with a backslash before each backslash and each double quote, and with ASCII control characters
-/// escaped. Other characters are printed as they are. That includes characters that some terminals and editors treat as
+/// Prints the text, with a backslash before each backslash and each double quote, and with each ASCII control character
+/// escaped: tab, newline and carriage return as `\t`, `\n` and `\r`, and the others by two hexadecimal digits, such as
+/// `\x00`. Other characters are printed unchanged. They include characters that some terminals and editors treat as
 /// control characters or as line ends, such as U+0085, U+009B and U+2028. A program that shows names of unknown origin
 /// must escape these itself.
 impl fmt::Display for FieldName {

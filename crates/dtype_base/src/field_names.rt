@@ -154,7 +154,7 @@ impl FieldNames {
     }
 }
 
-// The list of copies of these names, which share their texts.
+// Returns a list of copies of these names, which share their texts with the originals.
 pub(crate) fn copied(alloc: Global, names: &[FieldName]) -> VortexResult<FieldNames>
     ensures { Makes result (λ n. n ≡ names.now) }
 {

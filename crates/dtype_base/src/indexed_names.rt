@@ -23,7 +23,8 @@ use std::marker::Model;
 #[derive(Debug, Drop)]
 pub struct IndexedNames {
     index: NameIndex,
-    // The last, so that in a struct they lie beside the types: `==` of types reads both, and no index.
+    // The names are the last field, so that in a struct they lie beside the types: `==` of two types reads the names
+    // and the types, and not the index.
     names: FieldNames,
 }
 
@@ -62,10 +63,10 @@ impl IndexedNames {
     /// compared.
     ///
     /// That number is the same for every name, whether it is in the list or not. It is 0 if the list is empty.
-    /// Otherwise the index has as many buckets as names, each name in the bucket of its hash, and the number is that of
-    /// a binary search among as many names as the longest bucket has: 1 comparison if that is one name, 2 for two
-    /// names, 3 for three or four names, 4 for five to eight names. So it is at most 1 plus the number of binary digits
-    /// of the length of the list, even if all names are in one bucket. Doesn't allocate.
+    /// Otherwise there are as many buckets as names, each name is in the bucket of its hash, and the number is that of
+    /// a binary search among as many names as the longest bucket contains: 1 comparison if it contains one name, 2 for
+    /// two names, 3 for three or four names, and 4 for five to eight names. So it is at most 1 plus the number of
+    /// binary digits of the length of the list, even if all names are in one bucket. Doesn't allocate.
     #[tactic(auto, using(crate::proofs::lemmas::Lookups::most_compared, crate::proofs::lemmas::Lookups::found_compared))]
     pub fn find_counted(&self, name: &str) -> (Option<usize>, u64)
         ensures first { result.0 ≡ first_place self.now name.now }
@@ -77,15 +78,15 @@ impl IndexedNames {
         search(names, compared, &self.index, name)
     }
 
-    /// Returns the names asked for, in that order and with an index of their own, and for each of them its first
-    /// position in this list. A name may be asked for more than once. For example, selecting `b`, `a`, `b` from `a`,
+    /// Returns the names in `asked`, in that order and with an index of their own, together with the first position of
+    /// each in this list. A name may occur more than once in `asked`. For example, selecting `b`, `a`, `b` from `a`,
     /// `b` returns the names `b`, `a`, `b` and the positions 1, 0, 1. The returned names share their texts with the
     /// originals.
     ///
     /// # Errors
     ///
-    /// - `FieldNotFound` (16): a name asked for isn't in this list. The error contains the position, in `asked`, of the
-    ///   first such name.
+    /// - `FieldNotFound` (16): a name in `asked` isn't in this list. The error contains the position, in `asked`, of
+    ///   the first such name.
     /// - `OutOfMemory` (0): an allocation fails.
     pub fn select(&self, alloc: Global, asked: &[FieldName]) -> VortexResult<(Self, Vec<usize>)>
         ensures { MatchResult result

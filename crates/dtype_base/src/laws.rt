@@ -23,7 +23,7 @@ use crate::{
     MessageFault, Nullability, PType, RESERVED_VALIDITY_FIELD_NAME, VortexError,
 };
 
-/// For all primitive types `p` and `q`, `cmp` compares `p` and `q` as it compares their numbers. For example, `u8`
+/// For all primitive types `p` and `q`, `cmp` orders `p` and `q` in the same way as their numbers. For example, `u8`
 /// (number 0) is less than `i8` (number 4), and `i64` (number 7) is less than `f16` (number 8). With this law a caller
 /// can sort primitive types and know the order that results.
 ///
@@ -33,8 +33,9 @@ pub fn primitive_names_are_ordered_by_number()
         ≡ nat_cmp (ptype_row p).number (ptype_row q).number }
 {}
 
-/// For all storage types `s` and `t`, `cmp` compares `s` and `t` as it compares their numbers, so a narrower storage
-/// type is less than a wider one. For example, `i64` (number 3) is less than `i128` (number 4).
+/// For all storage types `s` and `t`, `cmp` orders `s` and `t` in the same way as their numbers, so a narrower storage
+/// type is less than a wider one. For example, `i64` (number 3) is less than `i128` (number 4). A caller needs this law
+/// to conclude from `s <= t` that `t` is at least as wide as `s`.
 ///
 /// About [`DecimalType`].
 pub fn storage_types_are_ordered_by_number()
@@ -60,7 +61,8 @@ pub fn equal_where_the_same()
 {}
 
 /// For all `a` and `b` of one of these types, if `b` is what `clone` returns for `a`, then `b` is the same value as
-/// `a`. For example, a clone of `decimal(10,2)` is `decimal(10,2)`.
+/// `a`. For example, a clone of `decimal(10,2)` is `decimal(10,2)`. A caller needs this law to conclude that what it
+/// has proved of a value is so of the clone too.
 ///
 /// About [`Nullability`], [`PType`], [`DecimalType`] and [`DecimalDType`].
 pub fn clones_are_the_same()
@@ -76,7 +78,8 @@ pub fn clones_are_the_same()
 
 /// For all `a` and `b`, two names with the bytes `a` and `b` are equal by `==` exactly if `a` and `b` are the same
 /// bytes, and two lists of names are equal exactly if they contain the same names in the same order. For example,
-/// `["x", "y"]` isn't equal to `["y", "x"]`.
+/// `["x", "y"]` isn't equal to `["y", "x"]`. With this law a caller can conclude from a test by `==` that two names or
+/// two lists are the same in contracts.
 ///
 /// About [`FieldName`] and [`FieldNames`].
 pub fn names_are_equal_where_their_bytes_are()
@@ -86,7 +89,8 @@ pub fn names_are_equal_where_their_bytes_are()
 
 /// For all errors `a` and `b`, `a == b` is true exactly if `a` and `b` are the same variant with the same values. The
 /// same is so of two message faults. For example, `FieldNotFound { position: 0 }` isn't equal to
-/// `FieldNotFound { position: 1 }`.
+/// `FieldNotFound { position: 1 }`. With this law a caller can test which error a call returned, and conclude what the
+/// contract of the call says about that error.
 ///
 /// About [`VortexError`] and [`MessageFault`].
 pub fn errors_are_equal_where_the_same()
@@ -95,8 +99,9 @@ pub fn errors_are_equal_where_the_same()
         → Decides (⟦<MessageFault as PartialEq>⟧.eq a b) (a ≡ b) }
 {}
 
-/// In contracts a slice of `u8` is a list of numbers below 256. A caller names this law when a definition requires
-/// bytes, for example the metadata of a valid extension type.
+/// For each slice `bytes` of `u8`, the list of numbers that contracts cite for it is a list of bytes: each number is
+/// below 256. For example, the slice of the text `a` is the list of the number 97. A caller calls this law when a
+/// definition requires bytes, for example as the metadata of a valid extension type.
 ///
 /// About [`FieldName::as_str`].
 pub fn slices_hold_bytes(bytes: &[u8])
@@ -106,8 +111,8 @@ pub fn slices_hold_bytes(bytes: &[u8])
 }
 
 /// Both iterators over names yield them in order: `next` returns the first of the names that are left, and `None` once
-/// all have been returned, which is after as many names as `len` announced. For example, an iterator over `["x", "y"]`
-/// returns `x`, then `y`, then `None`. A caller needs this to know which names a `for` loop visits.
+/// all have been returned. Before the first `None` they yield as many names as `len` returned. For example, an iterator
+/// over `["x", "y"]` returns `x`, then `y`, then `None`. A caller needs this to know which names a `for` loop visits.
 ///
 /// About [`FieldNames::iter`] and [`FieldNames::into_iter`].
 pub fn names_are_given_in_order()
@@ -132,15 +137,17 @@ pub fn lookups_give_the_first_position()
         → (first_place names name ≡ None) ↔ IsAbsent names name }
 {}
 
-/// If `n` is what `Nullability::default` returns, then `n` is `NonNullable`.
+/// For each nullability `n`, if `n` is what `Nullability::default` returns, then `n` is `NonNullable`. For example,
+/// `DType::Bool(Nullability::default())` is `bool` and not `bool?`. A caller needs this law to know the nullability of
+/// a type that is made with the default.
 ///
 /// About [`Nullability`].
 pub fn default_nullability_is_non_nullable()
     ensures { (n : Nullability) → ⟦<Nullability as Default>⟧.is_default n → n ≡ NonNullable }
 {}
 
-/// The constant `RESERVED_VALIDITY_FIELD_NAME` is the text `$__vortex_validity`. A caller that compares a name with the
-/// constant can so conclude which bytes the name has.
+/// The constant `RESERVED_VALIDITY_FIELD_NAME` is the text `$__vortex_validity`. With this law a caller that compares a
+/// name with the constant can conclude which bytes the name has.
 ///
 /// About [`RESERVED_VALIDITY_FIELD_NAME`].
 pub fn reserved_field_name_is_its_text()

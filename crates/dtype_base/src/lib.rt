@@ -3,7 +3,7 @@
 
 //! Errors, nullability, primitive types, decimals and field names: the parts of which every Vortex type is made.
 //!
-//! The contracts specify four things. A name is a text, and a list of names is a list of texts. The properties of
+//! The contracts specify the following. A name is a text, and a list of names is a list of texts. The properties of
 //! primitive types and of decimals are those of two tables. Each lookup of a name returns its first position. Each
 //! error is returned in exactly the cases that its call documents.
 //!
@@ -16,12 +16,12 @@
 //! - `Primitives` and `Decimals`: the two tables.
 //! - `Bytes`: which lists of numbers are bytes.
 //! - `FieldNames`: `first_place`, the first position of a name.
-//! - `MadeFrom`: what is made of all that an iterator yields.
+//! - `MadeFrom`: what a call makes of all the items that an iterator yields.
 //! - `Distinct`: whether a list has no repeated element.
-//! - `Comparisons`, `NameHashes` and `BinaryDigits`: how many names a lookup compares.
+//! - `Comparisons`, `NameHashes` and `BinaryDigits`: with how many names a lookup compares the name that it looks for.
 //! - `Escapes`: how a name is printed.
 //!
-//! `specs/private/` contains the definitions about the index of names, which no other crate cites. `laws` states the
+//! `specs/private/` contains the definitions about the index of names. No other crate cites them. `laws` states the
 //! theorems about these definitions. `docs/TRUST.md` lists what is proved and what is only tested.
 #![tactic(auto)]
 

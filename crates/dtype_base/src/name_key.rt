@@ -1,19 +1,20 @@
 // SPDX-License-Identifier: Apache-2.0
 // SPDX-FileCopyrightText: Copyright the Vortex contributors
 
-// The keys of an index: the first bits of the hashes of names. Hashes share out the names evenly, so that a lookup searches
-// among few.
+// The keys of an index: the first bits of the hashes of names. Hashes distribute the names evenly over the buckets, so
+// that a lookup searches among few names.
 ghost use Rattle.std.specs.Prelude.{◌≡◌, ◌+◌, ◌<◌, ◌≤◌, length, slice_index};
 ghost use Rattle.dtype_base.specs.BinaryDigits.{binary_digits};
 ghost use Rattle.dtype_base.specs.NameHashes.{big_endian, bucket_of_key, hash_of, key_of, mixed, without_bits};
 
-// The number after the greatest of eight bytes: what a difference of two of them borrows.
+// 2^64, the least number that doesn't fit eight bytes. It is what a subtraction of two `u64` borrows if the first is
+// less than the second.
 pub(crate) const TWO_POW_64: u128 = 0x1_0000_0000_0000_0000;
 
-// What a hash multiplies by: 2^64 divided by the golden ratio.
+// The factor by which a hash is multiplied: 2^64 divided by the golden ratio.
 const MULTIPLIER: u128 = 0x9E37_79B9_7F4A_7C15;
 
-// How many bits a position takes among so many names.
+// Returns how many bits the positions of this many names take.
 #[tactic(auto, using(crate::proofs::NameHashes::digits_of_log), unfolding(crate::specs::BinaryDigits::binary_digits))]
 pub(crate) fn position_bits(count: usize) -> u32
     ensures { result ≡ binary_digits count }
@@ -24,7 +25,7 @@ pub(crate) fn position_bits(count: usize) -> u32
     }
 }
 
-// A number without its last bits, this many.
+// Returns the number with its last `bits` bits set to 0.
 #[inline(always)]
 pub(crate) fn without_bits(number: u64, bits: u32) -> u64
     requires { bits < 64 }
@@ -33,7 +34,8 @@ pub(crate) fn without_bits(number: u64, bits: u32) -> u64
     number - number % (1 << bits)
 }
 
-// The key of a name: the first bits of its hash. The last, this many, are left to a position.
+// Returns the key of a name: the first bits of its hash. The last `bits` bits are 0, so that an entry can store a
+// position in them.
 #[inline(always)]
 #[tactic(auto, unfolding(crate::specs::NameHashes::key_of))]
 pub(crate) fn key_of(text: &[u8], bits: u32) -> u64
@@ -43,7 +45,7 @@ pub(crate) fn key_of(text: &[u8], bits: u32) -> u64
     without_bits(hash_of(text), bits)
 }
 
-// The bucket of a key: all keys are shared out evenly.
+// Returns the bucket of a key. The keys are distributed evenly over the `count` buckets.
 #[inline(always)]
 #[tactic(auto, using(crate::proofs::NameHashes::bucket_below))]
 pub(crate) fn bucket_of_key(count: usize, key: u64) -> usize
@@ -54,7 +56,8 @@ pub(crate) fn bucket_of_key(count: usize, key: u64) -> usize
     (u128::from(key) * count as u128 / TWO_POW_64) as usize
 }
 
-// A number that hardly two texts have in common: of the length, the words of eight bytes, and the last eight bytes.
+// Returns the hash of a text, which two texts rarely have in common. It is computed from the length, the words of eight
+// bytes, and the last eight bytes.
 #[inline(always)]
 #[tactic(auto, using(crate::proofs::NameHashes::hash_steps), unfolding(crate::specs::NameHashes::words_hash))]
 pub(crate) fn hash_of(text: &[u8]) -> u64
@@ -70,8 +73,8 @@ pub(crate) fn hash_of(text: &[u8]) -> u64
     mixed(hash, first_word(&text[text.len() - 8..]))
 }
 
-// One word more in a hash. The sum of the product's halves is the product modulo 2^64 - 1, so that each bit of both numbers
-// counts.
+// Returns the hash after one more word. The sum of the two halves of the product is the product modulo 2^64 - 1, so
+// that each bit of both numbers has an effect.
 #[inline(always)]
 #[tactic(auto, unfolding(crate::specs::NameHashes::mixed))]
 fn mixed(hash: u64, word: u64) -> u64
@@ -81,7 +84,7 @@ fn mixed(hash: u64, word: u64) -> u64
     ((product / TWO_POW_64) as u64).wrapping_add((product % TWO_POW_64) as u64)
 }
 
-// The bytes of a text of fewer than eight, padded with zeros, as one big-endian number.
+// Returns the bytes of a text of fewer than eight bytes, padded with zeros, as one big-endian number.
 #[tactic(auto, using(crate::proofs::NameHashes::first_eight, crate::proofs::NameHashes::of_none))]
 fn load_u64(text: &[u8]) -> u64
     ensures { result ≡ big_endian 8 text.now }
@@ -101,7 +104,7 @@ fn load_u64(text: &[u8]) -> u64
     ])
 }
 
-// The first eight bytes of a text of at least eight, as one big-endian number.
+// Returns the first eight bytes of a text of at least eight bytes, as one big-endian number.
 #[inline(always)]
 #[tactic(auto, using(crate::proofs::NameHashes::first_eight))]
 fn first_word(text: &[u8]) -> u64
@@ -113,7 +116,7 @@ fn first_word(text: &[u8]) -> u64
     ])
 }
 
-// The byte at this index, or 0 past the end.
+// Returns the byte at this index, or 0 if the index is past the end.
 fn byte_at(text: &[u8], i: usize) -> u8
     ensures { result ≡ slice_index text.now i }
 {

@@ -1,8 +1,8 @@
 // SPDX-License-Identifier: Apache-2.0
 // SPDX-FileCopyrightText: Copyright the Vortex contributors
 
-// The index of a name list: an entry for each position, sorted by the keys of the names there, then by the names, and where
-// the entries of each bucket of keys begin.
+// The index of a list of names. It contains one entry for each position, sorted by the keys of the names at the
+// positions and then by the names, and it contains where the entries of each bucket of keys begin.
 ghost use Rattle.std.specs.Prelude.{◌≡◌, ◌↔◌, ◌+◌, ◌<◌, ◌≤◌, ◌^◌, All, IsTrue, IfOk, IsOkUnless, OnOk, length};
 ghost use Rattle.std.specs.List.{range_with_len};
 ghost use Rattle.std.specs.List.Sorted.{IsNonDecreasingBy, IsPermutation, IsSorted};
@@ -16,12 +16,13 @@ use crate::{FieldName, VortexResult};
 use std::alloc::Global;
 use std::cmp::Ordering;
 
-/// How much of a name distinguishes the entries of an index: the least of these that does.
+/// By what the entries of an index are distinguished: by the keys alone if they are all different, and otherwise by the
+/// texts of the names.
 #[derive(Clone, Copy, Debug)]
 pub(crate) enum Discriminator {
-    // The key: no two entries have the same.
+    // No two entries have the same key.
     Key,
-    // The text: some entries have equal keys.
+    // Some entries have equal keys, so that the texts of their names are compared.
     Text,
 }
 
@@ -30,13 +31,13 @@ pub(crate) enum Discriminator {
 pub(crate) struct NameIndex {
     // How many bits of an entry its position takes.
     pub(crate) bits: u32,
-    // An entry for each position: the key of the name there, with the position in its last bits. Sorted by the key, then by
-    // the name, then by the position.
+    // One entry for each position: the key of the name at the position, with the position in its last bits. The entries
+    // are sorted by the key, then by the name, then by the position.
     pub(crate) entries: Vec<u64>,
     // Where the entries of each bucket begin, and at the end the number of entries.
     pub(crate) starts: Vec<usize>,
-    // How many entries the longest bucket has. Each search is among as many, so that all make the same steps: a processor
-    // foresees a loop that always runs as often.
+    // How many entries the longest bucket contains. Every search is among so many entries, so that all searches take
+    // the same number of steps: a processor predicts a loop that always runs equally often.
     pub(crate) longest: usize,
     // How much of a name distinguishes the entries.
     pub(crate) discriminator: Discriminator,
@@ -84,8 +85,8 @@ fn keyed_entries(alloc: Global, names: &[FieldName], bits: u32) -> VortexResult<
     Ok(entries)
 }
 
-// Sorts entries as numbers, which is branch-free, and by text only where two keys are equal. Returns what distinguishes the
-// entries.
+// Sorts the entries as numbers, which is branch-free, and compares texts only if two keys are equal. Returns what
+// distinguishes the entries.
 fn sort_entries(
     names: &[FieldName],
     bits: u32,
@@ -130,7 +131,7 @@ fn compare_entries(names: &[FieldName], bits: u32, a: &u64, b: &u64) -> Ordering
     compare_positions(names, position_in(*a, bits), position_in(*b, bits))
 }
 
-// Compares by the bytes of the names there, then by the positions.
+// Compares two positions by the bytes of the names at them, then by the positions themselves.
 fn compare_positions(names: &[FieldName], i: usize, j: usize) -> Ordering
     ensures { result ≡ position_cmp names.now i j }
 {
@@ -179,7 +180,7 @@ fn longest_bucket(starts: &[usize]) -> usize
     longest
 }
 
-// Whether no name repeats: equal names would be neighbours in the order.
+// Returns whether no name occurs more than once. In the order of the entries equal names would be neighbours.
 #[tactic(auto, using(crate::proofs::NameSearch::position_is_within))]
 pub(crate) fn are_distinct(names: &[FieldName], bits: u32, entries: &[u64]) -> bool
     requires bits { bits < 64 }

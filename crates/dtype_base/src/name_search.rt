@@ -14,8 +14,8 @@ use crate::counted_names::{Compared, CountedNames};
 use crate::name_key::{TWO_POW_64, bucket_of_key, key_of, without_bits};
 use crate::name_order::{Discriminator, NameIndex, position_in};
 
-// The first position of the name, or `None`, and how many names were compared. Compiled once for each discriminator, so
-// that no step of a search tests which it is.
+// Returns the first position of the name, or `None`, and how many names were compared. The search is compiled once for
+// each discriminator, so that no step tests which discriminator it has.
 pub(crate) fn search(
     names: CountedNames<'_>,
     compared: Compared,
@@ -55,7 +55,7 @@ pub(crate) fn search(
     }
 }
 
-// As many entries as the longest bucket has, among them those of the bucket of a name with this key.
+// Returns a window of the entries that contains the bucket of this key and is as long as the longest bucket.
 #[inline(always)]
 fn bucket_entries<'a>(
     names: &CountedNames<'_>,
@@ -75,7 +75,8 @@ fn bucket_entries<'a>(
     window(&index.entries, index.starts[bucket], index.longest)
 }
 
-// So many entries: from this start, or from before it, so that they end within the entries.
+// Returns `len` consecutive entries. They begin at `start`, or before it if fewer than `len` entries are left from
+// there.
 #[inline(always)]
 fn window(entries: &[u64], start: usize, len: usize) -> &[u64]
     requires { len ≤ length entries.now }
@@ -86,9 +87,10 @@ fn window(entries: &[u64], start: usize, len: usize) -> &[u64]
     &entries[first..first + len]
 }
 
-// Binary search, branch-free where keys distinguish the entries. It ends at the first entry that isn't below the name, if
-// the name occurs; of a name that doesn't occur the steps may say anything, since the last comparison decides. After the
-// first step a power of two is left, of which each step takes half. The steps are as many for every name.
+// A binary search, which is branch-free if keys distinguish the entries. If the name occurs, the search ends at the
+// first entry that isn't below the name. If it doesn't occur, it doesn't matter where the search ends, because the last
+// comparison tests for equality. After the first step the number of entries that are left is a power of two, and each
+// further step halves it. The number of steps is the same for every name.
 #[inline(always)]
 fn search_with(
     names: &CountedNames<'_>,
@@ -133,15 +135,16 @@ fn search_with(
 // How an entry's name compares to the one that is looked for.
 #[derive(Clone, Copy)]
 struct KeyComparison {
-    // A mask: all ones where it is below, else 0. Of the last comparison, 0.
+    // All ones if the entry's name is below the other, and otherwise 0. The last comparison of a search sets it to 0.
     below: usize,
-    // Whether it is equal. Of the steps, false.
+    // Whether the two names are equal. Only the last comparison of a search sets it to true.
     same: bool,
 }
 
-// Compares an entry's name with the one that is looked for, and counts the comparison. A step asks which is below, by as
-// much of them as the discriminator names; the last comparison asks whether they are equal. Nothing else compares a name
-// with the one that is looked for. Inlined, so that no step asks which it is.
+// Compares an entry's name with the one that is looked for, and counts the comparison. A step of the search tests
+// whether the entry's name is below, by the key and, if the discriminator is `Text`, by the text. The last comparison
+// tests whether the two are equal. Nothing else compares a name with the one that is looked for. The function is
+// inlined, so that no step tests whether it is the last.
 #[inline(always)]
 fn compare(
     names: &CountedNames<'_>,
@@ -179,8 +182,8 @@ fn mask_of(below: bool) -> usize
     if below { usize::MAX } else { 0 }
 }
 
-// A mask: all ones where a is below b, else 0. Branch-free: it is the borrow of their difference, since a comparison would
-// be compiled to a jump.
+// Returns all ones if `a` is below `b`, and otherwise 0. It is computed from the borrow of the subtraction, because a
+// comparison would be compiled to a jump.
 fn less_mask(a: u64, b: u64) -> usize
     ensures { result ≡ mask (is_lt (nat_cmp a b)) }
 {

@@ -92,7 +92,8 @@ impl From<Nullability> for bool {
     }
 }
 
-/// Prints `?` for `Nullable`, and nothing for `NonNullable`: this is how the text of a type ends.
+/// Prints `?` for `Nullable`, and nothing for `NonNullable`. The text of a type ends with it: `i32?` is nullable, and
+/// `i32` isn't.
 impl fmt::Display for Nullability {
     ghost use Rattle.dtype_base.specs.Nullability.{nullability_text};
 

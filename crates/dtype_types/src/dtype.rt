@@ -57,5 +57,6 @@ pub enum DType {
     Extension(ExtDTypeRef),
 }
 
-// Lists hold types by value, so the size counts: a discriminant, and a pointer with what fits beside it.
+// Vectors contain types by value, so the size matters. A type is a discriminant and a pointer, with what fits beside
+// them.
 const _: () = prove!(size_of::<DType>() == 24);

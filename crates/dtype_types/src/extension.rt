@@ -54,8 +54,8 @@ impl ExtId {
 
     /// Returns an id with the same text, which the two share.
     ///
-    /// It raises a reference count and doesn't allocate, so `_alloc` isn't used. The signature takes it so that it
-    /// needn't change if a copy comes to allocate.
+    /// The call raises a reference count and doesn't allocate, so `_alloc` isn't used. It is a parameter so that the
+    /// signature can stay the same if a later version has to allocate.
     ///
     /// # Errors
     ///
@@ -111,9 +111,9 @@ impl fmt::Display for ExtId {
     }
 }
 
-/// An extension type whose library needn't be known (an erased extension): an id, the metadata as bytes, and a storage
-/// type. For example, `x.date[1B](i32?)` has the id `x.date`, one byte of metadata and the storage type `i32?`. A
-/// program that doesn't know what `x.date` means can still read such a type, keep it and write it again.
+/// An erased extension: an extension type as an id, the metadata as bytes, and a storage type, without the library that
+/// defines what they mean. For example, `x.date[1B](i32?)` has the id `x.date`, one byte of metadata and the storage
+/// type `i32?`. A program that doesn't know what `x.date` means can still read such a type, keep it and write it again.
 #[derive(Debug, Drop)]
 #[cycle(dtype)]
 pub struct ExtDTypeRef {
@@ -211,8 +211,8 @@ impl ExtDTypeRef {
         }
     }
 
-    /// Returns whether the two extension types are equal if every nullability in their storage types is ignored: the
-    /// ids and the metadata must be the same.
+    /// Returns whether the ids and the metadata of the two extension types are equal, and their storage types are equal
+    /// if every nullability in them is ignored.
     #[tactic(auto, using(crate::proofs::KindLaws::erased_tests))]
     pub fn eq_ignore_nullability(&self, other: &Self) -> bool
         ensures { IsTrue result
@@ -243,7 +243,7 @@ impl ExtDTypeRef {
         &self.parts.storage
     }
 
-    // Whether the ids and the metadata are equal, and the storages under the rule.
+    // Returns whether the ids and the metadata are equal, and the storage types are equal under the rule.
     #[cycle(equal_under)]
     pub(crate) fn equal_under(&self, other: &ExtDTypeRef, rule: NullabilityRule) -> bool
         ensures { result ≡ (bytes_eq (extension_id self.now) (extension_id other.now)
@@ -255,7 +255,8 @@ impl ExtDTypeRef {
             && equal_under(&self.parts.storage, &other.parts.storage, rule)
     }
 
-    // The bound of two extensions that are equal but for nullabilities: of their storages.
+    // Returns the bound of two extensions that are equal except for nullabilities. It has the bound of their storage
+    // types.
     #[cycle(merge_under)]
     pub(crate) fn merge_under(
         &self,

@@ -39,7 +39,7 @@ impl<'a> Model for FieldIter<'a> {
 }
 
 impl<'a> FieldIter<'a> {
-    // There are as many names as types.
+    // The caller proves that there are as many names as types.
     pub(crate) fn new(names: &'a [FieldName], dtypes: &'a [DType]) -> Self
         requires { length dtypes.now ≡ length names.now }
         ensures { result ≡ zip names.now dtypes.now }
@@ -51,8 +51,9 @@ impl<'a> FieldIter<'a> {
     }
 }
 
-// `VariantIter` and `DTypeIter` write out the same methods: a shared wrapper would be forwarded to at the same length,
-// an alias of std's `Zip` isn't a list in contracts, and the gate refuses impls that a macro here writes.
+// `VariantIter` and `DTypeIter` write out the same methods again. Forwarding to a shared wrapper would be as long, an
+// alias of std's `Zip` isn't a list in contracts, and the gate rejects impls that are written by a macro of this
+// repository.
 impl<'a> Iterator for FieldIter<'a> {
     type Item = (&'a FieldName, &'a DType);
 

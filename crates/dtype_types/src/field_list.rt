@@ -10,7 +10,8 @@ use dtype_base::{FieldName, FieldNames, VortexResult};
 use std::alloc::Global;
 use std::marker::Model;
 
-// Fields that are put together one after another; in contracts a list of pairs. A struct is made of it at the end.
+// A list of fields to which one field after another is added, and of which a struct is made at the end. In contracts it
+// is a list of pairs.
 #[derive(Drop)]
 pub(crate) struct FieldList {
     names: Vec<FieldName>,
@@ -34,7 +35,7 @@ impl Model for FieldList {
 }
 
 impl FieldList {
-    // No fields, and room for so many.
+    // Returns a list without fields that has room for `room` of them.
     pub(crate) fn with_capacity(alloc: Global, room: usize) -> VortexResult<Self>
         ensures { Makes result (λ l. l ≡ []) }
     {
@@ -43,7 +44,7 @@ impl FieldList {
         Ok(FieldList { names, dtypes })
     }
 
-    // These fields, and behind them one more.
+    // Returns these fields followed by one more.
     #[tactic(auto, using(crate::proofs::PutTogether::zip_more))]
     pub(crate) fn with(self, name: FieldName, dtype: DType) -> VortexResult<Self>
         ensures { Makes result (λ l. l ≡ self ++ (name, dtype) ∷ []) }
@@ -57,7 +58,8 @@ impl FieldList {
         Ok(FieldList { names, dtypes })
     }
 
-    // These fields, and behind them copies of more. The names share their texts.
+    // Returns these fields followed by copies of the fields `more`. The copied names share their texts with the
+    // originals.
     #[tactic(auto, using(crate::proofs::PutTogether::copied_more))]
     pub(crate) fn with_copies(self, alloc: Global, more: FieldIter<'_>) -> VortexResult<Self>
         ensures { Makes result (λ l. with_trees l ≡ with_trees self ++ with_trees more.entry) }
@@ -69,7 +71,7 @@ impl FieldList {
         Ok(fields)
     }
 
-    // The struct of these fields.
+    // Returns the struct of these fields.
     #[tactic(auto, using(crate::proofs::Parts::fields))]
     pub(crate) fn into_struct(self, alloc: Global) -> VortexResult<StructFields>
         ensures { Makes result (λ s. children s ≡ with_trees self) }

@@ -46,7 +46,9 @@ pub fn kinds_are_equal_where_the_same()
     ensures { (a b : Kind) → Decides (⟦<Kind as PartialEq>⟧.eq a b) (a ≡ b) }
 {}
 
-/// For all kinds `a` and `b`, if `b` is a clone of `a`, then `b` is the same kind as `a`.
+/// For all kinds `a` and `b`, if `b` is what `clone` returns for `a`, then `b` is the same kind as `a`. For example, a
+/// clone of `Kind::List` is `Kind::List`. A caller needs this law to conclude that what it has proved of a kind is so
+/// of the clone too.
 ///
 /// About [`Kind`].
 pub fn clones_of_kinds_are_the_same()
@@ -54,15 +56,15 @@ pub fn clones_of_kinds_are_the_same()
 {}
 
 /// For all ids `a` and `b`, `a == b` is true exactly if their texts have the same bytes. For example, `x.tag` isn't
-/// equal to `X.tag`.
+/// equal to `X.tag`. With this law a caller can conclude from a test by `==` which extension type it has.
 ///
 /// About [`ExtId`].
 pub fn ids_are_equal_where_their_texts_are()
     ensures { (a b : List ℕ) → Decides (⟦<ExtId as PartialEq>⟧.eq a b) (a ≡ b) }
 {}
 
-/// For all types `a` and `b`, if `a == b` is true then `a` and `b` write the same to every hasher. So types can be the
-/// keys of a hash map.
+/// For all types `a` and `b`, if `a == b` is true, then `hash` writes the same for `a` and for `b` to every hasher. For
+/// example, it writes the same for two separately built types `list(i32)`. So types can be the keys of a hash map.
 ///
 /// About [`DType`].
 pub fn equality_agrees_with_hash()
@@ -70,10 +72,10 @@ pub fn equality_agrees_with_hash()
         → ⟦<DType as Hash>⟧.hash_input a ≡ ⟦<DType as Hash>⟧.hash_input b }
 {}
 
-/// Two statements about equality without nullabilities (`erase a ≡ erase b`). First, it is reflexive, symmetric and
-/// transitive. Second, for all `a` and `b` that are equal in this way, `hash_ignore_nullability` writes the same for
-/// both to every hasher. For example, it writes the same for `list(i32?)` and for `list(i32)?`. So types without their
-/// nullabilities can be the keys of a hash map.
+/// Two statements about types `a` and `b` that are equal if all nullabilities are ignored (`erase a ≡ erase b`). First,
+/// this relation is reflexive, symmetric and transitive. Second, if `a` and `b` are equal in this way, then
+/// `hash_ignore_nullability` writes the same for both to every hasher. For example, it writes the same for `list(i32?)`
+/// and for `list(i32)?`. So types without their nullabilities can be the keys of a hash map.
 ///
 /// About [`DType::eq_ignore_nullability`] and [`DType::hash_ignore_nullability`].
 pub fn equality_ignoring_nullability_agrees_with_its_hash()
@@ -85,7 +87,8 @@ pub fn equality_ignoring_nullability_agrees_with_its_hash()
 /// Three statements about setting the outer nullability of a type, where `SetNull t n u` says that `u` is `t` with its
 /// outer nullability set to `n`. First, the outer nullability of `u` is then `n`. Second, `u` and `t` are equal except
 /// for nullabilities. Third, if the nullability is set twice, the second setting decides: setting `m` and then `n`
-/// makes the same type as setting `n`. For example, `i32` set to `Nullable` and then to `NonNullable` is `i32`.
+/// makes the same type as setting `n`. For example, `i32` set to `Nullable` and then to `NonNullable` is `i32`. A
+/// caller needs this law to conclude that `with_nullability` changes only the outer nullability.
 ///
 /// About [`DType::with_nullability`].
 #[tactic(auto, using(crate::proofs::lemmas::Nullabilities::set_is, crate::proofs::lemmas::Nullabilities::set_keeps, crate::proofs::lemmas::Nullabilities::set_again))]
@@ -96,7 +99,8 @@ pub fn nullability_is_set_alone()
         → SetNull t m u → (SetNull u n v ↔ SetNull t n v) }
 {}
 
-/// The constant `DType::BYTES`, which this law returns, is the non-nullable `u8`.
+/// The constant `DType::BYTES`, which this law returns, is the non-nullable `u8`. A caller needs this law to prove
+/// which type a schema has that it builds from the constant: for example, `list(DType::BYTES)` is `list(u8)`.
 ///
 /// About [`DType::BYTES`].
 pub fn bytes_are_non_nullable_u8() -> DType
@@ -105,10 +109,10 @@ pub fn bytes_are_non_nullable_u8() -> DType
     DType::BYTES
 }
 
-/// In each valid union `u`, the first position of a tag is the position of its variant: if the variant at position `i`
-/// has the tag `tag`, then `tag` is first found at `i`. So `tag_to_child_index` returns `Some(i)` for the tag that
-/// `child_index_to_tag` returns for `i`. For example, in `union(int@5=i32, string@9=utf8)` the tag 9 is at position 1,
-/// and the position 1 has the tag 9.
+/// For each valid union `u`, each position `i` and each tag `tag`, if the variant at the position `i` has the tag
+/// `tag`, then `i` is the first position of `tag` among the tags. So `tag_to_child_index` returns `Some(i)` for the tag
+/// that `child_index_to_tag` returns for `i`. For example, in `union(int@5=i32, string@9=utf8)` the tag 9 is at
+/// position 1, and the position 1 has the tag 9.
 ///
 /// About [`UnionVariants::tag_to_child_index`] and [`UnionVariants::child_index_to_tag`].
 #[tactic(auto, using(crate::proofs::lemmas::Tags::position_of_tag))]
@@ -118,8 +122,9 @@ pub fn tags_tell_positions()
         → position (λ g. g == tag) (variant_tags (variant_list u)) ≡ Some i }
 {}
 
-/// For each valid type `t`, the value `sample t` is a value of `t`. So each valid type has a value, and no statement
-/// about all values of a valid type is true for want of values.
+/// For each valid type `t`, the value `sample t` is a value of `t`. For example, `sample` of `list(i32)` is the empty
+/// list, and `sample` of `i32?` is null. So each valid type has a value, and a statement about all values of a valid
+/// type is never true merely because there is no value.
 ///
 /// About [`DType::eq_with_nullability_subset`].
 pub fn samples_are_values()
@@ -127,7 +132,8 @@ pub fn samples_are_values()
 {}
 
 /// For each type `t`, null is a value of `t` exactly if the outer nullability of `t` is `Nullable`. For example, null
-/// is a value of `list(i32)?` and not of `list(i32?)`.
+/// is a value of `list(i32)?` and not of `list(i32?)`. So `is_nullable` tells a reader whether a column can contain
+/// nulls.
 ///
 /// About [`DType::is_nullable`].
 pub fn null_is_a_value_of_nullable_types()
@@ -135,7 +141,8 @@ pub fn null_is_a_value_of_nullable_types()
 {}
 
 /// For all types `t` and `u`, if `u` is `t` with its outer nullability set to `Nullable`, then the values of `u` are
-/// the values of `t`, and null. For example, the values of `bool?` are true, false and null.
+/// the values of `t` together with null. For example, the values of `bool?` are true, false and null. So a column of
+/// type `t` may be read as a column of `u`.
 ///
 /// About [`DType::as_nullable`].
 pub fn nullable_types_have_null_besides()
@@ -145,7 +152,8 @@ pub fn nullable_types_have_null_besides()
 
 /// `Sub`, the relation that `eq_with_nullability_subset` tests, is a partial order: each type is a subset of itself; if
 /// `a` is a subset of `b` and `b` of `c`, then `a` is a subset of `c`; and if `a` and `b` are subsets of each other,
-/// they are equal. For example, `i32` is a subset of `i32?`, and `i32?` isn't one of `i32`.
+/// they are equal. For example, `i32` is a subset of `i32?`, and `i32?` isn't a subset of `i32`. So a caller that knows
+/// `a` to be a subset of `b` and `b` of `c` needn't compare `a` with `c`.
 ///
 /// About [`DType::eq_with_nullability_subset`].
 pub fn sub_is_an_order()
@@ -162,9 +170,10 @@ pub fn values_of_what_is_below_are_values()
 {}
 
 /// For all types `a` and `b` that are equal except for nullabilities, if `a` is valid and contains no fixed-size list
-/// of size 0, then `a` is a subset of `b` exactly if each value of `a` is a value of `b`. The premise about size 0 is
-/// needed: each value of `fixed_size_list(i32?)[0]`, which is only the empty list, is a value of
-/// `fixed_size_list(i32)[0]`, and yet the first isn't a subset of the second.
+/// of size 0, then `a` is a subset of `b` exactly if each value of `a` is a value of `b`. So
+/// `eq_with_nullability_subset` returns `true` exactly if a column of the one type may be used as a column of the
+/// other. The premise about size 0 is needed: the only value of `fixed_size_list(i32?)[0]` is the empty list, which is
+/// a value of `fixed_size_list(i32)[0]` too, and yet the first type isn't a subset of the second.
 ///
 /// About [`DType::eq_with_nullability_subset`].
 #[tactic(auto, using(crate::proofs::lemmas::SubValues::sub_values, crate::proofs::TellLaws::included_is_sub))]
@@ -175,7 +184,8 @@ pub fn the_order_is_inclusion_of_values()
 
 /// For all types `a` and `b` that are equal except for nullabilities, if `a` is valid and contains no fixed-size list
 /// of size 0, and `a` isn't a subset of `b`, then `tell a b` is a value of `a` that isn't a value of `b`. For example,
-/// `tell` of `list(i32?)` and `list(i32)` is the list of one null. So a refused comparison can be explained by a value.
+/// `tell` of `list(i32?)` and `list(i32)` is the list of one null. With this law a program that refuses a column of
+/// type `a` can show a value for which it does so.
 ///
 /// About [`DType::eq_with_nullability_subset`].
 #[tactic(auto, using(crate::proofs::TellLaws::tells_apart))]
@@ -184,8 +194,9 @@ pub fn tell_tells_apart()
         → ¬ (Sub a b) → IsSomeAnd (tell a b) (λ v. Of v a × ¬ (Of v b)) }
 {}
 
-/// For all types `a` and `b` that are equal except for nullabilities, also with a fixed-size list of size 0, `tell a b`
-/// is `None` exactly if `a` is a subset of `b`.
+/// For all types `a` and `b` that are equal except for nullabilities, `tell a b` is `None` exactly if `a` is a subset
+/// of `b`. This is so even if the types contain a fixed-size list of size 0. For example, `tell` of `i32` and `i32?` is
+/// `None`. So `tell` returns a value exactly if `eq_with_nullability_subset` returns `false`.
 ///
 /// About [`DType::eq_with_nullability_subset`].
 #[tactic(auto, using(crate::proofs::TellLaws::told_exactly))]
@@ -193,9 +204,9 @@ pub fn tell_gives_exactly_where_not_below()
     ensures { (a b : Tree) → erase a ≡ erase b → ((tell a b ≡ None) ↔ Sub a b) }
 {}
 
-/// The iterators over types, over fields and over variants yield exactly as many items as `len` announced, in order,
-/// and then `None`. For example, the iterator over the fields of `{a=i32, b=utf8}` returns `a` with `i32`, then `b`
-/// with `utf8`, then `None`. A caller needs this to know which fields a `for` loop visits.
+/// The iterators over types, over fields and over variants yield their items in order, exactly as many as `len`
+/// returned, and then `None`. For example, the iterator over the fields of `{a=i32, b=utf8}` returns `a` with `i32`,
+/// then `b` with `utf8`, then `None`. A caller needs this to know which fields a `for` loop visits.
 ///
 /// About [`StructFields::pairs`], [`StructFields::fields`], [`StructFields::field_dtypes`], [`UnionVariants::triples`]
 /// and [`UnionVariants::variants`].
@@ -211,7 +222,8 @@ pub fn parts_are_given_in_order()
 /// A type that is made from valid types is valid. There is one statement for each way to make a type: primitive types,
 /// lists, fixed-size lists whose size is below 2^32, maps whose key type is non-nullable, the type of a map's entries,
 /// structs, unions whose names, types and tags `UnionVariants::try_new` accepts, and extensions whose metadata is
-/// bytes. For example, if `t` is valid then so is `list(t)?`.
+/// bytes. For example, if `t` is valid, then `list(t)?` is valid. A caller needs this law to prove that a type that it
+/// builds is valid, as many contracts require.
 ///
 /// About [`DType::list`], [`DType::map`] and [`DType::struct_`].
 #[tactic(auto, using(crate::proofs::lemmas::ValidLists::valid_struct_of, crate::proofs::lemmas::ValidLists::listed_variants, crate::proofs::lemmas::ValidLists::valid_variants, crate::proofs::lemmas::Validity::entries_valid))]
@@ -233,16 +245,17 @@ pub fn types_made_of_valid_types_are_valid()
 {}
 
 /// For all types `t` and `u`, if `u` is `t` with its outer nullability set, then `t` is valid exactly if `u` is. For
-/// example, `list(decimal(5,2))` and `list(decimal(5,2))?` are both valid.
+/// example, `list(decimal(5,2))` and `list(decimal(5,2))?` are both valid. So what `with_nullability` returns for a
+/// valid type may be used wherever a valid type is required.
 ///
 /// About [`DType::with_nullability`].
 pub fn setting_a_nullability_keeps_validity()
     ensures { (t u : Tree) (n : Nullability) → SetNull t n u → (Valid t ↔ Valid u) }
 {}
 
-/// A copy of something valid is valid. There is one statement each for a type, the fields of a struct, the variants of
-/// a union, the parts of a map, an extension, and the type of a field. So what `try_clone` returns for a valid type may
-/// be used wherever a valid type is required.
+/// A copy of something valid is valid. There is one statement for each of these: a type, the fields of a struct, the
+/// variants of a union, the parts of a map, an extension, and the type of a field. So what `try_clone` returns for a
+/// valid type may be used wherever a valid type is required.
 ///
 /// About [`DType::try_clone`].
 pub fn copies_of_valid_types_are_valid()
@@ -259,9 +272,10 @@ pub fn copies_of_valid_types_are_valid()
         → Valid (field_tree copy) }
 {}
 
-/// The part of a valid type that an `as_.._opt` or `into_.._opt` call returns is valid: the element type of a list, the
-/// parts of a map, the fields of a struct, the variants of a union, and an extension. For example, if `list(t)` is
-/// valid then so is `t`.
+/// For each valid type, the part of it that an `as_.._opt` or `into_.._opt` call returns is valid: the element type of
+/// a list, the parts of a map, the fields of a struct, the variants of a union, and an extension. For example, if
+/// `list(t)` is valid, then `t` is valid. So a function that descends into a valid type may call functions that require
+/// valid types.
 ///
 /// About [`StructFields::field`] and [`UnionVariants::variant`].
 #[tactic(auto, using(crate::proofs::lemmas::ValidParts::valid_parts))]
@@ -280,9 +294,9 @@ pub fn parts_of_a_valid_type_are_valid()
 {}
 
 /// Each type in the fields of a valid struct, in the variants of a valid union, in a valid map or in a valid extension
-/// is valid. There is one statement each for a field or a variant at a position, for one that is found by its name, for
-/// all of them, for a map's key type and value type, and for a storage type. For example, if `{a=t, b=u}` is valid then
-/// so is the type `t` of its field `a`.
+/// is valid. There are separate statements for a field or a variant at a position, for one that is found by its name,
+/// for all of them, for a map's key type and value type, and for a storage type. For example, if `{a=t, b=u}` is valid,
+/// then the type `t` of its field `a` is valid.
 ///
 /// About [`StructFields::field_by_index`] and [`UnionVariants::variant_by_index`].
 #[tactic(auto, using(crate::proofs::lemmas::Validity::types_in_valid_parts))]
@@ -303,8 +317,9 @@ pub fn types_in_valid_parts_are_valid()
     ensures storage { (e : ExtDTypeRef) → Valid (extension_tree e) → Valid (storage_tree e) }
 {}
 
-/// Fields that are selected from the fields of a valid struct (`project`), fields of two valid structs that are joined
-/// (`disjoint_merge`), and the fields of a valid struct that are left after one is removed (`without_field`) are valid.
+/// Three statements about structs that are made from valid structs. First, what `project` returns for a valid struct is
+/// valid. Second, what `disjoint_merge` returns for two valid structs is valid. Third, what `without_field` returns for
+/// a valid struct is valid. For example, if `{a=t, b=u}` is valid, then `{b=u}` is valid.
 ///
 /// About [`StructFields::project`].
 #[tactic(auto, using(crate::proofs::lemmas::Validity::removal_valid, crate::proofs::lemmas::Validity::valid_joined, crate::proofs::lemmas::Validity::valid_projected))]

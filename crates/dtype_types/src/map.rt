@@ -106,7 +106,7 @@ impl MapDType {
         Ok(DType::Struct(fields, Nullability::NonNullable))
     }
 
-    // Whether the parts of the two are equal under the rule.
+    // Returns whether the key types and the value types of the two are equal under the rule, and their flags are equal.
     #[cycle(equal_under)]
     pub(crate) fn equal_under(&self, other: &MapDType, rule: NullabilityRule) -> bool
         ensures { result ≡ (equal_under rule (map_shown self.now).0 (map_shown other.now).0
@@ -118,7 +118,7 @@ impl MapDType {
             && self.shared.keys_sorted == other.shared.keys_sorted
     }
 
-    // The bound of two maps that are equal but for nullabilities.
+    // Returns the bound of two maps that are equal except for nullabilities.
     #[cycle(merge_under)]
     pub(crate) fn merge_under(
         &self,
@@ -154,10 +154,10 @@ impl MapDType {
         self.shared.keys_sorted.hash(state);
     }
 
-    /// Returns a map type equal to this one, which shares the key type and the value type with it.
+    /// Returns a copy of the map type, which shares the key type and the value type with the original.
     ///
-    /// It raises a reference count and doesn't allocate, so `_alloc` isn't used. The signature takes it so that it
-    /// needn't change if a copy comes to allocate.
+    /// The call raises a reference count and doesn't allocate, so `_alloc` isn't used. It is a parameter so that the
+    /// signature can stay the same if a later version has to allocate.
     ///
     /// # Errors
     ///

@@ -14,8 +14,9 @@ use dtype_base::{FieldName, FieldNames, IndexedNames, VortexResult};
 use std::alloc::Global;
 use std::marker::Model;
 
-// Names and types, equally many; in contracts a list of pairs. A struct holds its fields by it, since a type on a cycle
-// can have no invariant of its own. The file `specs/formers/named/Named` says how it holds the types.
+// Names and types, of which there are equally many. In contracts it is a list of pairs. A struct contains its fields in
+// a `Named`, because a type that is part of a recursive group of types can have no invariant of its own. The file
+// `specs/formers/named/Named` defines how a `Named` contains the types.
 #[derive(Debug, Drop)]
 pub(crate) struct Named<T> {
     names: IndexedNames,
@@ -74,7 +75,8 @@ impl<T> Named<T> {
         self.names.find_counted(name)
     }
 
-    // Returns these names with their index, and the first position of each here. An error where one isn't here.
+    // Returns the names in `asked` with an index, and the first position of each in this list. It fails if one of them
+    // isn't in this list.
     pub(crate) fn select(
         &self,
         alloc: Global,

@@ -1,8 +1,8 @@
 // SPDX-License-Identifier: Apache-2.0
 // SPDX-FileCopyrightText: Copyright the Vortex contributors
 
-// What follows from the definitions of the least type above two and of the greatest below two. Each function's contract
-// is the law, and its body is empty.
+// Theorems about `merged`, the least type of which two types are subsets, and about `intersected`, the greatest type
+// that is a subset of both. Each function's contract is the theorem, and its body is empty.
 #![tactic(auto, using(crate::proofs::lemmas::Merging::merging, crate::proofs::lemmas::Merging::intersecting))]
 
 ghost use Rattle.std.specs.Prelude.{◌≡◌, ◌↔◌, IsSome, Some, option_and_then};
@@ -13,47 +13,56 @@ ghost use Rattle.dtype_types.specs.tree.Tree.{Tree};
 ghost use Rattle.dtype_types.specs.tree.Valid.{Valid};
 ghost use Rattle.dtype_types.specs.values.Value.{IncludedIn, Of, Value};
 
-/// For all types `a` and `b`, `merged a b` is a type exactly if `a` and `b` are equal except for nullabilities. For
-/// example, `i32` and `i32?` have one, and `i32` and `null` have none.
+/// For all types `a` and `b`, `merged a b` is `Some c` for some type `c` exactly if `a` and `b` are equal except for
+/// nullabilities, and otherwise it is `None`. For example, `i32` and `i32?` can be merged, and `i32` and `null` can't.
+/// So `eq_ignore_nullability` tests whether two types can be merged.
 ///
 /// About [`merge_nullability`].
 pub fn types_equal_but_for_nullabilities_are_merged()
     ensures { (a b : Tree) → IsSome (merged a b) ↔ (erase a ≡ erase b) }
 {}
 
-/// For all types `a` and `b`, `intersected a b` is a type exactly if `a` and `b` are equal except for nullabilities.
+/// For all types `a` and `b`, `intersected a b` is `Some c` for some type `c` exactly if `a` and `b` are equal except
+/// for nullabilities, and otherwise it is `None`. For example, `i32` and `i32?` can be intersected, and `i32` and `i64`
+/// can't. So `eq_ignore_nullability` tests whether two types can be intersected.
 ///
 /// About [`intersect_nullability`].
 pub fn types_equal_but_for_nullabilities_are_intersected()
     ensures { (a b : Tree) → IsSome (intersected a b) ↔ (erase a ≡ erase b) }
 {}
 
-/// For all types `a`, `b` and `c`, if `merged a b` is `c`, then `c` is the least type of which both are subsets: `a`
-/// and `b` are subsets of `c`, and `c` is a subset of each type of which `a` and `b` are subsets. For example, what is
-/// merged of `{a=i32, b=utf8?}` and `{a=i32?, b=utf8}` is `{a=i32?, b=utf8?}`.
+/// For all types `a`, `b` and `c`, if `merged a b` is `Some c`, then `c` is the least type of which `a` and `b` are
+/// subsets: `a` and `b` are subsets of `c`, and `c` is a subset of each other type of which both are subsets. For
+/// example, merging `{a=i32, b=utf8?}` and `{a=i32?, b=utf8}` returns `{a=i32?, b=utf8?}`. So a merged schema is
+/// nullable only where it has to be.
 ///
 /// About [`merge_nullability`].
 pub fn what_is_merged_is_least()
     ensures { (a b c : Tree) → merged a b ≡ Some c → IsLeastAbove a b c }
 {}
 
-/// For all types `a`, `b` and `c`, if `intersected a b` is `c`, then `c` is the greatest type that is a subset of both:
-/// `c` is a subset of `a` and of `b`, and each type that is a subset of both is a subset of `c`. For example, what is
-/// intersected of `{a=i32, b=utf8?}` and `{a=i32?, b=utf8}` is `{a=i32, b=utf8}`.
+/// For all types `a`, `b` and `c`, if `intersected a b` is `Some c`, then `c` is the greatest type that is a subset of
+/// both: `c` is a subset of `a` and of `b`, and each type that is a subset of both is a subset of `c`. For example,
+/// intersecting `{a=i32, b=utf8?}` and `{a=i32?, b=utf8}` returns `{a=i32, b=utf8}`. So an intersected schema is
+/// non-nullable only where it has to be.
 ///
 /// About [`intersect_nullability`].
 pub fn what_is_intersected_is_greatest()
     ensures { (a b c : Tree) → intersected a b ≡ Some c → IsGreatestBelow a b c }
 {}
 
-/// For all types `a`, `b` and `c`, if `merged a b` is `c`, and `a` and `b` are valid, then `c` is valid.
+/// For all types `a`, `b` and `c`, if `merged a b` is `Some c`, and `a` and `b` are valid, then `c` is valid. For
+/// example, merging the valid types `list(i32)` and `list(i32?)` returns the valid type `list(i32?)`. So a merged type
+/// may be used wherever a valid type is required.
 ///
 /// About [`merge_nullability`].
 pub fn what_is_merged_is_valid()
     ensures { (a b c : Tree) → merged a b ≡ Some c → Valid a → Valid b → Valid c }
 {}
 
-/// For all types `a`, `b` and `c`, if `intersected a b` is `c`, and one of `a` and `b` is valid, then `c` is valid.
+/// For all types `a`, `b` and `c`, if `intersected a b` is `Some c`, and `a` is valid or `b` is valid, then `c` is
+/// valid. For example, intersecting the valid types `list(i32)?` and `list(i32?)` returns the valid type `list(i32)`.
+/// So an intersected type may be used wherever a valid type is required.
 ///
 /// About [`intersect_nullability`].
 pub fn what_is_intersected_is_valid()
@@ -61,10 +70,11 @@ pub fn what_is_intersected_is_valid()
     ensures second { (a b c : Tree) → intersected a b ≡ Some c → Valid b → Valid c }
 {}
 
-/// For all types `a`, `b` and `c`, if `merged a b` is `c`, then each value of `a` and each value of `b` is a value of
-/// `c`. If `a`, `b` and `d` are valid, and each value of `a` and of `b` is a value of `d`, then each value of `c` is a
-/// value of `d` too, whatever the kind of `d` is. So among all types that have the values of both, `c` has the fewest
-/// values. For example, a reader of a file with `i32` and of one with `i32?` needs `i32?`.
+/// Three statements about all types `a`, `b` and `c` for which `merged a b` is `Some c`. First, each value of `a` is a
+/// value of `c`. Second, each value of `b` is a value of `c`. Third, for each type `d`: if `a`, `b` and `d` are valid,
+/// and each value of `a` and each value of `b` is a value of `d`, then each value of `c` is a value of `d`. So no valid
+/// type that contains the values of both contains fewer values than `c`. For example, a program that reads a file with
+/// `i32` and a file with `i32?` as one column needs the type `i32?`.
 ///
 /// About [`merge_nullability`].
 #[tactic(auto, using(crate::proofs::lemmas::Merging::values_first, crate::proofs::lemmas::Merging::values_second, crate::proofs::lemmas::Merging::merged_least_values))]
@@ -75,17 +85,19 @@ pub fn what_is_merged_takes_the_values_of_both()
         → IncludedIn a d → IncludedIn b d → IncludedIn c d }
 {}
 
-/// For all types `a`, `b` and `c`, if `intersected a b` is `c` and `a` is valid, then the values of `c` are exactly the
-/// values that `a` and `b` have in common. For example, what is intersected of `list(i32?)` and `list(i32)?` is
-/// `list(i32)`, and its values are the lists without a null.
+/// For all types `a`, `b` and `c`, if `intersected a b` is `Some c` and `a` is valid, then the values of `c` are
+/// exactly the values that `a` and `b` have in common. For example, intersecting `list(i32?)` and `list(i32)?` returns
+/// `list(i32)`, whose values are the lists that contain no null and aren't null themselves. So a writer whose values
+/// two readers have to accept needs exactly the intersected type.
 ///
 /// About [`intersect_nullability`].
 pub fn what_is_intersected_has_the_values_of_both()
     ensures { (a b c : Tree) → intersected a b ≡ Some c → Valid a → (v : Value) → Of v c ↔ (Of v a × Of v b) }
 {}
 
-/// Merging is commutative, associative and idempotent, so that several types can be merged in any order. If `b` is a
-/// subset of `a`, then what is merged of the two is `a`. For example, merging `i32?` and `i32` returns `i32?`.
+/// For all types `a`, `b` and `c`, merging is commutative, associative and idempotent, and if `b` is a subset of `a`,
+/// then merging `a` and `b` returns `a`. For example, merging `i32?` and `i32` returns `i32?`, and so does merging
+/// `i32` and `i32?`. So a program can merge the schemas of several files in any order.
 ///
 /// About [`merge_nullability`].
 pub fn types_are_merged_in_any_order()
@@ -96,9 +108,9 @@ pub fn types_are_merged_in_any_order()
     ensures absorbing { (a b : Tree) → Sub b a → merged a b ≡ Some a }
 {}
 
-/// Intersecting is commutative, associative and idempotent, so that several types can be intersected in any order. If
-/// `a` is a subset of `b`, then what is intersected of the two is `a`. For example, intersecting `i32` and `i32?`
-/// returns `i32`.
+/// For all types `a`, `b` and `c`, intersecting is commutative, associative and idempotent, and if `a` is a subset of
+/// `b`, then intersecting `a` and `b` returns `a`. For example, intersecting `i32` and `i32?` returns `i32`, and so
+/// does intersecting `i32?` and `i32`. So several types can be intersected in any order.
 ///
 /// About [`intersect_nullability`].
 pub fn types_are_intersected_in_any_order()
@@ -109,9 +121,11 @@ pub fn types_are_intersected_in_any_order()
     ensures absorbing { (a b : Tree) → Sub a b → intersected a b ≡ Some a }
 {}
 
-/// For all types `a` and `b` that are equal except for nullabilities, merging `a` with what is intersected of `a` and
-/// `b` returns `a`, and so does intersecting `a` with what is merged of `a` and `b`. So the types that differ only in
-/// nullability are a lattice, with these two operations.
+/// Two statements about all types `a` and `b` that are equal except for nullabilities. First, if `c` is the result of
+/// intersecting `a` and `b`, then merging `a` and `c` returns `a`. Second, if `d` is the result of merging `a` and `b`,
+/// then intersecting `a` and `d` returns `a`. For example, intersecting `i32?` and `i32` returns `i32`, and merging
+/// `i32?` and `i32` returns `i32?`. Together with the two laws above, this says that the types that differ only in
+/// nullabilities are a lattice with these two operations.
 ///
 /// About [`merge_nullability`] and [`intersect_nullability`].
 #[tactic(auto, using(crate::proofs::lemmas::Merging::merged_absorbs, crate::proofs::lemmas::Merging::intersected_absorbs))]
@@ -120,9 +134,10 @@ pub fn merging_and_intersecting_absorb_each_other()
     ensures intersected { (a b : Tree) → erase a ≡ erase b → option_and_then (intersected a) (merged a b) ≡ Some a }
 {}
 
-/// For all types `a`, `b`, `c` and `d`, if `a` is a subset of `b` and `c` is a subset of `d`, then what is merged of
-/// `a` and `c` is a subset of what is merged of `b` and `d`. The same is so of intersecting. For example, if a schema
-/// becomes nullable in one more place, then what is merged of it and of another doesn't become non-nullable anywhere.
+/// For all types `a`, `b`, `c` and `d`, suppose that `a` is a subset of `b` and `c` is a subset of `d`. If merging `a`
+/// and `c` returns `x`, and merging `b` and `d` returns `y`, then `x` is a subset of `y`. The same is so if both pairs
+/// are intersected. For example, if a schema becomes nullable in one more place, then the result of merging it with
+/// another schema doesn't become non-nullable anywhere.
 ///
 /// About [`merge_nullability`] and [`intersect_nullability`].
 #[tactic(auto, using(crate::proofs::lemmas::Merging::merged_monotone, crate::proofs::lemmas::Merging::intersected_monotone))]

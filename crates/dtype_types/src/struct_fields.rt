@@ -32,7 +32,7 @@ use std::rc::Rc;
 /// formats from which types are read. Each call that looks for a name finds the first field of that name.
 ///
 /// For example, in the fields `int_col=i32?, int_col=i64?` the call `field("int_col")` returns `i32?`, and
-/// `find("int_col")` returns 0. A projection to `int_col, int_col` has `i32?` twice.
+/// `find("int_col")` returns 0. `project` to `int_col, int_col` returns `int_col=i32?, int_col=i32?`.
 #[derive(Debug, Drop)]
 #[cycle(dtype)]
 pub struct StructFields {
@@ -174,10 +174,10 @@ impl StructFields {
     /// Returns what `find` returns, and the number of names that were compared.
     ///
     /// That number is the same for every name, whether a field has it or not. It is 0 if there are no fields. Otherwise
-    /// the index has as many buckets as fields, each name in the bucket of its hash, and the number is that of a binary
-    /// search among as many names as the longest bucket has: 1 comparison if that is one name, 2 for two names, 3 for
-    /// three or four names, 4 for five to eight names. So it is at most 1 plus the number of binary digits of the
-    /// number of fields, even if all names are in one bucket. Doesn't allocate.
+    /// there are as many buckets as fields, each name is in the bucket of its hash, and the number is that of a binary
+    /// search among as many names as the longest bucket contains: 1 comparison if it contains one name, 2 for two
+    /// names, 3 for three or four names, and 4 for five to eight names. So it is at most 1 plus the number of binary
+    /// digits of the number of fields, even if all names are in one bucket. Doesn't allocate.
     #[tactic(auto, using(crate::proofs::Parts::fields))]
     pub fn find_counted(&self, name: &str) -> (Option<usize>, u64)
         ensures first { result.0 ≡ first_place (field_names (children self.now)) name.now }
@@ -231,7 +231,7 @@ impl StructFields {
         self.equal_under(other, NullabilityRule::Ignored)
     }
 
-    // Whether the fields of the two are equal under the rule: their names, and their types.
+    // Returns whether the names of the two are equal, and their types are equal under the rule.
     #[cycle(equal_under)]
     #[tactic(auto, using(crate::proofs::Alongside::same_fields))]
     pub(crate) fn equal_under(&self, other: &StructFields, rule: NullabilityRule) -> bool
@@ -241,7 +241,8 @@ impl StructFields {
             && equal_dtypes(self.dtypes(), other.dtypes(), rule)
     }
 
-    // The bound of two structs that are equal but for nullabilities. It has the names of this one, and its index.
+    // Returns the bound of two structs that are equal except for nullabilities. It has the names and the index of this
+    // one.
     #[cycle(merge_under)]
     #[tactic(auto, using(crate::proofs::MergedParts::merged_fields))]
     pub(crate) fn merge_under(
@@ -259,7 +260,7 @@ impl StructFields {
         Ok(StructFields { shared })
     }
 
-    // The width of a struct of these fields. Stops at the first field of variable width.
+    // Returns the width of a struct of these fields. It stops at the first field of variable width.
     #[cycle(width)]
     pub(crate) fn width(&self) -> Width
         ensures { MeasuresFields result (children self.now) }
@@ -286,8 +287,8 @@ impl StructFields {
         }
     }
 
-    /// Returns the fields with these names, in the order of `projection`. A name that occurs twice in `projection` is
-    /// there twice in the result, and for a name that several fields have, the first of them is selected. For example,
+    /// Returns the fields with these names, in the order of `projection`. A name that occurs twice in `projection`
+    /// occurs twice in the result. If several fields have the same name, the first of them is selected. For example,
     /// projecting `a=i32, b=utf8` to `b, a, b` returns `b=utf8, a=i32, b=utf8`.
     ///
     /// # Errors
@@ -313,7 +314,7 @@ impl StructFields {
         Ok(StructFields { shared })
     }
 
-    // Copies of the types at these positions, in their order.
+    // Returns copies of the types at these positions, in the order of the positions.
     fn copies_at(&self, alloc: Global, positions: &[usize]) -> VortexResult<Vec<DType>>
         requires { All (λ i. i < length (struct_dtypes self.now)) positions.now }
         ensures { Makes result (λ copies. map Some (map tree copies.items)
@@ -331,7 +332,7 @@ impl StructFields {
     ///
     /// # Errors
     ///
-    /// - `DuplicateNames` (18): a name occurs twice in the two structs together, perhaps twice in one of them.
+    /// - `DuplicateNames` (18): a name occurs in both structs, or twice in one of them.
     /// - `OutOfMemory` (0): an allocation fails.
     #[tactic(auto, using(crate::proofs::lemmas::Validity::valid_joined, crate::proofs::Parts::names_shown))]
     pub fn disjoint_merge(&self, alloc: Global, other: &Self) -> VortexResult<Self>
@@ -351,7 +352,7 @@ impl StructFields {
         Ok(merged)
     }
 
-    // The fields of this struct followed by those of the other, also where names repeat.
+    // Returns the fields of this struct followed by those of the other, even if names repeat.
     fn joined(&self, alloc: Global, other: &Self) -> VortexResult<Self>
         ensures { Makes result (λ s. children s ≡ children self.now ++ children other.now) }
     {
@@ -390,8 +391,10 @@ impl StructFields {
         Ok(left.into_struct(alloc)?)
     }
 
-    /// Returns the fields as text over several lines, one line for each field, indented by two spaces more than the
-    /// braces around them. Structs inside lists and inside structs are written in the same way.
+    /// Returns the fields as text over several lines: a line with an opening brace, one line for each field, indented
+    /// by two spaces, and a line with the closing brace. For example, the text of `{a=i32, b=utf8}` has the lines `{`,
+    /// `a=i32,`, `b=utf8` and `}`, of which the second and the third are indented. A struct inside a struct or inside a
+    /// list is written in the same way, with each of its lines indented by two more spaces.
     ///
     /// # Errors
     ///
@@ -404,7 +407,7 @@ impl StructFields {
         Ok(text)
     }
 
-    // Appends the indented text; the closing brace is indented by `indent`.
+    // Appends the indented text. The closing brace is indented by `indent`.
     #[cycle(indented)]
     pub(crate) fn write_indented(
         &self,
@@ -431,10 +434,10 @@ impl StructFields {
         Ok(())
     }
 
-    /// Returns fields equal to these, which share the names and the types with them.
+    /// Returns a copy of the fields, which shares the names and the types with the original.
     ///
-    /// It raises a reference count and doesn't allocate, so `_alloc` isn't used. The signature takes it so that it
-    /// needn't change if a copy comes to allocate.
+    /// The call raises a reference count and doesn't allocate, so `_alloc` isn't used. It is a parameter so that the
+    /// signature can stay the same if a later version has to allocate.
     ///
     /// # Errors
     ///

@@ -11,8 +11,9 @@ use dtype_base::{FieldNames, VortexResult};
 use std::alloc::Global;
 use std::marker::Model;
 
-// Names, types and tags, equally many; in contracts a list of triples. A union holds its variants by it, since a type
-// on a cycle can have no invariant of its own. The file `specs/formers/tagged/Tagged` says how it holds the types.
+// Names, types and tags, of which there are equally many. In contracts it is a list of triples. A union contains its
+// variants in a `Tagged`, because a type that is part of a recursive group of types can have no invariant of its own.
+// The file `specs/formers/tagged/Tagged` defines how a `Tagged` contains the types.
 #[derive(Debug, Drop)]
 pub(crate) struct Tagged<T> {
     names: FieldNames,

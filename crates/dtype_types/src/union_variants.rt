@@ -24,8 +24,8 @@ use std::rc::Rc;
 // A tag is one byte.
 const MAX_VARIANTS: usize = 256;
 
-/// The variants of a union, in order, each with a name, a type and a tag from 0 to 255. A stored value names its
-/// variant by the tag.
+/// The variants of a union, in order, each with a name, a type and a tag from 0 to 255. A stored value contains the tag
+/// of its variant.
 ///
 /// For example, `union(int@5=i32, string@9=utf8)` has two variants, with the tags 5 and 9. The tags needn't be 0, 1, 2
 /// and so on, so a schema can drop a variant while the others keep their tags.
@@ -35,7 +35,7 @@ pub struct UnionVariants {
     shared: Rc<Tagged<DType>>,
 }
 
-// Whether two of the items are equal. Hashing finds that in linear time.
+// Returns whether two of the items are equal. It takes linear time, because the items are hashed.
 fn has_repeats<T: Eq + Hash>(alloc: Global, items: &[T]) -> VortexResult<bool>
     ensures { Makes result (λ b. (b ≡ false) ↔ IsDistinct T.eq items.now) }
 {
@@ -43,8 +43,8 @@ fn has_repeats<T: Eq + Hash>(alloc: Global, items: &[T]) -> VortexResult<bool>
     Ok(distinct.len() < items.len())
 }
 
-// Returns an error where names, types and tags make no union: the errors of `try_new`, in its order. Only the search
-// for repeats allocates.
+// Returns an error if names, types and tags make no union. The errors are those of `try_new`, in the same order. Only
+// the search for repeats allocates.
 fn validate_shape(
     alloc: Global,
     names: &FieldNames,
@@ -75,7 +75,7 @@ fn validate_shape(
     Ok(())
 }
 
-// The first `count` tags: 0, 1, 2 and so on.
+// Returns the first `count` tags: 0, 1, 2 and so on.
 fn first_tags(alloc: Global, count: usize) -> VortexResult<Vec<u8>>
     requires { count ≤ 256 }
     ensures { Makes result (λ tags. tags.items ≡ range_with_len 0 count) }
@@ -270,7 +270,7 @@ impl UnionVariants {
         self.type_ids()[index]
     }
 
-    // Whether the variants of the two are equal under the rule: their tags, their names, and their types.
+    // Returns whether the tags and the names of the two are equal, and their types are equal under the rule.
     #[cycle(equal_under)]
     #[tactic(auto, using(crate::proofs::Alongside::same_variants))]
     pub(crate) fn equal_under(&self, other: &UnionVariants, rule: NullabilityRule) -> bool
@@ -283,7 +283,7 @@ impl UnionVariants {
             && equal_dtypes(self.dtypes(), other.dtypes(), rule)
     }
 
-    // The bound of two unions that are equal but for nullabilities. It has the names and tags of this one.
+    // Returns the bound of two unions that are equal except for nullabilities. It has the names and tags of this one.
     #[cycle(merge_under)]
     pub(crate) fn merge_under(
         &self,
@@ -323,10 +323,10 @@ impl UnionVariants {
         }
     }
 
-    /// Returns variants equal to these, which share the names, the types and the tags with them.
+    /// Returns a copy of the variants, which shares the names, the types and the tags with the original.
     ///
-    /// It raises a reference count and doesn't allocate, so `_alloc` isn't used. The signature takes it so that it
-    /// needn't change if a copy comes to allocate.
+    /// The call raises a reference count and doesn't allocate, so `_alloc` isn't used. It is a parameter so that the
+    /// signature can stay the same if a later version has to allocate.
     ///
     /// # Errors
     ///
@@ -410,7 +410,7 @@ impl fmt::Display for UnionVariants {
     }
 }
 
-// The text of a tag: empty where the tags are 0, 1, 2 and so on.
+// The text of a tag: `@` and the tag, or nothing if the tags are 0, 1, 2 and so on.
 #[derive(Clone, Copy)]
 struct TagText {
     tag: u8,

@@ -41,7 +41,7 @@ impl<'a> Model for VariantIter<'a> {
 }
 
 impl<'a> VariantIter<'a> {
-    // There are as many names as types, and as tags.
+    // The caller proves that there are as many names as types, and as many names as tags.
     pub(crate) fn new(names: &'a [FieldName], dtypes: &'a [DType], tags: &'a [u8]) -> Self
         requires dtypes { length dtypes.now ≡ length names.now }
         requires tags { length tags.now ≡ length names.now }

@@ -1,7 +1,7 @@
 // SPDX-License-Identifier: Apache-2.0
 // SPDX-FileCopyrightText: Copyright the Vortex contributors
 
-// Constructors of types that hold others.
+// Constructors of types that contain other types.
 ghost use Rattle.std.specs.Prelude.{◌≡◌, ◌⊎◌, OnOk, MatchResult};
 ghost use Rattle.std.specs.Iterator.{IsFiniteIterable};
 ghost use Rattle.dtype_base.specs.Errors.{Makes};

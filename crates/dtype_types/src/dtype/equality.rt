@@ -1,8 +1,8 @@
 // SPDX-License-Identifier: Apache-2.0
 // SPDX-FileCopyrightText: Copyright the Vortex contributors
 
-// Equality of types and their order by nullability: one walk over two types, with the nullabilities
-// compared, ignored, or those of the first within those of the second.
+// Equality of types and their order by nullability: one walk over two types, in which the nullabilities are compared,
+// ignored, or tested for being within each other.
 #![tactic(auto, using(crate::proofs::KindLaws::parts_equal_under))]
 
 ghost use Rattle.std.specs.Prelude.{◌≡◌, ◌↔◌, IsTrue, map};
@@ -19,12 +19,12 @@ use dtype_base::Nullability;
 pub(crate) enum NullabilityRule {
     Compared,
     Ignored,
-    // the second is nullable wherever the first is
+    // The second is nullable wherever the first is.
     Within,
 }
 
 impl NullabilityRule {
-    // Whether the rule allows these nullabilities at the same node of two types.
+    // Returns whether the rule allows these nullabilities at the same node of two types.
     pub(crate) fn allow(self, one: Nullability, other: Nullability) -> bool
         ensures { result ≡ allows self one other }
     {
@@ -36,7 +36,7 @@ impl NullabilityRule {
     }
 }
 
-// Whether the types are equal except for nullabilities, and the rule allows those.
+// Returns whether the types are equal except for nullabilities, and the rule allows the nullabilities.
 #[cycle(equal_under)]
 pub(crate) fn equal_under(a: &DType, b: &DType, rule: NullabilityRule) -> bool
     ensures { result ≡ equal_under rule (tree a.now) (tree b.now) }
@@ -63,7 +63,7 @@ pub(crate) fn equal_under(a: &DType, b: &DType, rule: NullabilityRule) -> bool
     }
 }
 
-// Whether two lists have equally many types, and those at equal positions are equal under the rule.
+// Returns whether two lists have equally many types, and the types at equal positions are equal under the rule.
 #[cycle(equal_under)]
 pub(crate) fn equal_dtypes(a: &[DType], b: &[DType], rule: NullabilityRule) -> bool
     ensures { result ≡ pointwise (equal_under rule) (map tree a.now) (map tree b.now) }

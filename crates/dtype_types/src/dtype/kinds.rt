@@ -1,8 +1,8 @@
 // SPDX-License-Identifier: Apache-2.0
 // SPDX-FileCopyrightText: Copyright the Vortex contributors
 
-// The tests of a type's kind, and what each kind holds. They look at the outermost variant alone, not
-// through an extension.
+// The tests of a type's kind, and the parts of each kind. They look only at the outermost variant, and not at the
+// storage type of an extension.
 
 ghost use Rattle.std.specs.Prelude.{◌≡◌, ◌↔◌, IsTrue, IsSomeAnd, Some};
 ghost use Rattle.std.specs.Option.{option_copied, option_map};
@@ -14,8 +14,8 @@ ghost use Rattle.dtype_types.specs.parts.Extensions.{extension_shown};
 use crate::{DType, ExtDTypeRef, MapDType, StructFields, UnionVariants};
 use dtype_base::{DecimalDType, PType};
 
-/// The kind of a type: one variant for each variant of `DType`, without what it contains. The contracts of calls that
-/// accept only one kind, such as `as_struct_fields`, name it.
+/// The kind of a type: one variant for each variant of `DType`, without the parts. For example, the kind of `list(u8)?`
+/// is `Kind::List`. Calls that accept only one kind, such as `as_struct_fields`, require it in their contracts.
 #[derive(Clone, Copy, Debug, PartialEq, Eq)]
 pub enum Kind {
     Null,
@@ -199,7 +199,7 @@ impl DType {
         }
     }
 
-    // The name of a `Primitive`, else `None`.
+    // Returns the primitive type of a `Primitive`, or `None` if the type is of another kind.
     pub(crate) fn ptype(&self) -> Option<PType>
         ensures { result ≡ primitive_name (tree self.now) }
     {

@@ -1,7 +1,7 @@
 // SPDX-License-Identifier: Apache-2.0
 // SPDX-FileCopyrightText: Copyright the Vortex contributors
 
-// The outer nullability of a type, and types with another.
+// The outer nullability of a type, and the calls that return the type with another outer nullability.
 #![tactic(auto, using(crate::proofs::SameParts::set_parts, crate::proofs::SameParts::nonnullable_can))]
 
 ghost use Rattle.std.specs.Prelude.{◌≡◌, ◌↔◌, IfOk, IsTrue};
@@ -96,9 +96,9 @@ impl DType {
         self.with_nullability(alloc, Nullability::Nullable)
     }
 
-    /// Returns the type with its outer nullability set to `n`. For an extension that of its storage type is set, and
-    /// `Null` stays `Null`. If `n` is `NonNullable`, the caller must prove that the type can be made non-nullable,
-    /// which `can_be_nonnullable` tests.
+    /// Returns the type with its outer nullability set to `n`. If the type is an extension, the outer nullability of
+    /// its storage type is set, and `Null` stays `Null`. If `n` is `NonNullable`, the caller must prove that the type
+    /// can be made non-nullable, which `can_be_nonnullable` tests.
     ///
     /// # Errors
     ///

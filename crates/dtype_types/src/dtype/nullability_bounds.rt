@@ -1,9 +1,9 @@
 // SPDX-License-Identifier: Apache-2.0
 // SPDX-FileCopyrightText: Copyright the Vortex contributors
 
-// The bounds of two types in the order by nullability: one walk over two types that are equal but for nullabilities,
-// which makes the least above both or the greatest below both. The public calls return `Ok(bound?)`, since a tactic uses
-// what is known of a bound only where the bound is at hand.
+// The bounds of two types in the order by nullability. One walk over two types that are equal except for nullabilities
+// makes the least type above both or the greatest below both. The public calls return `Ok(bound?)` and not the result
+// of the walk itself, because the tactics find what is known of a bound only if the bound is a value of its own.
 #![tactic(auto, using(crate::proofs::MergedParts::merged_parts))]
 
 ghost use Rattle.std.specs.Prelude.{◌≡◌, ◌↔◌, IfOk, IfSome, IsSome, Some, length, map};
@@ -20,7 +20,8 @@ use crate::DType;
 use dtype_base::{Nullability, VortexResult};
 use std::alloc::Global;
 
-// Which bound of two types is made: at each node it is nullable where either is, or only where both are.
+// Which bound of two types is made: at each node it is nullable if either of the two is (`Either`), or only if both are
+// (`Both`).
 #[derive(Clone, Copy)]
 pub(crate) enum MergeRule {
     Either,
@@ -28,7 +29,7 @@ pub(crate) enum MergeRule {
 }
 
 impl MergeRule {
-    // The bound of two types of which the first is below the second: one of the two.
+    // Returns the bound of two types of which the first is below the second. It is one of the two.
     #[tactic(auto, using(crate::proofs::lemmas::Merging::merged_above, crate::proofs::lemmas::Merging::intersected_below))]
     fn bound_in_order<'a>(self, lower: &'a DType, upper: &'a DType) -> &'a DType
         requires { Sub (tree lower.now) (tree upper.now) }
@@ -40,7 +41,7 @@ impl MergeRule {
         }
     }
 
-    // The nullability that the rule makes of those at the same node of two types.
+    // Returns the nullability of the bound at a node at which the two types have these nullabilities.
     fn of(self, one: Nullability, other: Nullability) -> Nullability
         ensures { result ≡ rule_of self one other }
     {
@@ -102,8 +103,8 @@ pub fn intersect_nullability(alloc: Global, a: &DType, b: &DType) -> VortexResul
     Ok(bound_of(alloc, a, b, MergeRule::Both)?)
 }
 
-// The bound of two types, where they are equal but for nullabilities. Where it is one of the two, it is a copy of that one:
-// nothing is built, and equal types cost one comparison.
+// Returns the bound of two types, or `None` if they differ in more than nullabilities. If the bound is one of the two
+// types, a copy of that one is returned: nothing is built, and equal types cost one comparison.
 #[tactic(auto, using(crate::proofs::lemmas::Merging::rule_commutes, crate::proofs::lemmas::Merging::under_none, crate::proofs::lemmas::Merging::under_some))]
 fn bound_of(alloc: Global, a: &DType, b: &DType, rule: MergeRule) -> VortexResult<Option<DType>>
     ensures { Makes result (λ r. option_map tree r ≡ merged_under (rule_of rule) (tree a.now) (tree b.now)) }
@@ -120,7 +121,8 @@ fn bound_of(alloc: Global, a: &DType, b: &DType, rule: MergeRule) -> VortexResul
     Ok(Some(merge_under(alloc, a, b, rule)?))
 }
 
-// The bounds of the types at equal positions of two lists, which are equal but for nullabilities.
+// Returns the bounds of the types at equal positions of two lists. The caller proves that they are equal except for
+// nullabilities.
 #[cycle(merge_under)]
 pub(crate) fn merge_dtypes(
     alloc: Global,
@@ -139,7 +141,7 @@ pub(crate) fn merge_dtypes(
     Ok(dtypes)
 }
 
-// The bound of two types that are equal but for nullabilities.
+// Returns the bound of two types. The caller proves that they are equal except for nullabilities.
 #[cycle(merge_under)]
 pub(crate) fn merge_under(
     alloc: Global,

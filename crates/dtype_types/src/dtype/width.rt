@@ -15,15 +15,15 @@ use dtype_base::{DecimalType, VortexError, VortexResult};
 // The width of a type, or why it has none.
 #[derive(Clone, Copy)]
 pub(crate) enum Width {
-    // A part is of variable width.
+    // Some part is of variable width.
     Variable,
-    // No part is, and one is wider than a `usize` can hold.
+    // No part is of variable width, and the width of some part is above `usize::MAX`.
     TooWide,
     Bytes(usize),
 }
 
 impl Width {
-    // The width of a list of that many elements of this width.
+    // Returns the width of a list of `size` elements of this width.
     fn times(self, size: u32) -> Width
         ensures { (t : Tree) (n : Nullability) → Measures self t
             → Measures result (fixed_size_list t size n) }
@@ -38,7 +38,7 @@ impl Width {
         }
     }
 
-    // The width of a struct of fields of this width followed by a field of that width.
+    // Returns the width of a struct whose fields have this width together, followed by one more field.
     #[tactic(auto, using(crate::proofs::Widths::fixed_parts))]
     pub(crate) fn plus(self, field: Width) -> Width
         ensures { (ps : List (List ℕ × Tree)) (p : List ℕ × Tree) → MeasuresFields self ps
@@ -63,7 +63,7 @@ impl Width {
 }
 
 impl DType {
-    // The width of the type.
+    // Returns the width of the type.
     #[cycle(width)]
     pub(crate) fn width(&self) -> Width
         ensures { Measures result (tree self.now) }
@@ -87,8 +87,8 @@ impl DType {
         }
     }
 
-    /// Returns the number of bytes that each value takes, or `None` if not all values take the same number. They do for
-    /// these types:
+    /// Returns the number of bytes that each value of the type takes, or `None` if the type is of variable width. These
+    /// types are of fixed width:
     /// - `Null` takes 0 bytes and `Bool` takes 1 byte.
     /// - A `Primitive` takes the width of its primitive type.
     /// - A `Decimal` takes the width of the smallest storage type for its precision.
@@ -96,8 +96,8 @@ impl DType {
     /// - A `Struct` takes the sum of the widths of its fields.
     /// - An extension takes the width of its storage type.
     ///
-    /// If the type of an element, of a field or of a storage is of variable width, then so is the whole, even if it is
-    /// the element of a list of size 0.
+    /// If one part of the type, such as an element or a field, is of variable width, then so is the whole type, even if
+    /// the part is the element of a fixed-size list of size 0.
     ///
     /// # Errors
     ///

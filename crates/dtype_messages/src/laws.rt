@@ -1,8 +1,8 @@
 // SPDX-License-Identifier: Apache-2.0
 // SPDX-FileCopyrightText: Copyright the Vortex contributors
 
-//! The laws of `==` on messages, which is derived: when two messages are equal. Each function's contract is the law,
-//! and its body is empty.
+//! The laws of the derived `==` on messages, which say when two messages are equal. Each function's contract is the
+//! law, and its body is empty.
 #![tactic(auto, using(crate::proofs::lemmas::Equality::equality))]
 
 ghost use Rattle.std.specs.Prelude.{◌≡◌};
@@ -15,9 +15,9 @@ use crate::pb::{
     List, Map, Null, PType, Primitive, Struct, Union, Utf8, Variant,
 };
 
-/// For all messages `a` and `b` of types, `a == b` is true exactly if their trees are the same, and so for all kinds
-/// `a` and `b`. For example, the messages of `list(i32)` and `list(i32?)` aren't equal. A message's tree is what
-/// contracts cite, so with this law a caller can conclude from a test by `==` that two messages are read as the same
+/// For all messages `a` and `b` of types, `a == b` is true exactly if `a` and `b` have the same tree. The same is so of
+/// all kinds `a` and `b`. For example, the messages of `list(i32)` and `list(i32?)` aren't equal. Contracts cite the
+/// tree of a message, so with this law a caller can conclude from a test by `==` that two messages are read as the same
 /// type.
 ///
 /// About [`pb::DType`].
@@ -28,10 +28,12 @@ pub fn equal_where_trees_are()
 {}
 
 /// For all messages `a` and `b` of one of the kinds that have children, `a == b` is true exactly if all their fields
-/// are equal, where children are compared by their trees. For example, two list messages are equal exactly if their
-/// element types and their flags `nullable` are.
+/// are equal, where children are compared by their trees. For example, two list messages are equal exactly if the trees
+/// of their element types and their flags `nullable` are equal. With this law a caller can compare the struct of one
+/// kind without wrapping it in a `pb::DType`.
 ///
-/// About [`pb::DtypeType`].
+/// About [`pb::DtypeType`], [`pb::List`], [`pb::FixedSizeList`], [`pb::Map`], [`pb::Struct`], [`pb::Union`] and
+/// [`pb::Extension`].
 pub fn equal_where_contents_are()
     ensures lists { (a b : List)
         → Decides (⟦<List as PartialEq>⟧.eq a b) (list_content a ≡ list_content b) }
@@ -49,9 +51,11 @@ pub fn equal_where_contents_are()
 
 /// For all messages `a` and `b` of one of the kinds that have no children, and for all numbers of primitive types,
 /// `a == b` is true exactly if `a` and `b` are the same value. For example, two decimal messages are equal exactly if
-/// their precisions, their scales and their flags `nullable` are.
+/// their precisions, their scales and their flags `nullable` are equal. With this law a caller can conclude from a test
+/// by `==` that two such messages are the same in contracts.
 ///
-/// About [`pb::Struct`] and [`pb::Union`].
+/// About [`pb::Null`], [`pb::Bool`], [`pb::Primitive`], [`pb::Decimal`], [`pb::Utf8`], [`pb::Binary`], [`pb::Variant`]
+/// and [`pb::PType`].
 pub fn equal_where_fields_are()
     ensures nulls { (a b : Null) → Decides (⟦<Null as PartialEq>⟧.eq a b) (a ≡ b) }
     ensures bools { (a b : Bool) → Decides (⟦<Bool as PartialEq>⟧.eq a b) (a ≡ b) }
@@ -68,6 +72,7 @@ pub fn equal_where_fields_are()
 
 /// For all messages `a` and `b` of paths, `a == b` is true exactly if they contain the same names in the same order.
 /// The same is so of two parts and of two names. For example, the messages of the paths `a.b` and `b.a` aren't equal.
+/// With this law a caller can conclude from a test by `==` that two messages are read as the same path.
 ///
 /// About [`pb::FieldPath`].
 pub fn paths_equal_where_names_are()

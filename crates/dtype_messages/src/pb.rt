@@ -5,8 +5,8 @@
 //! `DTypeProto` and `FieldPathProto` of `vortex_dtype` read them, return an error for those that don't describe a type
 //! or a path, and write them.
 //
-// A contract sees the message of a type as its tree (`message` of `specs/MessageOf`), the other structs as their
-// fields, with a tree for each child, and a path as the names that its parts hold.
+// In a contract the message of a type is its tree (`message` of `specs/MessageOf`). Each other struct is its fields,
+// with a tree for each child, and a path is the list of the names that its parts contain.
 ghost use Rattle.std.specs.Prelude.{◌≡◌, pos, Ok, map, option_map, string_bytes};
 ghost use Rattle.dtype_base.specs.Errors.{Makes};
 ghost use Rattle.dtype_base.specs.Primitives.{ptype_row};
@@ -18,7 +18,7 @@ use dtype_base::VortexResult;
 use std::alloc::Global;
 use std::string::String;
 
-/// The message of a type. Two messages are equal if all their fields are, at every depth.
+/// The message of a type. Two messages are equal by `==` exactly if all their fields are equal, at every depth.
 #[derive(Debug, PartialEq, Eq, Drop)]
 #[cycle(message)]
 pub struct DType {
@@ -81,11 +81,13 @@ pub struct Primitive {
 /// Decimals of a precision and a scale.
 #[derive(Debug, PartialEq, Eq, Drop)]
 pub struct Decimal {
-    /// The greatest number of decimal digits of a value. Reading a precision that isn't from 1 to 76 returns an error:
-    /// `PrecisionZero` (1), `PrecisionTooLarge` (2), or above 255 `PrecisionRange` (26).
+    /// The precision: the greatest number of decimal digits of a value, from 1 to 76. Reading a message with another
+    /// precision returns an error: `PrecisionZero` (1) for 0, `PrecisionTooLarge` (2) for 77 to 255, and
+    /// `PrecisionRange` (26) above 255.
     pub precision: u32,
-    /// The number of digits after the decimal point. Reading a scale that isn't from -128 to the precision returns an
-    /// error: `ScaleAbovePrecision` (4), above 76 `ScaleTooLarge` (3), or outside -128 to 127 `ScaleRange` (27).
+    /// The scale: the number of digits after the decimal point, from -128 to 76 and at most the precision. Reading a
+    /// message with a valid precision and another scale returns an error: `ScaleAbovePrecision` (4) for a scale above
+    /// the precision and at most 76, `ScaleTooLarge` (3) for 77 to 127, and `ScaleRange` (27) below -128 or above 127.
     pub scale: i32,
     /// Whether a value may be null.
     pub nullable: bool,
@@ -280,8 +282,8 @@ impl PType {
         }
     }
 
-    /// Returns an equal copy, and never an error. It doesn't allocate, so `_alloc` isn't used: the signature takes it
-    /// so that messages of all kinds are copied by calls with the same parameters.
+    /// Returns an equal copy. The call never returns an error, and it doesn't allocate, so `_alloc` isn't used. It is a
+    /// parameter so that the copies of all kinds of messages are made by calls with the same signature.
     pub fn try_clone(&self, _alloc: Global) -> VortexResult<PType>
         ensures { result ≡ Ok self.now }
     {
@@ -330,8 +332,8 @@ impl From<dtype_base::PType> for PType {
 }
 
 impl Null {
-    /// Returns an equal copy, and never an error. It doesn't allocate, so `_alloc` isn't used: the signature takes it
-    /// so that messages of all kinds are copied by calls with the same parameters.
+    /// Returns an equal copy. The call never returns an error, and it doesn't allocate, so `_alloc` isn't used. It is a
+    /// parameter so that the copies of all kinds of messages are made by calls with the same signature.
     pub fn try_clone(&self, _alloc: Global) -> VortexResult<Null>
         ensures { result ≡ Ok self.now }
     {
@@ -340,8 +342,8 @@ impl Null {
 }
 
 impl Bool {
-    /// Returns an equal copy, and never an error. It doesn't allocate, so `_alloc` isn't used: the signature takes it
-    /// so that messages of all kinds are copied by calls with the same parameters.
+    /// Returns an equal copy. The call never returns an error, and it doesn't allocate, so `_alloc` isn't used. It is a
+    /// parameter so that the copies of all kinds of messages are made by calls with the same signature.
     pub fn try_clone(&self, _alloc: Global) -> VortexResult<Bool>
         ensures { result ≡ Ok self.now }
     {
@@ -352,8 +354,8 @@ impl Bool {
 }
 
 impl Primitive {
-    /// Returns an equal copy, and never an error. It doesn't allocate, so `_alloc` isn't used: the signature takes it
-    /// so that messages of all kinds are copied by calls with the same parameters.
+    /// Returns an equal copy. The call never returns an error, and it doesn't allocate, so `_alloc` isn't used. It is a
+    /// parameter so that the copies of all kinds of messages are made by calls with the same signature.
     pub fn try_clone(&self, _alloc: Global) -> VortexResult<Primitive>
         ensures { result ≡ Ok self.now }
     {
@@ -365,8 +367,8 @@ impl Primitive {
 }
 
 impl Decimal {
-    /// Returns an equal copy, and never an error. It doesn't allocate, so `_alloc` isn't used: the signature takes it
-    /// so that messages of all kinds are copied by calls with the same parameters.
+    /// Returns an equal copy. The call never returns an error, and it doesn't allocate, so `_alloc` isn't used. It is a
+    /// parameter so that the copies of all kinds of messages are made by calls with the same signature.
     pub fn try_clone(&self, _alloc: Global) -> VortexResult<Decimal>
         ensures { result ≡ Ok self.now }
     {
@@ -379,8 +381,8 @@ impl Decimal {
 }
 
 impl Utf8 {
-    /// Returns an equal copy, and never an error. It doesn't allocate, so `_alloc` isn't used: the signature takes it
-    /// so that messages of all kinds are copied by calls with the same parameters.
+    /// Returns an equal copy. The call never returns an error, and it doesn't allocate, so `_alloc` isn't used. It is a
+    /// parameter so that the copies of all kinds of messages are made by calls with the same signature.
     pub fn try_clone(&self, _alloc: Global) -> VortexResult<Utf8>
         ensures { result ≡ Ok self.now }
     {
@@ -391,8 +393,8 @@ impl Utf8 {
 }
 
 impl Binary {
-    /// Returns an equal copy, and never an error. It doesn't allocate, so `_alloc` isn't used: the signature takes it
-    /// so that messages of all kinds are copied by calls with the same parameters.
+    /// Returns an equal copy. The call never returns an error, and it doesn't allocate, so `_alloc` isn't used. It is a
+    /// parameter so that the copies of all kinds of messages are made by calls with the same signature.
     pub fn try_clone(&self, _alloc: Global) -> VortexResult<Binary>
         ensures { result ≡ Ok self.now }
     {
@@ -403,8 +405,8 @@ impl Binary {
 }
 
 impl Variant {
-    /// Returns an equal copy, and never an error. It doesn't allocate, so `_alloc` isn't used: the signature takes it
-    /// so that messages of all kinds are copied by calls with the same parameters.
+    /// Returns an equal copy. The call never returns an error, and it doesn't allocate, so `_alloc` isn't used. It is a
+    /// parameter so that the copies of all kinds of messages are made by calls with the same signature.
     pub fn try_clone(&self, _alloc: Global) -> VortexResult<Variant>
         ensures { result ≡ Ok self.now }
     {

@@ -32,9 +32,10 @@ pub trait OffsetBuilderPType: IntegerPType {
     ghost wide_law: { 4 ≤ (ptype_row Self.PTYPE).bytes };
 }
 
-/// A native type with the unsigned type of the same width in which its bits can be stored.
+/// A native type that has an unsigned type of the same width, in which its bits can be stored. For example, the bits of
+/// an `i32` can be stored in a `u32`.
 pub trait PhysicalPType: NativePType {
-    /// The unsigned type of the same width, for example `u32` for `i32`.
+    /// The unsigned type of the same width, for example `u32` for `i32` and for `u32`.
     type Physical: UnsignedPType;
 
     ghost physical_law: { Self.Physical.PTYPE ≡ (ptype_row Self.PTYPE).unsigned };

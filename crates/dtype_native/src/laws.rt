@@ -14,7 +14,8 @@ ghost use Rattle.dtype_native.specs.LittleEndian.{ReadsBytes, little_endian};
 use crate::{NativeDecimalType, PrecisionScale, TryFromBytes};
 
 /// For each native integer type `T` and each number `x` of it, if the little-endian bytes of `x` are read as a `T`,
-/// then the result is `Ok(x)`. For example, 258 as a `u16` is written as the bytes 2, 1, and these are read as 258.
+/// then the result is `Ok(x)`. For example, 258 as a `u16` is written as the bytes 2, 1, and these are read as 258. So
+/// a program can store numbers by `to_le_bytes` and load them by `try_from_le_bytes`.
 ///
 /// About [`TryFromBytes::try_from_le_bytes`] and [`ToBytes::to_le_bytes`].
 pub fn written_bytes_read_back<T: TryFromBytes>()
@@ -23,24 +24,27 @@ pub fn written_bytes_read_back<T: TryFromBytes>()
         → r ≡ Ok x }
 {}
 
-/// For each native decimal type `D` and all decimal types `a` and `b` over it, `a == b` is true exactly if their
-/// precisions and their scales are the same.
+/// For each native decimal type `D` and all `a` and `b` of type `PrecisionScale<D>`, `a == b` is true exactly if their
+/// precisions and their scales are the same. For example, precision 4 and scale 2 isn't equal to precision 4 and scale
+/// 1. With this law a caller can conclude from a test by `==` that two values are the same in contracts.
 ///
 /// About [`PrecisionScale`].
 pub fn precision_scales_are_equal_where_they_are<D: NativeDecimalType>()
     ensures { (a b : Decimal) → Decides (⟦<PrecisionScale<D> as PartialEq>⟧.eq a b) (a ≡ b) }
 {}
 
-/// For each native decimal type `D` and all decimal types `a` and `b` over it, if `b` is what `clone` returns for `a`,
-/// then `b` is the same as `a`.
+/// For each native decimal type `D` and all `a` and `b` of type `PrecisionScale<D>`, if `b` is what `clone` returns for
+/// `a`, then `b` is the same as `a`. For example, a clone of precision 4 and scale 2 has precision 4 and scale 2. A
+/// caller needs this law to conclude that what it has proved of a value is so of the clone too.
 ///
 /// About [`PrecisionScale`].
 pub fn clones_of_precision_scales_are_the_same<D: NativeDecimalType>()
     ensures { (a b : Decimal) → ⟦<PrecisionScale<D> as Clone>⟧.is_clone a b → b ≡ a }
 {}
 
-/// Returns the constants `NAME` of the native decimal types `i8`, `i16`, `i32`, `i64` and `i128`, in this order. Each
-/// is the text of the type's storage type, for example `i128`.
+/// The constants `NAME` of the native decimal types `i8`, `i16`, `i32`, `i64` and `i128`, which this law returns in
+/// this order, are the texts of the storage types: `i8`, `i16`, `i32`, `i64` and `i128`. A caller needs this law to
+/// prove what a program prints that shows the constant.
 ///
 /// About [`NativeDecimalType`].
 pub fn names_of_native_decimals_are_their_texts() -> (

@@ -1,21 +1,21 @@
 // SPDX-License-Identifier: Apache-2.0
 // SPDX-FileCopyrightText: Copyright the Vortex contributors
 
-//! The native Rust types behind primitive types and decimals: how their values are written as bytes, how they are
-//! ordered, which bounds they have, and which logical types they stand for.
+//! The native Rust types behind primitive types and decimals: how their values are written as bytes and compared, which
+//! bounds they have, and for which logical types they stand.
 //!
 //! For each native integer type it is proved that its primitive type, its width and its range are those of the table of
 //! primitive types, that its values are written as little-endian bytes and read back from them, and that they are
 //! compared as whole numbers. For each native decimal type it is proved that its bounds are the greatest and the least
-//! number of so many digits. For each `match_each_..` function it is proved that it calls the visitor's method for the
-//! primitive type that it is given.
+//! number of a given number of digits. For each `match_each_..` function it is proved that the answer that it returns
+//! is one that the visitor allows for the primitive type that was passed.
 //!
 //! Begin with `NativePType`, `ToBytes` and `PTypeVisitor`. Then read `NativeDecimalType`, `PrecisionScale` and
 //! `NativeDType`.
 //!
 //! The definitions are in `specs/`: `LittleEndian` (bytes), `Offsets` (the narrowest type for an offset), `Digits`
-//! (numbers of so many digits) and `NativeTypes` (the type for which a native type stands). `NumberLaws` contains the
-//! proofs of the traits' laws that the impls cite.
+//! (numbers of a given number of digits) and `NativeTypes` (the type for which a native type stands). `NumberLaws`
+//! contains the proofs of the traits' laws that the impls cite.
 #![tactic(auto)]
 
 mod integer_ptype;

@@ -20,7 +20,8 @@ pub trait NativeDecimalType: PrimInt + Signed {
 
     ghost DECIMAL_TYPE: { DecimalType };
 
-    /// The greatest number of decimal digits of which every number fits the type, for example 9 for `i32`.
+    /// The greatest precision for which every number of so many decimal digits fits the type. For `i32` it is 9,
+    /// because 999,999,999 fits and 9,999,999,999 doesn't.
     const MAX_PRECISION: u8;
 
     ghost MAX_PRECISION: { ℕ };
@@ -33,8 +34,9 @@ pub trait NativeDecimalType: PrimInt + Signed {
     /// The text of the storage type, for example `i32`.
     const NAME: &'static str;
 
-    /// Returns the greatest number of that many decimal digits, which is `10^precision - 1`. For example, it is 999 for
-    /// a precision of 3, and 0 for a precision of 0. The caller must prove that `precision` is at most `MAX_PRECISION`.
+    /// Returns the greatest number of `precision` decimal digits, which is `10^precision - 1`. For example, it is 999
+    /// for a precision of 3, and 0 for a precision of 0. The caller must prove that `precision` is at most
+    /// `MAX_PRECISION`.
     #[tactic(auto, using(crate::proofs::Powers::power_below, crate::proofs::Powers::below_power))]
     final fn max_by_precision(precision: u8) -> Self
         requires { precision ≤ MAX_PRECISION }
@@ -43,7 +45,7 @@ pub trait NativeDecimalType: PrimInt + Signed {
         one_below(power_of_ten::<Self>(u32::from(precision)))
     }
 
-    /// Returns the least number of that many decimal digits, which is `-(10^precision - 1)`. For example, it is -999
+    /// Returns the least number of `precision` decimal digits, which is `-(10^precision - 1)`. For example, it is -999
     /// for a precision of 3, and 0 for a precision of 0. The caller must prove that `precision` is at most
     /// `MAX_PRECISION`.
     #[tactic(auto, using(crate::proofs::Powers::above_opposite))]
@@ -64,7 +66,8 @@ pub trait NativeDecimalType: PrimInt + Signed {
 
     ghost most_law: { MAX_PRECISION ≤ greatest_precision };
 
-    // The type holds every number of that many digits and also 10^MAX_PRECISION, from which `max_by_precision` subtracts.
+    // Every number of MAX_PRECISION digits fits the type, and so does 10^MAX_PRECISION, from which `max_by_precision`
+    // subtracts 1.
     ghost fits_law: { (z : ℤ) → unsigned_abs z ≤ 10 ^ MAX_PRECISION → Self.fits z };
 }
 

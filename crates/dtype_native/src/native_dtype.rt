@@ -20,7 +20,8 @@ pub trait NativeDType {
     // The tree of the logical type.
     ghost native_tree: { Tree };
 
-    /// Returns the logical type. It is nullable exactly if the native type is an `Option`.
+    /// Returns the logical type for which the native type stands. It is nullable exactly if the native type is an
+    /// `Option`.
     ///
     /// # Errors
     ///

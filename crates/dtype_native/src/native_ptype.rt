@@ -17,8 +17,8 @@ use num_traits::{Num, NumCast};
 use std::cmp::Ordering;
 use std::fmt::Display;
 
-/// The native type of a primitive type. There are eight: the integer types `u8` to `u64` and `i8` to `i64`. The
-/// floating-point types have no native type here.
+/// The native type of a primitive type. For example, `i32` is the native type of `PType::I32`. Eight types implement
+/// the trait: the integer types `u8` to `u64` and `i8` to `i64`. The floating-point types have no native type here.
 pub trait NativePType: Copy + Default + Display + Ord + Num + NumCast + ToBytes + TryFromBytes {
     /// The primitive type for which the native type stands.
     const PTYPE: PType;

@@ -52,7 +52,8 @@ impl<D: NativeDecimalType> PrecisionScale<D> {
         Ok(Self::new_unchecked(precision, scale))
     }
 
-    /// Returns the decimal type of this precision and scale. The caller must prove that `try_new` accepts them.
+    /// Returns the decimal type of this precision and scale. The caller must prove that they are valid: `try_new`
+    /// accepts them.
     pub fn new(precision: u8, scale: i8) -> Self
         requires { IsDecimalWithin D.MAX_PRECISION precision scale }
         ensures { result ≡ record { precision = precision; scale = scale } }
@@ -60,8 +61,8 @@ impl<D: NativeDecimalType> PrecisionScale<D> {
         Self::new_unchecked(precision, scale)
     }
 
-    /// Returns the decimal type of this precision and scale. It is the same as `new`: its caller too must prove that
-    /// `try_new` accepts them.
+    /// Returns the decimal type of this precision and scale. It is the same as `new`, and its caller too must prove
+    /// that `try_new` accepts them.
     pub fn new_unchecked(precision: u8, scale: i8) -> Self
         requires { IsDecimalWithin D.MAX_PRECISION precision scale }
         ensures { result ≡ record { precision = precision; scale = scale } }
@@ -81,8 +82,8 @@ impl<D: NativeDecimalType> PrecisionScale<D> {
         self.precision
     }
 
-    /// Returns the number of digits after the decimal point, from -128 to the precision. If it is negative, values are
-    /// multiples of a power of ten.
+    /// Returns the number of digits after the decimal point, from -128 to the precision. If it is -k, each value is a
+    /// multiple of 10^k.
     pub fn scale(&self) -> i8
         ensures value { result ≡ self.now.scale }
         ensures within { IsDecimalWithin D.MAX_PRECISION self.now.precision self.now.scale }
@@ -90,8 +91,8 @@ impl<D: NativeDecimalType> PrecisionScale<D> {
         self.scale
     }
 
-    /// Returns whether the value has at most as many decimal digits as the precision, of either sign. For example, with
-    /// a precision of 3 it is true of -999 and false of 1000.
+    /// Returns whether the value has at most as many decimal digits as the precision, without its sign. For example,
+    /// with a precision of 3 it is true of -999 and false of 1000.
     pub fn is_valid(&self, value: D) -> bool
         ensures { IsTrue result ↔ HasDigits self.now.precision (D.value value) }
     {
@@ -129,7 +130,7 @@ impl<D: NativeDecimalType> From<PrecisionScale<D>> for DecimalDType {
     }
 }
 
-/// Returns the same precision and scale as a decimal type over `D`.
+/// Returns the decimal type with the same precision and scale whose values fit `D`.
 ///
 /// # Errors
 ///

@@ -10,14 +10,14 @@ ghost use Rattle.dtype_native.specs.Offsets.{AnswersLeast};
 use dtype_base::PType;
 
 /// What to do for each primitive type: one method for each native integer type, and one method for the three
-/// floating-point types, which is passed the type. A caller implements the trait and passes the visitor to a
-/// `match_each_..` function. It takes the place of the Rust library's `match_each_..` macros, whose body is generic
-/// over the native type.
+/// floating-point types, which takes the type as an argument. A caller implements the trait and passes a visitor to a
+/// `match_each_..` function, which calls the method for the type. In the Rust library the `match_each_..` are macros
+/// whose body is generic over the native type.
 pub trait PTypeVisitor: Sized {
-    /// What each method returns.
+    /// The type of what each method returns.
     type Answer;
 
-    // Whether an answer is right for this visitor and this primitive type: what the `match_each_..` functions promise of
+    // Whether an answer is right for this visitor and this primitive type. The `match_each_..` functions ensure it of
     // what they return.
     ghost answers: { Self → PType → Self.Answer → Type 0 } = { λ _ _ _. ⊤ };
 
@@ -53,7 +53,7 @@ pub trait PTypeVisitor: Sized {
     fn visit_i64(self) -> Self::Answer
         ensures { answers self I64 result };
 
-    /// Returns the visitor's answer for `F16`, `F32` or `F64`. If `ptype` is another type, the contract says nothing of
+    /// Returns the visitor's answer for `F16`, `F32` or `F64`. If `ptype` is another type, the contract doesn't specify
     /// the result.
     fn visit_float(self, ptype: PType) -> Self::Answer
         ensures { IsFloat ptype → answers self ptype result };
@@ -151,8 +151,8 @@ pub fn match_smallest_offset_type<V: PTypeVisitor>(n: usize, visitor: V) -> V::A
     }
 }
 
-/// Calls the visitor's method for the narrower of `u32` and `u64` that the offset `n` fits, and returns its answer. The
-/// offsets of a list are stored in one of these two types.
+/// Calls the visitor's method for `u32` if the offset `n` fits it, and otherwise the method for `u64`, and returns its
+/// answer. The offsets of a list are stored in one of these two types.
 pub fn match_smallest_list_offset_type<V: PTypeVisitor>(n: usize, visitor: V) -> V::Answer
     ensures { AnswersLeast (V.answers visitor) (U32 ∷ U64 ∷ []) n result }
 {

@@ -11,26 +11,28 @@ use std::alloc::Global;
 use std::collections::HashMap;
 use std::hash::BuildHasher;
 
-// The most children that a bucket of std's hash map holds.
+// The greatest number of children that a bucket of std's hash map contains.
 const BUCKET_SIZE: u8 = 12;
 
-// The children that its buckets hold on average when it grows, to twice as many buckets.
+// The average number of children in a bucket at which the map grows to twice as many buckets.
 const FULL_LOAD: usize = 9;
 
-// The buckets of a map of 1,024 children.
+// The number of buckets of a map of 1,024 children.
 const FIRST_BUCKETS: usize = 128;
 
-// The most full buckets in a row. A lookup passes over them, and may compare the steps of all their children. Names that
-// aren't adversarial fill some 26 in a row at most, among a million buckets.
+// The greatest number of full buckets in a row. A lookup passes over all of them and may compare the steps of all their
+// children. Names that aren't adversarial fill at most some 26 buckets in a row, among a million buckets.
 const MAX_FULL_ROW: usize = 64;
 
-/// How many children each bucket of a hash map holds. The map puts a child into the bucket of its hash, or, where that
-/// is full, into the next that isn't. Its hash is unkeyed, so adversarial names can fill many buckets in a row. The map
-/// doesn't say what its buckets hold, so the same is done here with numbers. No contract says that they are right: where
-/// they are wrong, a lookup takes longer.
+/// A model of how many children each bucket of a hash map contains. The map puts a child into the bucket of its hash
+/// or, if that bucket is full, into the next bucket that isn't. Its hash is unkeyed, so adversarial names can fill many
+/// buckets in a row. The map has no call that returns what its buckets contain, so the same is computed here with
+/// numbers. No contract specifies that these numbers are right. If they are wrong, a lookup takes longer, and no result
+/// is wrong.
 #[derive(Drop)]
 pub(crate) struct BucketLoads {
-    // The hash of each child that is counted. To hash all steps again would read their names, which are far apart.
+    // The hash of each child that is counted. They are stored because hashing all steps again would read their names,
+    // which are far apart in memory.
     hashes: Vec<u64>,
     loads: Vec<u8>,
     longest_row: usize,
@@ -48,7 +50,7 @@ impl BucketLoads {
         }
     }
 
-    // Whether more buckets in a row were full than names fill that aren't adversarial.
+    // Returns whether more buckets in a row were full than names fill that aren't adversarial.
     pub(crate) fn is_crowded(&self) -> bool
         ensures { IsTrue result ↔ 64 < self.now.longest_row }
     {
@@ -132,16 +134,18 @@ fn hashes_of(alloc: Global, map: &HashMap<Field, usize>) -> VortexResult<Vec<u64
     Ok(hashes)
 }
 
-// How many full buckets in a row this bucket is among. On either side `MAX_FULL_ROW` of them are counted at most.
+// Returns the length of the row of full buckets to which this bucket belongs. On either side at most `MAX_FULL_ROW` of
+// them are counted.
 fn full_row(loads: &[u8], bucket: usize) -> usize {
-    // As many on as there are others is one back.
+    // Going on by the number of the other buckets is the same as going back by one.
     let back = loads.len().wrapping_sub(1);
     let before = full_from(loads, bucket.wrapping_add(back), back);
     let after = full_from(loads, bucket, 1);
     before.wrapping_add(after)
 }
 
-// How many buckets from this one on are full, `step` apart and in a row. At most `MAX_FULL_ROW` are counted.
+// Returns how many buckets are full from this one on, going on by `step` until one isn't. At most `MAX_FULL_ROW` are
+// counted.
 fn full_from(loads: &[u8], first: usize, step: usize) -> usize {
     let mask = loads.len().wrapping_sub(1);
     let mut bucket = first;

@@ -20,8 +20,9 @@ use std::alloc::Global;
 use std::collections::{HashMap, hash_map};
 use std::marker::Model;
 
-// So many children are found by hash, whoever chooses their names. The hash is unkeyed, so adversarial names can all
-// collide: a lookup then compares at most this many steps. With more of them the loads of the buckets are counted.
+// The greatest number of children that are in a hash map whatever their names are. The hash is unkeyed, so adversarial
+// names can all collide: a lookup then compares at most this many steps. If there are more children, the loads of the
+// buckets are counted.
 const MAX_UNCOUNTED: usize = 1024;
 
 /// Children in a hash map.
@@ -51,7 +52,7 @@ impl ChildMap {
         })
     }
 
-    // The node that the step leads to.
+    // Returns the index of the node to which the step leads.
     pub(crate) fn child(&self, step: &Field) -> Option<usize>
         ensures { result ≡ node_by self.now step.now }
     {
@@ -66,14 +67,16 @@ impl ChildMap {
         self.node_indices.len()
     }
 
-    // Whether the children are to go into a tree, since their names flood the map. Few children never do.
+    // Returns whether the names of the children fill so many buckets of the map in a row that the children belong in a
+    // tree. It is never true of few children.
     pub(crate) fn is_flooded(&self) -> bool
         ensures few { IsTrue result → 1024 ≤ length self.now }
     {
         self.node_indices.len() >= MAX_UNCOUNTED && self.loads.is_crowded()
     }
 
-    // Lets the step lead to a node, and counts it where there are many. After an error the children are unchanged.
+    // Makes the step lead to a node, and counts it if there are many children. After an error the children are
+    // unchanged.
     pub(crate) fn insert(
         &mut self,
         alloc: Global,
@@ -90,7 +93,7 @@ impl ChildMap {
         Ok(())
     }
 
-    // Lets the step lead to a node. After an error the children are unchanged.
+    // Makes the step lead to a node. After an error the children are unchanged.
     #[inline(always)]
     fn put(&mut self, step: Field, node_index: usize) -> VortexResult<()>
         ensures added { OnOk result (LeadsTo (node_by self.old) step node_index (node_by self.new)) }
@@ -109,7 +112,7 @@ impl ChildMap {
         self.node_indices.iter()
     }
 
-    // This map, which has no child, with copies of these children. Their loads aren't counted.
+    // Returns this map, which has no child, with copies of these children. Their loads aren't counted.
     pub(crate) fn filled(mut self, alloc: Global, mut left: ChildIter<'_>) -> VortexResult<Self>
         requires none { self ≡ [] }
         requires once { IsDistinct same_field (keys_of (entries_left left)) }

@@ -24,8 +24,9 @@ use std::alloc::Global;
 use std::collections::{BTreeMap, btree_map};
 use std::marker::Model;
 
-/// Children in two B-trees. The first has one step of each key, by its key; the second has the other steps, in their
-/// own order. So a lookup takes logarithmically many comparisons, whoever chooses the names, and mostly of numbers.
+/// Children in two B-trees. The first contains one step for each key and is ordered by the keys. The second contains
+/// the other steps and is ordered by the steps. So the number of comparisons of a lookup is logarithmic in the number
+/// of children, whatever the names are, and most of them are comparisons of numbers.
 #[derive(Drop)]
 pub(crate) struct ChildTree {
     by_key: BTreeMap<u64, (Field, usize)>,
@@ -67,7 +68,7 @@ impl ChildTree {
         Ok(tree)
     }
 
-    // The node that the step leads to.
+    // Returns the index of the node to which the step leads.
     #[tactic(auto, using(crate::proofs::ChildTrees::looked_up_first, crate::proofs::ChildTrees::looked_up_later))]
     pub(crate) fn child(&self, step: &Field) -> Option<usize>
         ensures { result ≡ node_by self.now step.now }
@@ -88,7 +89,7 @@ impl ChildTree {
         self.by_key.len() + self.by_step.len()
     }
 
-    // Lets the step lead to a node. After an error the children are unchanged.
+    // Makes the step lead to a node. After an error the children are unchanged.
     #[tactic(auto, using(crate::proofs::ChildTrees::led_more_by_step, crate::proofs::ChildTrees::led_more_by_key))]
     pub(crate) fn insert(&mut self, step: Field, node_index: usize) -> VortexResult<()>
         ensures added { OnOk result (LeadsTo (node_by self.old) step node_index (node_by self.new)) }
@@ -153,7 +154,7 @@ impl<'a> ChildTreeIter<'a> {
     }
 }
 
-// The node that the step leads to, if the step at its key is this one.
+// Returns the index of the node to which the step leads, if the step at its key is this step.
 fn found_at_key(by_key: &BTreeMap<u64, (Field, usize)>, key: u64, step: &Field) -> Option<usize>
     requires { key ≡ step_key step.now }
     ensures { result ≡ led_by step.now (at_key by_key.now.entries (step_key step.now)) }
@@ -166,7 +167,7 @@ fn found_at_key(by_key: &BTreeMap<u64, (Field, usize)>, key: u64, step: &Field) 
     }
 }
 
-// Puts the step at its key, where there is no other step. After an error the map is unchanged.
+// Puts the step at its key. After an error the map is unchanged.
 fn put_at_key(
     by_key: &mut BTreeMap<u64, (Field, usize)>,
     key: u64,

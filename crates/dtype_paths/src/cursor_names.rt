@@ -15,9 +15,9 @@ use dtype_base::FieldName;
 use std::fmt;
 use std::iter::FusedIterator;
 
-/// An iterator over the names with which paths of a set continue after a cursor. It returns each name once, with the
-/// cursor after that name, in no particular order. In contracts it is the list of the names that are left, each with
-/// the paths that the cursor after it contains.
+/// An iterator over the names with which the paths that a cursor contains begin. It yields each name once, together
+/// with the cursor after the step to that name, in no particular order. In contracts it is the list of the names that
+/// are left, each with the paths that the cursor after it contains.
 #[derive(Drop)]
 pub struct CursorNames<'a> {
     trie: &'a Trie,
@@ -28,7 +28,8 @@ pub struct CursorNames<'a> {
 impl<'a> CursorNames<'a> {
     ghost use Rattle.dtype_paths.specs.Cursors.{names_left};
 
-    // Over the names that lead on from this node, which some path leads to.
+    // Returns an iterator over the names that lead on from this node. The caller proves that some path leads to the
+    // node.
     #[tactic(auto, using(crate::proofs::NamesBelow::paths_fit), unfolding(crate::specs::Cursors::names_left))]
     pub(crate) fn new(trie: &'a Trie, node_index: usize) -> Self
         requires { IsReached trie.now node_index }

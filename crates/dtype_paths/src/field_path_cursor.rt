@@ -16,8 +16,9 @@ use crate::trie::Trie;
 use crate::{CursorNames, Field};
 use std::fmt;
 
-/// A place in a set of paths: it stands for what the paths of the set are after some steps. A reader that descends into
-/// a type steps a cursor along, and so never looks at paths that lead elsewhere.
+/// A place in a set of paths, which is reached by some steps. The cursor contains, for each path of the set that begins
+/// with these steps, what is left of that path after them. A reader that descends into a type steps a cursor along with
+/// it, and so never looks at paths that lead elsewhere.
 ///
 /// For example, in the set of `a.b`, `a.c.d` and `x` the cursor after the step `a` contains the paths `b` and `c.d`. A
 /// cursor borrows the set and is `Copy`. No call of a cursor allocates.
@@ -31,7 +32,7 @@ pub struct FieldPathCursor<'a> {
 impl<'a> FieldPathCursor<'a> {
     ghost use Rattle.dtype_paths.specs.Cursors.{contains_below, contains_below_if, borrowed_below, names_left};
 
-    // At this node, which some path leads to.
+    // Returns the cursor at this node. The caller proves that some path leads to it.
     #[tactic(auto, unfolding(crate::specs::Cursors::contains_below))]
     pub(crate) fn at(trie: &'a Trie, node_index: usize) -> Self
         requires { IsReached trie.now node_index }
@@ -40,7 +41,7 @@ impl<'a> FieldPathCursor<'a> {
         FieldPathCursor { trie, node_index }
     }
 
-    // At the root of the trie.
+    // Returns the cursor at the root of the trie.
     #[tactic(auto, unfolding(crate::specs::Cursors::contains_below))]
     pub(crate) fn at_root(trie: &'a Trie) -> Self
         ensures { contains_below result ≡ set.contains (set_of (terminals trie.now)) }
@@ -51,8 +52,8 @@ impl<'a> FieldPathCursor<'a> {
         }
     }
 
-    /// Returns whether a path of the set ends at this cursor. That path is in the set, so everything below it is
-    /// wanted.
+    /// Returns whether a path of the set ends at this cursor: whether the cursor contains the root, the path without
+    /// steps. If it does, the set covers everything below this place.
     #[tactic(auto, unfolding(crate::specs::Cursors::contains_below))]
     pub fn is_end(&self) -> bool
         ensures { result ≡ contains_below self.now [] }
@@ -70,8 +71,8 @@ impl<'a> FieldPathCursor<'a> {
         self.trie.is_empty_at(self.node_index)
     }
 
-    /// Returns the cursor after one more step, or `None` if no path of the cursor begins with that step. For example,
-    /// for a cursor that contains `b` and `c.d` the step `c` returns a cursor that contains `d`.
+    /// Returns the cursor after one more step, or `None` if no path that the cursor contains begins with that step. For
+    /// example, for a cursor that contains `b` and `c.d` the step `c` returns a cursor that contains `d`.
     pub fn step(&self, step: &Field) -> Option<Self>
         ensures paths { contains_below_if result ≡ after_step step.now (contains_below self.now) }
         ensures some { IfSome result (λ _. (q : List Field) × IsTrue (contains_below self.now (step.now ∷ q))) }
@@ -83,8 +84,8 @@ impl<'a> FieldPathCursor<'a> {
         })
     }
 
-    /// Returns the cursor after a step to the element of a list, or `None` if no path of the cursor begins with that
-    /// step.
+    /// Returns the cursor after a step to the element of a list, or `None` if no path that the cursor contains begins
+    /// with that step.
     pub fn element(&self) -> Option<Self>
         ensures paths { contains_below_if result ≡ after_step ElementType (contains_below self.now) }
         ensures some { IfSome result (λ _. (q : List Field) × IsTrue (contains_below self.now (ElementType ∷ q))) }
@@ -92,8 +93,9 @@ impl<'a> FieldPathCursor<'a> {
         self.step(&Field::ElementType)
     }
 
-    /// Returns an iterator over the names with which paths of the cursor begin: each name once, with the cursor after
-    /// it, in no particular order. The iterator's `len` is how many names are left. `names` itself visits none of them.
+    /// Returns an iterator over the names with which paths of the cursor begin. It yields each name once, together with
+    /// the cursor after the step to that name, in no particular order. The iterator's `len` returns how many names are
+    /// left. The call of `names` itself visits none of them.
     #[tactic(auto, unfolding(crate::specs::Cursors::contains_below))]
     pub fn names(&self) -> CursorNames<'a>
         ensures names { AreNames (contains_below self.now) (names_left result) }

@@ -33,8 +33,8 @@ use std::{fmt, vec};
 
 /// A set of paths, stored as a trie.
 ///
-/// For example, after `a.b`, `x`, `a` and `a.c` are inserted the set has four paths. The set covers every path of which
-/// one of the four is a prefix, and the fewest paths that cover the same are `a` and `x`.
+/// For example, after `a.b`, `x`, `a` and `a.c` are inserted, the set contains four paths. It covers every path of
+/// which one of the four is a prefix. The fewest paths that cover the same are the least paths of the set, `a` and `x`.
 #[derive(Drop)]
 pub struct FieldPathSet {
     alloc: Global,
@@ -54,7 +54,7 @@ impl Model for FieldPathSet {
 }
 
 impl FieldPathSet {
-    /// Returns the empty set. It keeps the allocator for later calls, and doesn't allocate.
+    /// Returns the empty set. The set keeps the allocator for later calls. Doesn't allocate.
     #[tactic(auto, using(crate::proofs::lemmas::SetCovers::covers_none))]
     pub fn new(alloc: Global) -> Self
         ensures empty { result ≡ set.empty }
@@ -118,8 +118,9 @@ impl FieldPathSet {
         Ok(self.trie.insert(self.alloc, path)?)
     }
 
-    /// Inserts the paths that an iterator yields, in order. The caller must prove that the iterator ends. If there is
-    /// an error, then the set also has those of the paths that were yielded before some one of them, and no others.
+    /// Inserts the paths that an iterator yields, in order. The caller must prove that the iterator ends. If an
+    /// allocation fails, the call stops at one of the paths. The set then contains the paths that it contained before
+    /// the call and the paths that the iterator yielded before that one, and no others.
     ///
     /// # Errors
     ///
@@ -157,8 +158,8 @@ impl FieldPathSet {
     /// A program that checks a query against a schema can name these paths in its error. It returns an empty list
     /// exactly if every path of the set exists in the type.
     ///
-    /// A path that exists is followed to its end, and any other path up to the first step that leads nowhere. So the
-    /// time grows with the number of steps of all paths.
+    /// Each path is followed in the type up to its end or up to the first step that leads nowhere. So the time grows
+    /// with the number of steps of all paths.
     ///
     /// # Errors
     ///
@@ -178,7 +179,8 @@ impl FieldPathSet {
 
     /// Consumes the set and returns its least paths: those of which no other path of the set is a prefix. It returns
     /// each once, in no particular order. They are the fewest paths that cover what the set covers. For example, the
-    /// least paths of the set of `a.b`, `x`, `a` and `a.c` are `a` and `x`. If there is an error, the set is dropped.
+    /// least paths of the set of `a.b`, `x`, `a` and `a.c` are `a` and `x`. The set is dropped, even if there is an
+    /// error.
     ///
     /// # Errors
     ///
@@ -199,7 +201,7 @@ impl FieldPathSet {
     /// Consumes the set and returns what `into_iter` returns, and the number of nodes of the trie that were visited.
     /// These are the root and one node for each other prefix of a returned path, no matter how many paths of the set
     /// lie below the returned paths. For example, for the set of `a.b`, `x`, `a` and `a.c` the number is 3: the root,
-    /// `a` and `x`. If there is an error, the set is dropped.
+    /// `a` and `x`. The set is dropped, even if there is an error.
     ///
     /// # Errors
     ///
@@ -217,7 +219,7 @@ impl FieldPathSet {
         Ok((found.into_iter(), visits))
     }
 
-    /// Returns a set of the same paths. It allocates from the allocator of this set.
+    /// Returns a copy of the set. The call allocates from the allocator of this set.
     ///
     /// # Errors
     ///
@@ -232,7 +234,7 @@ impl FieldPathSet {
     }
 }
 
-/// Collects the paths that an iterator yields into a set, so that `collect` makes one.
+/// Collects the paths that an iterator yields into a set, so that `collect` can return a set.
 impl FromIterator<FieldPath> for FieldPathSet {
     type Alloc = Global;
 

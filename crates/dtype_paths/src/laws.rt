@@ -38,7 +38,8 @@ pub fn along_joined()
 {}
 
 /// For each type `t` and all paths `p` and `q`, if `p` is a prefix of `q` and `q` exists in `t`, then `p` exists in
-/// `t`. For example, if `a.[].b` exists in a type, then so does `a.[]`.
+/// `t`. For example, if `a.[].b` exists in a type, then so does `a.[]`. So if `resolve` returns `None` for a path, it
+/// returns `None` for every longer path that begins with it.
 ///
 /// About [`FieldPath::exists_in`].
 #[tactic(auto, using(crate::proofs::lemmas::Stepping::beginning_exists_in))]
@@ -47,7 +48,8 @@ pub fn beginnings_exist()
 {}
 
 /// For all types `t` and `u` and each path `p`, if `t` is valid and the type at `p` in `t` is `u`, then `u` is valid.
-/// So what `resolve` returns for a valid type is valid.
+/// For example, if `{a=list(t)}` is valid, then the type `t` at `a.[]` is valid. So what `resolve` returns for a valid
+/// type may be passed to calls that require valid types.
 ///
 /// About [`FieldPath::resolve`].
 #[tactic(auto, using(crate::proofs::lemmas::Stepping::valid_along))]
@@ -55,22 +57,27 @@ pub fn a_path_leads_to_a_valid_type()
     ensures { (t u : Tree) (p : List Field) → Valid t → At t p u → Valid u }
 {}
 
-/// Seven statements about the type at a path and the values along the path. In all of them `t` is a type, `p` is a
-/// path, and `u` is the type at `p` in `t`. A value lies along `p` in a value of `t` if the steps of `p`, taken in that
+/// Seven statements about the type at a path and the values along the path. In all of them `t` and `u` are types, `p`
+/// is a path, and `v` is a value. A value lies along `p` in another value if the steps of `p`, taken in that other
 /// value, lead to it. For example, 7 lies along `a.[]` in `{a=[5, 7]}`.
 ///
-/// - `given`: `along t p` is `Some u` exactly if `u` is the type at `p` in `t`.
-/// - `exact`: if `t` is valid and the path steps through no fixed-size list of size 0, then a value is a value of `u`
-///   exactly if it lies along `p` in some value of `t`.
-/// - `made`: if `t` is valid, then for each value `v` of `u` the value `around t p v` is a value of `t`.
-/// - `around`: if the path steps through no fixed-size list of size 0, then `v` lies along `p` in `around t p v`.
-/// - `inside`: each value that lies along `p` in some value of `t` is a value of `u`.
-/// - `size_zero`: the premise of `exact` about size 0 is needed: there is a valid `t`, a path and a value of `u` that
-///   lies along the path in no value of `t`.
-/// - `nothing`: if there is no type at `p` in `t`, and no prefix of `p` leads to an extension, then nothing lies along
+/// - `given`: the function `along`, which `resolve` computes, and the relation `At` agree. `along t p` is `Some u`
+///   exactly if `u` is the type at `p` in `t`.
+/// - `exact`: if `u` is the type at `p` in `t`, `t` is valid, and `p` steps through no fixed-size list of size 0, then
+///   `v` is a value of `u` exactly if `v` lies along `p` in some value of `t`.
+/// - `made`: if `u` is the type at `p` in `t`, `t` is valid, and `v` is a value of `u`, then `around t p v` is a value
+///   of `t`.
+/// - `around`: if `u` is the type at `p` in `t`, and `p` steps through no fixed-size list of size 0, then `v` lies
+///   along `p` in `around t p v`.
+/// - `inside`: if `u` is the type at `p` in `t`, then each value that lies along `p` in some value of `t` is a value of
+///   `u`.
+/// - `size_zero`: the premise of `exact` about size 0 is needed. There are a valid type, a path, and a value of the
+///   type at that path which lies along the path in no value of the whole type.
+/// - `nothing`: if there is no type at `p` in `t`, and no prefix of `p` leads to an extension, then no value lies along
 ///   `p` in any value of `t`.
 ///
-/// With this law a reader that resolves a column knows that it reads values of exactly the resolved type.
+/// With this law a program that resolves a path to a type knows that the values that it finds along the path are
+/// exactly the values of that type.
 ///
 /// About [`FieldPath::resolve`].
 #[tactic(auto, using(crate::proofs::Exact::exact, crate::proofs::Exact::around_of, crate::proofs::Exact::found_around, crate::proofs::Exact::found_in_of))]
@@ -89,9 +96,11 @@ pub fn resolution_is_exact_for_values()
         → (v : Value) → ¬ (FoundIn t p v) }
 {}
 
-/// For each valid type `t` and each path `p` that steps through no fixed-size list of size 0: if there is a type at `p`
-/// in `t`, then something lies along `p` in some value of `t`. If, besides, no prefix of `p` leads to an extension,
-/// then the reverse is so too: `p` exists in `t` exactly if something lies along it in some value of `t`.
+/// Two statements about each valid type `t` and each path `p` that steps through no fixed-size list of size 0. First,
+/// if there is a type at `p` in `t`, then a value lies along `p` in some value of `t`. Second, if no prefix of `p`
+/// leads to an extension, then `p` exists in `t` exactly if a value lies along `p` in some value of `t`. For example,
+/// in values of `{a=i32}` values lie along `a`, and none lie along `b`. So `exists_in` tells a program whether there
+/// can be data at a path.
 ///
 /// About [`FieldPath::exists_in`].
 #[tactic(auto, using(crate::proofs::Exact::exists_where_found, crate::proofs::Exact::some_found))]
@@ -103,14 +112,16 @@ pub fn a_type_is_given_exactly_where_something_is_found()
 {}
 
 /// For all paths `p` and `q`, `p` and `q` overlap (one is a prefix of the other) exactly if there is a path of which
-/// both are prefixes. For example, `a` and `a.b` overlap and are both prefixes of `a.b`; `a.b` and `a.c` don't overlap.
+/// both are prefixes. For example, `a` and `a.b` overlap, because both are prefixes of `a.b`, and `a.b` and `a.c` don't
+/// overlap. So two readers whose paths don't overlap never read the same part of a value.
 ///
 /// About [`FieldPath::overlap`].
 pub fn paths_overlap_where_some_path_extends_both()
     ensures { (p q : List Field) → Overlaps p q ↔ ((r : List Field) × Beginning p r × Beginning q r) }
 {}
 
-/// For all paths `p` and `q`, if `p` overlaps `q` then `q` overlaps `p`.
+/// For all paths `p` and `q`, if `p` overlaps `q`, then `q` overlaps `p`. For example, `a` overlaps `a.b`, and `a.b`
+/// overlaps `a`. So a caller may pass two paths to `overlap` in either order.
 ///
 /// About [`FieldPath::overlap`].
 #[tactic(auto, using(crate::proofs::OverlapLaws::overlaps_symmetric))]
@@ -119,8 +130,8 @@ pub fn overlap_is_symmetric()
 {}
 
 /// There are paths `p`, `q` and `r` such that `p` overlaps `q` and `q` overlaps `r`, and `p` doesn't overlap `r`. For
-/// example, `a` overlaps the root, the root overlaps `b`, and `a` doesn't overlap `b`. So overlapping paths can't be
-/// sorted into groups.
+/// example, `a` overlaps the root, the root overlaps `b`, and `a` doesn't overlap `b`. So paths can't be divided into
+/// groups in which all paths overlap.
 ///
 /// About [`FieldPath::overlap`].
 #[tactic(auto, using(crate::proofs::OverlapLaws::overlap_not_transitive))]
@@ -128,8 +139,9 @@ pub fn overlap_is_not_transitive()
     ensures { (p q r : List Field) × Overlaps p q × Overlaps q r × (Overlaps p r → ⊥) }
 {}
 
-/// For all steps and all paths, if two are equal by `==` then they write the same to every hasher. So paths can be the
-/// keys of a hash map.
+/// For all steps `f` and `g`, if `f == g` is true, then `hash` writes the same for both to every hasher. The same is so
+/// of all paths `p` and `q`. For example, it writes the same for two separately built paths `a.b`. So steps and paths
+/// can be the keys of a hash map.
 ///
 /// About [`Field`] and [`FieldPath`].
 #[tactic(auto, using(crate::proofs::MaskLaws::paths_write_alike))]
@@ -142,7 +154,8 @@ pub fn equality_agrees_with_hash()
 
 /// For each set `s`, `s` covers a path `q` exactly if some path of `s` is a prefix of `q`. A path is one of the least
 /// paths of `s` exactly if it is in `s` and no other path of `s` is a prefix of it. For example, the set of `a` and
-/// `a.b` covers `a.c`, and its only least path is `a`.
+/// `a.b` covers `a.c`, and its only least path is `a`. A caller needs this law to go from the definitions `covers` and
+/// `least` to statements about single paths.
 ///
 /// About [`FieldPathSet::into_iter`].
 #[tactic(auto, using(crate::proofs::lemmas::SetCovers::covers_word, crate::proofs::lemmas::SetCovers::least_word))]
@@ -153,7 +166,9 @@ pub fn what_covers_and_least_say()
         ↔ (IsTrue (set.contains s p) × ((q : List Field) → IsTrue (set.contains s q) → Beginning q p → q ≡ p)) }
 {}
 
-/// For each set `s` and each type `t`, a path is in `unresolved s t` exactly if it is in `s` and doesn't exist in `t`.
+/// For each set `s`, each type `t` and each path `p`, `p` is in `unresolved s t` exactly if `p` is in `s` and doesn't
+/// exist in `t`. For example, if `s` is the set of `a` and `b.c` and `t` is `{a=i32, b=utf8}`, then only `b.c` is in
+/// `unresolved s t`. A caller needs this law to go from the definition `unresolved` to statements about single paths.
 ///
 /// About [`FieldPathSet::unresolved`].
 #[tactic(auto, using(crate::proofs::lemmas::Unresolved::unresolved_word))]
@@ -171,8 +186,10 @@ pub fn least_paths_tell_the_coverage()
     ensures { (s t : PathSet) → (least s ≡ least t) ↔ SameCoverage s t }
 {}
 
-/// For each set `s`, its least paths cover what `s` covers, the least paths of these are these themselves, and each of
-/// them is in every set that covers the same as `s`. So no set with fewer paths covers the same.
+/// Three statements about each set `s` and the set of its least paths. First, the least paths cover exactly what `s`
+/// covers. Second, the least paths of the set of the least paths are these paths themselves. Third, each least path of
+/// `s` is in every set that covers exactly what `s` covers. For example, the least paths of the set of `a` and `a.b`
+/// are `a` alone, and `a` is in every set that covers the same. So no set with fewer paths covers the same.
 ///
 /// About [`FieldPathSet::into_iter`].
 #[tactic(auto, using(crate::proofs::lemmas::SetCovers::covers_least, crate::proofs::lemmas::SetCovers::least_least, crate::proofs::lemmas::SetCovers::least_in))]
@@ -196,8 +213,9 @@ pub fn a_cover_has_one_beginning_of_each_covered_path()
         → IsTrue (set.contains (least s) r) → Beginning p q → Beginning r q → p ≡ r }
 {}
 
-/// For a slice of paths and a path, the set of the slice's paths covers the path exactly if the path starts with one of
-/// them. A caller that tests this with `any` over a slice needs this law to conclude that the path is covered.
+/// For each slice `paths` of paths and each path `path`, the set of the paths in `paths` covers `path` exactly if
+/// `path` begins with one of them. For example, the set of `a` and `x` covers `a.b`, because `a.b` begins with `a`. A
+/// caller that tests this by `any` and `starts_with` over a slice needs this law to conclude that the path is covered.
 ///
 /// About [`FieldPathSet::contains`] and [`FieldPathSet::into_iter`].
 #[tactic(auto, using(crate::proofs::lemmas::SetCovers::covers_any))]
@@ -206,8 +224,9 @@ pub fn a_path_is_covered_where_it_starts_with_one(paths: &[FieldPath], path: &Fi
         ↔ Any (λ p. IsTrue (starts_with ⟦<crate::Field as PartialEq>⟧.eq path.now p)) paths.now }
 {}
 
-/// For each list of paths, a path is in the list exactly if it is in the set of the list's paths. A caller needs this
-/// law to go from the list that `into_iter` yields to the set.
+/// For each list `ps` of paths and each path `q`, `q` is in the list exactly if `q` is in the set of the list's paths.
+/// For example, `a` is in the list `a, b, a` and in the set of `a` and `b`. A caller needs this law because the
+/// contracts of `iter` and `into_iter` specify the set of what they yield, and a loop visits a list.
 ///
 /// About [`FieldPathSet::iter`].
 #[tactic(auto, using(crate::proofs::lemmas::SetMembers::listed))]
@@ -216,11 +235,12 @@ pub fn a_list_has_the_members_of_its_set()
         → (Contains ps q ↔ IsTrue (set.contains s q)) }
 {}
 
-/// A set is stepped into one step at a time. First, for each predicate `w` of paths and all paths `p` and `q`, `q`
-/// satisfies what is left of `w` after the steps of `p` exactly if `p` followed by `q` satisfies `w`. For example,
-/// after the step `a` the set of `a.b` and `x` contains `b`. Second, for each set `s` and path `q`, `s` covers `q`
-/// exactly if some prefix of `q`, perhaps `q` itself, is in `s`. So a reader that steps a cursor along a path knows by
-/// `is_end` whether the path is covered.
+/// Two statements about a cursor that is stepped along a path. First, let a predicate `w` say which paths are contained
+/// before the steps of `p`, and `after_steps p w` which are contained after them. Then `q` is contained after the steps
+/// of `p` exactly if `p` followed by `q` is contained before them. For example, in the set of `a.b` and `x` the path
+/// `b` is contained after the step `a`. Second, a set `s` covers a path `q` exactly if some prefix of `q`, perhaps `q`
+/// itself, is in `s`. So a reader that steps a cursor along a path knows that the path is covered as soon as `is_end`
+/// returns `true`.
 ///
 /// About [`FieldPathSet::cursor`], [`FieldPathCursor::step`] and [`FieldPathCursor::element`].
 #[tactic(auto, using(crate::proofs::lemmas::PathsBelow::contained_after, crate::proofs::lemmas::PathsBelow::covered_on_the_way))]
@@ -229,9 +249,10 @@ pub fn a_set_is_stepped_into()
     ensures covers { (s : PathSet) (q : List Field) → covers s q ≡ contains_above (set.contains s) q }
 {}
 
-/// For each `CursorNames`, `next` returns the names that are left, in order, and as many as `len` returns before the
-/// first `None`. For example, of two names that are left the first call returns the first, the second call the second,
-/// and the third call `None`. So a `for` loop over `FieldPathCursor::names` visits every name once and ends.
+/// For each `CursorNames`, `next` returns the names that are left one after another, as many as `len` returned, and
+/// then `None`. For example, if two names are left, the first call returns the first of them, the second call returns
+/// the second, and the third call returns `None`. So a `for` loop over `FieldPathCursor::names` visits each name once
+/// and ends.
 ///
 /// About [`FieldPathCursor::names`] and [`CursorNames`].
 pub fn names_are_given_in_order()

@@ -12,8 +12,8 @@ use dtype_base::VortexResult;
 use std::alloc::Global;
 use std::marker::Model;
 
-/// The only child of a node, with the key of its step beside it: where the keys differ, or are exact, the name of the
-/// step isn't read, which lies elsewhere in memory.
+/// The only child of a node, with the key of its step beside it. A lookup compares the keys first. It reads the name of
+/// the step, which lies elsewhere in memory, only if the keys are equal and other steps can have the same key.
 #[derive(Drop)]
 pub(crate) struct OnlyChild {
     key: u64,
@@ -57,7 +57,7 @@ impl OnlyChild {
         self.node_index
     }
 
-    // The node that the step leads to.
+    // Returns the index of the node to which the step leads.
     pub(crate) fn child(&self, step: &Field) -> Option<usize>
         ensures { result ≡ node_by (self.now ∷ []) step.now }
     {
@@ -69,7 +69,7 @@ impl OnlyChild {
         }
     }
 
-    // A list of the child, with room for more.
+    // Returns a list of the child, with room for more.
     pub(crate) fn to_list(&self, alloc: Global) -> VortexResult<ChildList>
         ensures { Makes result (λ l. l ≡ self.now ∷ []) }
     {

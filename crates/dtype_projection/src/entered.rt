@@ -14,9 +14,10 @@ use dtype_paths::FieldPathCursor;
 use dtype_types::StructFields;
 use std::alloc::Global;
 
-// The position of each field that paths step into, with the cursor after that step, in the order of the positions. A path
-// steps into the first of two fields of one name. Each name by which paths go on is looked up once, however many fields
-// there are: making the set took longer for each of its names than a lookup does.
+// Returns the position of each field into which paths step, with the cursor after that step, in the order of the
+// positions. If two fields have the same name, a path steps into the first. Each name with which paths continue is
+// looked up once, whatever the number of fields is. These lookups take less time than inserting the names into the set
+// took.
 pub(crate) fn entered_fields<'a>(
     alloc: Global,
     fields: &StructFields,
@@ -29,7 +30,7 @@ pub(crate) fn entered_fields<'a>(
     Ok(entered)
 }
 
-// The position of each field that paths step into, with the cursor after that step, in no order.
+// Returns the position of each field into which paths step, with the cursor after that step, in no particular order.
 fn looked_up<'a>(
     alloc: Global,
     fields: &StructFields,
@@ -47,7 +48,7 @@ fn looked_up<'a>(
     Ok(entered)
 }
 
-// Whether the positions are all those below `count`, which isn't 0, and each cursor is at an end.
+// Returns whether the positions are all positions below `count`, `count` isn't 0, and a path ends at each cursor.
 pub(crate) fn are_all_whole(entered: &[(usize, FieldPathCursor<'_>)], count: usize) -> bool
     ensures some { IsTrue result → 0 < count }
     ensures each { IsTrue result → AreWhole 0 count entered.now }

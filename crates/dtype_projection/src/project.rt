@@ -29,24 +29,26 @@ use dtype_paths::{FieldPathCursor, FieldPathSet};
 use dtype_types::{DType, StructFields};
 use std::alloc::Global;
 
-/// Returns the projection of `dtype` to the paths of `paths`: the type without what no path leads to. Returns `None`
-/// if no path of the set exists in `dtype`.
+/// Returns the projection of `dtype` to the paths in `paths`: the type without the fields to which none of the paths
+/// leads. Returns `None` if none of the paths exists in `dtype`.
 ///
-/// For example, the projection of `{a=list({b=u32, c=utf8})?, d=i8}` to `a.[].b` and `x` is `{a=list({b=u32})?}`.
+/// For example, the projection of `{a=list({b=u32, c=utf8})?, d=i8}` to `a.[].b` and `x` is `{a=list({b=u32})?}`. A
+/// reader that needs only these paths has to open only these columns.
 ///
 /// The rules are:
 /// - The type at the end of a path is kept whole.
-/// - A struct keeps the fields into which paths step, in the order of the struct. A path steps into the first field
-///   with its name. A struct that would keep no field isn't kept.
+/// - A struct keeps the fields of which something is kept, in the order of the struct. A path steps into the first
+///   field with its name. A struct that would keep no field isn't kept.
 /// - A list or a fixed-size list keeps its size and its nullability around what is kept of its element.
 /// - No path steps into anything else, so a map, a union or an extension is kept whole or not at all.
 ///
 /// The Rust library has no such call.
 ///
-/// The set is stepped into along with the type (`FieldPathSet::cursor`), so the time grows with the number of steps of
-/// the set that lead into the type and with what is kept. At each struct every name that paths continue with is looked
-/// up once. So ten paths take about as long in ten thousand columns as in a hundred. A set of ten thousand names takes
-/// at most about as long over ten columns as the set took to make. Then the fields that are kept are sorted by their
+/// The call steps through the type and the set together (`FieldPathSet::cursor`), so its time grows with the number of
+/// steps of the set that lead into the type and with the number of fields that are kept. At each struct it looks up
+/// each name with which paths continue once, whatever the number of fields is. So a projection to ten paths takes about
+/// as long if the type has ten thousand columns as if it has a hundred. A set of ten thousand names is projected from
+/// ten columns in at most about the time that it took to make the set. The fields that are kept are sorted by their
 /// positions and copied, and their names are indexed. A struct of which everything is kept is shared and not built
 /// again.
 ///
@@ -74,7 +76,8 @@ pub fn project_paths(
     project(alloc, dtype, &paths.cursor())
 }
 
-// The projection of a type to what the cursor contains. Inlined, since most of what is kept is kept whole.
+// Returns the projection of a type to the paths that the cursor contains. The function is inlined, because most types
+// that are kept are kept whole.
 #[inline(always)]
 #[cycle(projecting)]
 fn project(
@@ -90,7 +93,8 @@ fn project(
     project_parts(alloc, dtype, cursor)
 }
 
-// The projection of a type to what the cursor contains, which isn't the type itself.
+// Returns the projection of a type to the paths that the cursor contains. The caller proves that the root isn't one of
+// them, so the type isn't kept whole.
 #[cycle(projecting)]
 fn project_parts(
     alloc: Global,
@@ -123,7 +127,7 @@ fn project_parts(
     }
 }
 
-// The projection of an element to what the cursor contains below it.
+// Returns the projection of an element to the paths that the cursor contains after the element step.
 #[cycle(projecting)]
 fn project_element(
     alloc: Global,
@@ -138,7 +142,8 @@ fn project_element(
     }
 }
 
-// The projection of a struct of these fields to what the cursor contains, which isn't the struct itself.
+// Returns the projection of a struct of these fields to the paths that the cursor contains, of which the root isn't
+// one.
 #[cycle(projecting)]
 fn project_struct(
     alloc: Global,
@@ -163,7 +168,7 @@ fn project_struct(
     struct_of(alloc, names, dtypes, n)
 }
 
-// The struct of these fields, or `None` where there are none.
+// Returns the struct of these fields, or `None` if there are none.
 fn struct_of(
     alloc: Global,
     names: Vec<FieldName>,
@@ -180,7 +185,7 @@ fn struct_of(
     Ok(Some(DType::Struct(fields, n)))
 }
 
-// The name of the field at this position, and its projection to what the cursor contains.
+// Returns the name of the field at this position, and the projection of its type to the paths that the cursor contains.
 #[cycle(projecting)]
 #[tactic(auto, using(crate::proofs::KeptFields::kept_some, crate::proofs::KeptFields::kept_none))]
 fn project_field(

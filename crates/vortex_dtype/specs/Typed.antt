@@ -10,8 +10,9 @@ use Rattle.dtype_types.specs.tree.Valid.{Valid}
 use Rattle.dtype_types.specs.nullability.Nullable.{SetNull}
 use Rattle.vortex_dtype.specs.Meaning.{Rewrites, Bytes}
 
--- the two laws: written metadata is read back as the same metadata, and what is written of metadata that was
--- read from bytes is bytes; whether it fits a storage doesn't depend on that storage's outer nullability
+-- The three laws. Written metadata is read back as the same metadata. What is written of metadata that was read from
+-- bytes consists of bytes. Whether metadata fits a storage type doesn't depend on the outer nullability of the storage
+-- type
 pub record Typed {M : Type 0} (reads : List ℕ → Option M) (writes : M → Option (List ℕ)) (fits : M → Tree → Bool) : Type 0 where
   pub read_back : (m : M) (c : List ℕ) → writes m ≡ Some c → reads c ≡ Some m
   pub as_bytes : (b : List ℕ) (m : M) (c : List ℕ) → Bytes b → reads b ≡ Some m → writes m ≡ Some c → Bytes c

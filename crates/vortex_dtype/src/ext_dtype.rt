@@ -18,8 +18,8 @@ use dtype_types::{DType, ExtDTypeRef, ExtId};
 use std::alloc::Global;
 use std::fmt;
 
-/// A typed extension: a vtable, the decoded metadata, and a storage type that the metadata fits. For example, for a
-/// vtable of dates the metadata may be a unit of time, and the storage type `i32`.
+/// A typed extension type: a vtable, the decoded metadata, and a storage type that the metadata fits. For example, for
+/// a vtable of dates the metadata may be a unit of time, and the storage type `i32`.
 #[derive(Drop)]
 pub struct ExtDType<V: ExtVTable> {
     vtable: V,
@@ -28,8 +28,8 @@ pub struct ExtDType<V: ExtVTable> {
 }
 
 impl<V: ExtVTable + Default> ExtDType<V> {
-    /// Returns the extension of the default vtable with this metadata over this storage type. If the storage type isn't
-    /// valid, a vtable promises nothing about which metadata it accepts.
+    /// Returns the extension type of the default vtable with this metadata and this storage type. If the storage type
+    /// isn't valid, it isn't specified which metadata the vtable accepts.
     ///
     /// # Errors
     ///
@@ -52,8 +52,8 @@ impl<V: ExtVTable + Default> ExtDType<V> {
 }
 
 impl<V: ExtVTable> ExtDType<V> {
-    /// Returns the extension of this vtable with this metadata over this storage type. If the storage type isn't valid,
-    /// the vtable promises nothing about which metadata it accepts.
+    /// Returns the extension type of this vtable with this metadata and this storage type. If the storage type isn't
+    /// valid, it isn't specified which metadata the vtable accepts.
     ///
     /// # Errors
     ///
@@ -126,9 +126,9 @@ impl<V: ExtVTable> ExtDType<V> {
         self.vtable.serialize_metadata(alloc, &self.metadata)
     }
 
-    /// Returns the erased extension with the outer nullability of the storage type set to `n`. Its id and its written
-    /// metadata are those of this extension. If `n` is `NonNullable`, the caller must prove that the storage type can
-    /// be made non-nullable: `Null` can't be.
+    /// Returns the extension type as an erased one, with the outer nullability of its storage type set to `n`. The id
+    /// is that of this extension type, and the metadata is what the vtable writes. If `n` is `NonNullable`, the caller
+    /// must prove that the storage type can be made non-nullable: `Null` can't be.
     ///
     /// # Errors
     ///
@@ -152,7 +152,8 @@ impl<V: ExtVTable> ExtDType<V> {
         ExtDTypeRef::from_parts(alloc, id, bytes, storage)
     }
 
-    /// Consumes the extension and returns it erased: its id, its written metadata and its storage type.
+    /// Consumes the extension type and returns it as an erased one: its id, the metadata that the vtable writes, and
+    /// its storage type.
     ///
     /// # Errors
     ///
@@ -177,8 +178,8 @@ impl<V: ExtVTable> ExtDType<V> {
         ExtDTypeRef::from_parts(alloc, id, bytes, storage)
     }
 
-    /// Returns the typed extension of an erased one. The vtable reads the metadata from the bytes, and the storage type
-    /// stays the same.
+    /// Returns the typed extension type of an erased one. The vtable reads the metadata from the bytes, and the storage
+    /// type stays the same.
     ///
     /// # Errors
     ///
@@ -220,7 +221,7 @@ impl<V: ExtVTable> ExtDType<V> {
         }
     }
 
-    // Reads the metadata and checks it over the storage.
+    // Reads the metadata and checks that it fits the storage type.
     fn read_metadata(alloc: Global, erased: &ExtDTypeRef, vtable: &V) -> VortexResult<V::Metadata>
         ensures id { OnOk result (extension_id erased.now ≡ V.id_text vtable.now) }
         ensures ok { MatchResult result
@@ -241,8 +242,8 @@ impl<V: ExtVTable> ExtDType<V> {
         Ok(metadata)
     }
 
-    // Checks the metadata over the storage. The error is 0 or 22 also over an invalid storage, where a vtable may
-    // return any.
+    // Checks that the metadata fits the storage type. The only errors are 0 and 22, even if the storage type is invalid
+    // and the vtable returns another error.
     fn validate(
         alloc: Global,
         vtable: &V,

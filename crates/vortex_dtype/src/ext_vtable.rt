@@ -9,9 +9,10 @@ use std::alloc::Global;
 /// The operations of one extension type: its id, how its metadata is read from bytes and written as bytes, and which
 /// storage types it accepts.
 ///
-/// Each implementation proves the laws of `Typed` (`specs/Typed`). Metadata that is written is read back as the same
-/// metadata, and metadata that was read from bytes is written as bytes. Whether metadata fits a storage type doesn't
-/// depend on the outer nullability of the storage type.
+/// Each implementation proves the three laws of `Typed` (`specs/Typed`). First, if metadata can be written, then what
+/// is written is read back as the same metadata. Second, if metadata that was read from bytes can be written, then what
+/// is written consists of bytes (numbers below 256). Third, whether metadata fits a storage type doesn't depend on the
+/// outer nullability of the storage type.
 pub trait ExtVTable: Drop {
     ghost use Rattle.std.specs.Prelude.{◌≡◌, ◌⊎◌, ℕ, List, Option, Some, None, Bool, true, false, IfErr, OnOk, MatchResult};
     ghost use Rattle.dtype_base.specs.declared.vortex_error.VortexError.TheVariants.{OutOfMemory, MetadataRefused};

@@ -15,7 +15,7 @@ use std::alloc::Global;
 use std::fmt;
 use std::marker::Model;
 
-/// The metadata of an extension whose type isn't known: its bytes.
+/// The metadata of an extension type that isn't known: its bytes.
 #[derive(Debug, Drop, PartialEq, Eq, Hash)]
 pub struct ForeignExtMetadata(pub Vec<u8>);
 
@@ -70,7 +70,7 @@ impl ForeignExtDType {
         ForeignExtDType { id }
     }
 
-    /// Returns the erased extension with this id, this metadata and this storage type.
+    /// Returns the erased extension type with this id, this metadata and this storage type.
     ///
     /// # Errors
     ///
@@ -87,7 +87,7 @@ impl ForeignExtDType {
         ExtDTypeRef::from_parts(alloc, id, metadata, storage)
     }
 
-    /// Returns a vtable equal to this one, which shares the text of the id with it.
+    /// Returns a copy of the vtable, which shares the text of the id with the original.
     ///
     /// # Errors
     ///

@@ -32,9 +32,11 @@ pub use dtype_projection::laws as projections;
 pub use dtype_types::{laws as types, nullability_laws as merging};
 use std::hash::Hash;
 
-/// Let `r` say what a plugin does with metadata. After it is registered under `id` in a session `s`, `r` is registered
-/// under `id`, every other id has the plugin that it had in `s`, and whether unknown ids are kept is unchanged. For
-/// example, registering a plugin of `x.tag` doesn't change how metadata of `x.text` is read.
+/// Three statements about registering a plugin under the id `id` in a session `s`, where `r` is what the plugin does
+/// with metadata. First, `r` is then registered under `id`. Second, what is registered under every other id is
+/// unchanged. Third, whether unknown ids are kept is unchanged. For example, registering a plugin of `x.tag` doesn't
+/// change how metadata of `x.text` is read. So libraries can register their plugins in one session without affecting
+/// each other.
 ///
 /// About [`DTypeSession::register`].
 #[tactic(auto, using(crate::proofs::lemmas::Sessions::sessions, crate::proofs::lemmas::Sessions::session_laws))]
@@ -45,7 +47,9 @@ pub fn register_changes_one_id()
     ensures unknown { (s : Meaning) (id : List ℕ) (r : Rewrites) → (register_in id r s).unknown ≡ s.unknown }
 {}
 
-/// After `allow_unknown` in any session `s`, unknown ids are kept, and every id has the plugin that it had in `s`.
+/// For each session `s`, after `allow_unknown` is called the session keeps unknown ids, and what is registered under
+/// each id is unchanged. For example, metadata of a registered id `x.tag` is still read by its plugin. So a program may
+/// call `allow_unknown` before or after it registers plugins.
 ///
 /// About [`DTypeSession::allow_unknown`].
 #[tactic(auto, using(crate::proofs::lemmas::Sessions::sessions, crate::proofs::lemmas::Sessions::session_laws))]
@@ -54,9 +58,10 @@ pub fn allow_unknown_changes_the_flag()
     ensures registered { (s : Meaning) (id : List ℕ) → (allow_unknown_in s).registered id ≡ s.registered id }
 {}
 
-/// For each list of calls on a new session: if a plugin was registered under `id`, and no later call registered another
-/// under it, then that plugin is the one registered under `id`. For example, if two plugins of `x.tag` are registered
-/// one after the other, the second is used. So the order in which libraries register their plugins decides.
+/// For each list of calls on a new session and each id `id`, if one of the calls registers a plugin under `id` and no
+/// later call registers another under `id`, then after all calls that plugin is registered under `id`. For example, if
+/// two plugins of `x.tag` are registered one after the other, the second is used. So the order in which libraries
+/// register their plugins decides.
 ///
 /// About [`DTypeSession::register`] and [`DTypeSession::registry`].
 #[tactic(auto, using(crate::proofs::lemmas::Sessions::sessions, crate::proofs::lemmas::Sessions::session_laws))]
@@ -65,8 +70,9 @@ pub fn last_registered_counts()
         → (after (before ++ register id r ∷ rest) empty_meaning).registered id ≡ Some r }
 {}
 
-/// For each list of calls on a new session, if none of them registers a plugin under `id`, then no plugin is registered
-/// under `id`.
+/// For each list of calls on a new session and each id `id`, if none of the calls registers a plugin under `id`, then
+/// after all calls no plugin is registered under `id`. For example, if only a plugin of `x.tag` is registered,
+/// `registry("x.text")` returns `false`. So a program knows which ids its session can read.
 ///
 /// About [`DTypeSession::new`] and [`DTypeSession::registry`].
 #[tactic(auto, using(crate::proofs::lemmas::Sessions::sessions, crate::proofs::lemmas::Sessions::session_laws))]
@@ -75,8 +81,9 @@ pub fn none_registered_counts()
         → (after calls empty_meaning).registered id ≡ None }
 {}
 
-/// For each list of calls on a new session, the session keeps unknown ids exactly if one of the calls is
-/// `allow_unknown`. For example, registering a plugin afterwards doesn't change that they are kept.
+/// For each list of calls on a new session, after all calls the session keeps unknown ids exactly if one of the calls
+/// was `allow_unknown`. For example, they are still kept after a plugin is registered later. So a session never drops
+/// what it was told to keep.
 ///
 /// About [`DTypeSession::allow_unknown`] and [`DTypeSession::allows_unknown`].
 #[tactic(auto, using(crate::proofs::lemmas::Sessions::sessions, crate::proofs::lemmas::Sessions::session_laws))]
@@ -84,10 +91,10 @@ pub fn unknown_once_allowed()
     ensures { (calls : List Call) → (after calls empty_meaning).unknown ≡ list_any is_allow calls }
 {}
 
-/// For each session whose plugins are lawful and each id, if the session keeps the bytes `c` of the metadata `b` over a
-/// valid storage type, then `c` is bytes, and of the metadata `c` the session keeps `c`. For example, if a plugin
-/// changes `AB` to `ab`, it leaves `ab` unchanged. So metadata doesn't change again each time that a type is written
-/// and read.
+/// For each session `s` whose plugins are lawful, each id `id`, each valid storage type `t` and all metadata `b`, if
+/// the session keeps `c` in place of `b`, then `c` consists of bytes, and the session keeps `c` unchanged if it reads
+/// it again. For example, if a plugin changes `AB` to `ab`, it leaves `ab` unchanged. So metadata changes at most the
+/// first time that a type is read, and not each time that it is written and read.
 ///
 /// About [`ExtDTypePlugin`].
 pub fn kept_again()
@@ -95,9 +102,11 @@ pub fn kept_again()
         → keeps s id b t ≡ Some c → Bytes c × (keeps s id c t ≡ Some c) }
 {}
 
-/// Metadata of foreign extensions is equal by `==` exactly if its bytes are the same, and it writes to a hasher what
-/// its bytes write. Foreign vtables are equal exactly if their ids are the same, and they write to a hasher what their
-/// ids write.
+/// Four statements about extension types that aren't known. First, two values of `ForeignExtMetadata` are equal by `==`
+/// exactly if their bytes are the same. Second, two values of `ForeignExtDType` are equal by `==` exactly if their ids
+/// are the same. Third, metadata writes to a hasher what its bytes write. Fourth, a vtable writes to a hasher what its
+/// id writes. For example, two values of metadata with the bytes `AB` are equal and have the same hash. So both can be
+/// the keys of a hash map.
 ///
 /// About [`ForeignExtDType`] and [`ForeignExtMetadata`].
 pub fn foreign_extensions_are_compared_by_their_parts()
@@ -111,9 +120,10 @@ pub fn foreign_extensions_are_compared_by_their_parts()
         ≡ ⟦<dtype_types::ExtId as Hash>⟧.hash_input id }
 {}
 
-/// For each session whose plugins are lawful, each valid type `t` and each `u` that is `t` with another outer
-/// nullability, the session admits `t` (keeps the metadata of each extension in it unchanged) exactly if it admits `u`.
-/// For example, it admits `x.tag[2B](utf8)` exactly if it admits `x.tag[2B](utf8?)`.
+/// For each session `s` whose plugins are lawful and each valid type `t`, if `u` is `t` with its outer nullability set,
+/// then the session admits `t` exactly if it admits `u`. (A session admits a type if it keeps the metadata of each
+/// extension in it unchanged.) For example, a session admits `x.tag[2B](utf8)` exactly if it admits `x.tag[2B](utf8?)`.
+/// So a program that may write a type as a message and read it back may do so after it has made the type nullable.
 ///
 /// About [`DTypeProto::to_proto`].
 #[tactic(auto, using(crate::proofs::lemmas::Sessions::sessions, crate::proofs::lemmas::Sessions::session_laws))]
@@ -124,7 +134,9 @@ pub fn admits_set_null()
 
 /// The function `read`, which reads the parts of a message in order, agrees with the relations `Reads` and `Fault`. For
 /// each session, each message and each type `t`, `read` returns `Ok t` exactly if the message reads as `t`. If `read`
-/// returns an error, then the message has that fault, and it reads as no type.
+/// returns an error, then the message has that fault, and it reads as no type. For example, `read` returns
+/// `MapKeyMissing` for a map message with neither a key type nor a value type, and the message also has the fault
+/// `MapValueMissing`. A caller needs this law to go from the order of the errors to the relations, which have no order.
 ///
 /// About [`DTypeProto::from_proto`].
 #[tactic(auto, using(crate::proofs::lemmas::Reading::reading))]
@@ -140,16 +152,17 @@ pub fn read_is_what_reads()
 ///
 /// - `one_type`: a message reads as at most one type.
 /// - `no_fault`: a message that reads as a type has no fault.
-/// - `accepted`: if the plugins are lawful, a message that reads as a type is accepted: the type is valid, and the
-///   session admits it.
-/// - `normal`: if a message reads as `t`, then its normal form is the message that is written of `t`.
+/// - `accepted`: if the plugins are lawful and each number in a message is in the range of its field (`IsMessage`),
+///   then a message that reads as a type is accepted: the type is valid, and the session admits it.
+/// - `normal`: if a message reads as `t`, then its normal form is the message that `to_proto` writes for `t`.
 /// - `same`: two accepted messages read as the same type exactly if they have the same normal form.
 /// - `twice`: the normal form of an accepted message is its own normal form.
-/// - `read_back`: the message that is written of a valid type that the session admits is accepted and reads as that
-///   type.
+/// - `read_back`: if a type is valid and the session admits it, then the message that `to_proto` writes for it is
+///   accepted and reads as that type.
 ///
 /// For example, a message of the extension `x.tag` with the metadata `AB` and one with `ab` are different messages. If
-/// the plugin keeps `ab` of both, they have the same normal form and read as the same type.
+/// the plugin keeps `ab` in place of both, they have the same normal form and read as the same type. With this law a
+/// program that stores types as messages knows that two readers with the same session get the same type.
 ///
 /// About [`DTypeProto::from_proto`] and [`DTypeProto::to_proto`].
 #[tactic(auto, using(crate::proofs::lemmas::Reading::reading))]

@@ -4,18 +4,18 @@
 //! The logical types of Vortex. This library re-exports all libraries below it, and adds typed extensions, plugins,
 //! sessions, and the conversion of types to and from protobuf messages.
 //!
-//! It is proved that a typed extension consists of the metadata and the storage type with which it was made, that a
-//! session uses the plugin that was registered last under an id, and that types are read from messages and written as
-//! messages exactly as the relations and functions of `specs/` specify.
+//! It is proved that a typed extension consists of the metadata and the storage type with which it was made, and that a
+//! session uses the plugin that was registered last under an id. It is also proved which message describes which type:
+//! types are read from messages and written as messages exactly as the definitions in `specs/` say.
 //!
-//! Begin with `ExtVTable` and `ExtDType` (a typed extension), `ExtDTypePlugin` and `PluginOf`, and `DTypeSession`. Then
-//! read `pb` and `DTypeProto`.
+//! Begin with `ExtVTable` and `ExtDType` (typed extensions), then `ExtDTypePlugin` and `PluginOf` (plugins), then
+//! `DTypeSession`. Then read `pb` and `DTypeProto` (messages).
 //!
 //! The definitions are in `specs/`:
 //! - `Typed`: what a vtable does.
 //! - `Meaning`: what a plugin and a session do with metadata (`keeps`), and which types a session keeps unchanged
 //!   (`Admits`).
-//! - `Errors`: which errors they return.
+//! - `Errors`: which errors plugins and sessions return.
 //! - `Calls`: a session after a list of calls.
 //! - `Reads`: the type that a message describes, and the faults of a message.
 //! - `ReadInOrder`: which of several faults is returned.

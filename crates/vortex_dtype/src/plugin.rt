@@ -14,12 +14,13 @@ use dtype_types::DType;
 use std::alloc::Global;
 use std::marker::Model;
 
-/// What a session knows of an extension type: its id, and how its metadata is read and written back.
+/// What a session knows about an extension type: its id, and how its metadata is read and written back.
 ///
 /// In contracts a plugin is its `rewrites`: a function that takes metadata and a storage type, and returns the metadata
-/// that the plugin writes back, if it accepts them. Each implementation proves two laws of it (`Lawful` of
-/// `specs/Meaning`). First, what is written back is bytes, and these are written back unchanged if they are read again.
-/// Second, the outer nullability of the storage type makes no difference.
+/// that the plugin writes back, or `None` if the plugin doesn't accept them. Each implementation proves two laws about
+/// this function (`Lawful` of `specs/Meaning`). First, the metadata that is written back consists of bytes, and if it
+/// is read again it is written back unchanged. Second, the result doesn't depend on the outer nullability of the
+/// storage type.
 pub trait ExtDTypePlugin: Drop {
     ghost use Rattle.std.specs.Prelude.{◌≡◌, ◌⊎◌, ℕ, List, Some, None, IfOk, IfErr};
     ghost use Rattle.dtype_base.specs.declared.vortex_error.VortexError.TheVariants.{OutOfMemory, MetadataRefused};
@@ -130,8 +131,9 @@ pub(crate) fn boxed_deserialize(
     plugin.deserialize(alloc, metadata, storage)
 }
 
-/// Every plugin is lawful: it writes metadata that it wrote back before unchanged, and the outer nullability of the
-/// storage type makes no difference. A caller names this law when a theorem requires lawful plugins.
+/// Each plugin `plugin` is lawful (`Lawful`): metadata that it has written back is written back unchanged if it is read
+/// again, and the outer nullability of the storage type makes no difference. For example, a plugin that writes `ab` for
+/// `AB` writes `ab` for `ab`. A caller calls this law when a theorem requires lawful plugins.
 ///
 /// About [`ExtDTypePlugin`].
 pub fn plugin_laws(plugin: &dyn ExtDTypePlugin)

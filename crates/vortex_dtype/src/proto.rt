@@ -1,8 +1,8 @@
 // SPDX-License-Identifier: Apache-2.0
 // SPDX-FileCopyrightText: Copyright the Vortex contributors
 
-// Types and paths from messages, and messages from types: `read` walks a message, `kinds` builds the type of each kind,
-// `write` builds the messages.
+// Types and paths from messages, and messages from types. `read` walks a message, `kinds` builds the type of each kind,
+// and `write` builds the messages.
 #![tactic(auto, using(crate::proofs::lemmas::PathMessages::path_by_steps))]
 
 ghost use Rattle.std.specs.Prelude.{◌≡◌, ◌⊎◌, Some, None, Ok, Err, IfOk, Contains, map, MatchResult};
@@ -42,7 +42,8 @@ mod write;
 /// `DType::from_proto(alloc, &dtype.to_proto(alloc)?, &session)?` equals `dtype` if `dtype` is valid and the session
 /// keeps the metadata of each extension in it unchanged (`Admits` of `specs/Meaning`).
 pub trait DTypeProto {
-    /// Returns the type that the message describes, under the session. The errors are listed at the impl for `DType`.
+    /// Returns the type that the message describes, with the extension types that the session makes of those in the
+    /// message. The errors are listed at the impl for `DType`.
     fn from_proto(alloc: Global, proto: &pb::DType, session: &DTypeSession) -> VortexResult<Self>
     where
         Self: Sized;
@@ -56,28 +57,35 @@ pub trait DTypeProto {
 }
 
 impl DTypeProto for DType {
-    /// Returns the type that the message describes, under the session. For each extension the type has the metadata
-    /// that the session keeps of the message's metadata. A message without metadata is read as one with empty metadata.
+    /// Returns the type that the message describes. For each extension type in it, the session decides which metadata
+    /// is kept in place of the metadata in the message (`DTypeSession::deserialize`). An extension message without
+    /// metadata is read as one with empty metadata.
     ///
     /// # Errors
     ///
-    /// The first fault that is found (`read` of `specs/ReadInOrder`). The parts of a message are read in order, each
-    /// with all faults in it, and then what they make is checked. For example, a map with neither a key type nor a
-    /// value type returns `MapKeyMissing`.
+    /// If a message has several faults, the first that is found is returned (`read` of `specs/ReadInOrder`). The parts
+    /// of a message are read in order, each with all its own parts, and after that it is checked whether they make a
+    /// type. For example, for a map with neither a key type nor a value type the error is `MapKeyMissing`.
     ///
     /// - `TypeMissing` (24): a message has no kind.
     /// - `PrimitiveNumber` (25): the number of a primitive type isn't from 0 to 10.
-    /// - `PrecisionRange` (26), `ScaleRange` (27): the precision of a decimal is above 255, or its scale isn't from
-    ///   -128 to 127; then the errors of `DecimalDType::try_new` (1 to 4).
-    /// - `ListElementMissing` (28), `FixedElementMissing` (29): a list has no element type.
-    /// - `MapKeyMissing` (30), then the faults of the key type, then `MapValueMissing` (31), then the faults of the
-    ///   value type, then `MapKeyNullable` (9): the key type is nullable.
-    /// - `StructLengths` (32), after the faults of the field types: there are more or fewer names than types.
-    /// - `TypeIdRange` (33), after the faults of the variant types: a tag isn't from 0 to 255; then the errors of
-    ///   `UnionVariants::try_new` (10 to 13 and 15).
-    /// - `StorageMissing` (34), then the faults of the storage type, then `MetadataRefused` (22): the registered plugin
-    ///   doesn't accept the metadata; or `ExtensionUnregistered` (35): no plugin is registered under the id, and the
-    ///   session doesn't keep unknown ids.
+    /// - `PrecisionRange` (26): the precision of a decimal is above 255.
+    /// - `ScaleRange` (27): the scale of a decimal isn't from -128 to 127. After these two come the errors of
+    ///   `DecimalDType::try_new` (1 to 4).
+    /// - `ListElementMissing` (28): a list has no element type.
+    /// - `FixedElementMissing` (29): a fixed-size list has no element type.
+    /// - `MapKeyMissing` (30): a map has no key type. After it come the faults of the key type.
+    /// - `MapValueMissing` (31): a map has no value type. After it come the faults of the value type.
+    /// - `MapKeyNullable` (9): the key type of a map is nullable.
+    /// - `StructLengths` (32): a struct has more or fewer names than types. Before it come the faults of the field
+    ///   types.
+    /// - `TypeIdRange` (33): a tag of a union isn't from 0 to 255. Before it come the faults of the variant types, and
+    ///   after it the errors of `UnionVariants::try_new` (10 to 13 and 15).
+    /// - `StorageMissing` (34): an extension has no storage type. After it come the faults of the storage type.
+    /// - `MetadataRefused` (22): the plugin that is registered under the id of an extension doesn't accept the
+    ///   metadata.
+    /// - `ExtensionUnregistered` (35): no plugin is registered under the id of an extension, and the session doesn't
+    ///   keep unknown ids.
     /// - `OutOfMemory` (0): an allocation fails.
     #[tactic(auto, using(crate::proofs::ReadInTurn::gives_reads, crate::proofs::ReadInTurn::gives_in_order, crate::proofs::ReadInTurn::gives_accepts, crate::proofs::ReadInTurn::gives_back))]
     fn from_proto(alloc: Global, proto: &pb::DType, session: &DTypeSession) -> VortexResult<DType>
@@ -93,7 +101,7 @@ impl DTypeProto for DType {
             (message proto.now) (tree t)) }
         ensures message { IfOk result (λ _. IsMessage (message proto.now)) }
 
-        // what is written of an admitted type reads as that type
+        // the message that is written of an admitted type reads as that type
         ensures back { (t : Tree) → Valid t → Admits (meaning rewrites session.now) t
             → message proto.now ≡ written t
             → Makes result (λ u. tree u ≡ t) }
@@ -102,8 +110,8 @@ impl DTypeProto for DType {
         read(alloc, proto, session)
     }
 
-    /// Returns the message that describes the type. It contains every child, every flag, and the metadata of every
-    /// extension, even if the metadata is empty.
+    /// Returns the message that describes the type. It contains every part of the type, every flag, and the metadata of
+    /// every extension type, even if the metadata is empty.
     ///
     /// # Errors
     ///

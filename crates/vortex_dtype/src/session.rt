@@ -1,7 +1,7 @@
 // SPDX-License-Identifier: Apache-2.0
 // SPDX-FileCopyrightText: Copyright the Vortex contributors
 
-// The session: the registered plugins, and whether extensions of unknown ids are kept.
+// The session: the registered plugins, and whether extension types with unknown ids are kept.
 #![tactic(auto, unfolding(crate::specs::Session::meaning, crate::specs::Meaning::empty_meaning, crate::specs::Meaning::register_in, crate::specs::Meaning::allow_unknown_in))]
 
 ghost use Rattle.std.specs.Prelude.{◌≡◌, ◌⊎◌, ◌↔◌, IfOk, IfErr, IsOkUnless, IsSome, IsTrue, OnErr, OnOk, Some};
@@ -23,8 +23,8 @@ use std::alloc::Global;
 use std::collections::HashMap;
 use std::fmt;
 
-/// The plugins that are registered under ids, and whether extensions with unknown ids are kept. Types are read from
-/// messages under a session.
+/// A session: the plugins that are registered under ids, and whether extension types with unknown ids are kept. A type
+/// is read from a message with a session, which decides what its extension types become.
 ///
 /// In contracts a session is `meaning rewrites session`: a function from ids to what the registered plugins do with
 /// metadata, and the flag. The plugin that was registered last under an id is the one that is used
@@ -73,14 +73,14 @@ impl DTypeSession {
         Ok(())
     }
 
-    /// Makes the session keep extensions with unknown ids from now on, with their metadata unchanged.
+    /// Makes the session keep extension types with unknown ids from now on, with their metadata unchanged.
     pub fn allow_unknown(&mut self)
         ensures { meaning rewrites self.new ≡ allow_unknown_in (meaning rewrites self.old) }
     {
         self.allow_unknown = true;
     }
 
-    /// Returns whether the session keeps extensions with unknown ids.
+    /// Returns whether the session keeps extension types with unknown ids.
     pub fn allows_unknown(&self) -> bool
         ensures { result ≡ (meaning rewrites self.now).unknown }
     {
@@ -94,12 +94,12 @@ impl DTypeSession {
         self.plugins.contains_key(id)
     }
 
-    /// Returns the extension with this id and this storage type, with the metadata that the session keeps of these
-    /// bytes. If a plugin is registered under the id, that is what the plugin writes back. If none is registered and
-    /// unknown ids are kept, it is the bytes themselves.
+    /// Returns the extension type with this id, this storage type, and the metadata that the session keeps in place of
+    /// the bytes `metadata`. If a plugin is registered under the id, the session keeps what the plugin writes back. If
+    /// none is registered and the session keeps unknown ids, it keeps the bytes unchanged.
     ///
-    /// Metadata that the session kept is kept unchanged if it is read again, and the outer nullability of the storage
-    /// type makes no difference to which metadata is kept.
+    /// If the kept metadata is read again, it is kept unchanged. Which metadata is kept doesn't depend on the outer
+    /// nullability of the storage type.
     ///
     /// # Errors
     ///
@@ -136,7 +136,8 @@ impl DTypeSession {
         self.extension_of(id, metadata, storage)
     }
 
-    // The extension of this id over this storage, with the metadata that the session keeps of these bytes.
+    // Returns the extension type with this id, this storage type, and the metadata that the session keeps in place of
+    // these bytes.
     fn extension_of(&self, id: &str, metadata: &[u8], storage: DType) -> VortexResult<ExtDTypeRef>
         ensures made { IfOk result (λ e.
             extension_tree e ≡ extension id.now (extension_metadata e) (tree storage)) }
@@ -168,9 +169,10 @@ impl fmt::Debug for DTypeSession {
     }
 }
 
-/// In every session all plugins are lawful: each writes metadata that it wrote back before unchanged, and the outer
-/// nullability of the storage type makes no difference. A caller names this law when a theorem requires a lawful
-/// session, for example to write a type and read it back.
+/// In each session `session` all plugins are lawful (`LawfulSession`): metadata that a plugin has written back is
+/// written back unchanged if it is read again, and the outer nullability of the storage type makes no difference. A
+/// caller calls this law when a theorem requires a lawful session, for example to prove that a type that is written as
+/// a message is read back as the same type.
 ///
 /// About [`DTypeSession::deserialize`].
 pub fn session_laws(session: &DTypeSession)

@@ -13,7 +13,7 @@ use std::alloc::Global;
 use std::io::Write;
 use vortex_dtype::{DType, FieldPath, FieldPathSet};
 
-// Writes the answer to each line of the text, then the line of the cover of their paths, and flushes.
+// Writes the answer to each line of the text, then the line of the least of their paths, and flushes the writer.
 pub fn write_answers<W: Write>(
     alloc: Global,
     dtype: &DType,

@@ -10,7 +10,7 @@ use std::alloc::Global;
 use std::io::Write;
 use vortex_dtype::{FieldPathSet, VortexResult};
 
-// Writes the line of the cover of the paths.
+// Writes the line of the least paths, which begins with `cover:`.
 pub fn write_cover<W: Write>(
     alloc: Global,
     paths: FieldPathSet,
@@ -26,7 +26,7 @@ pub fn write_cover<W: Write>(
     Ok(())
 }
 
-// Returns the texts of the cover of the paths, in the order of their bytes. The only error is `OutOfMemory` (0).
+// Returns the texts of the least paths of the set, in the order of their bytes. The only error is `OutOfMemory` (0).
 fn cover_texts(alloc: Global, paths: FieldPathSet) -> VortexResult<Vec<String>>
     ensures cover { IfOk result (λ v. IsCover paths (map (λ s. string_bytes s) v.items)) }
     ensures errors { IsOkUnless result OutOfMemory }

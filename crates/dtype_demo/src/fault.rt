@@ -9,7 +9,7 @@ use std::error::Error;
 use std::fmt;
 use vortex_dtype::VortexError;
 
-/// Why the program failed.
+/// Why the program failed, for example `InputTooLong`, which prints `input too long`.
 #[derive(Clone, Copy, Debug, PartialEq, Eq)]
 pub enum DemoFault {
     /// The reader failed.
@@ -50,7 +50,7 @@ impl From<AllocError> for DemoFault {
     }
 }
 
-// Out of memory is the only error of the library calls that the program makes.
+// Running out of memory is the only error that the library calls of the program return.
 impl From<VortexError> for DemoFault {
     ghost from_gives = { λ _ e. e ≡ OutOfMemory };
 

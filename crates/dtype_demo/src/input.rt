@@ -8,11 +8,11 @@ use crate::DemoFault;
 use std::alloc::Global;
 use std::io::Read;
 
-/// The greatest number of bytes of input that the program takes.
+/// The greatest number of bytes of input that the program accepts.
 pub const INPUT_LIMIT: usize = 1_048_576;
 
-// Reads the whole input, up to the limit. Where there is more, only one byte past the limit is read. Each read but the
-// last gives a byte, so there are at most as many reads as bytes, and one.
+// Returns the whole input, up to the limit. If there is more, only one byte past the limit is read. Each read except
+// the last returns at least one byte, so the number of reads is at most one more than the number of bytes.
 pub fn read_all<R: Read>(alloc: Global, reader: &mut R) -> Result<Vec<u8>, DemoFault>
     ensures all { IfOk result (λ v. IfSome (R.remaining reader.old) (λ bytes. v.items ≡ bytes)) }
     ensures within { IfOk result (λ v. vec_len v ≤ input_limit) }

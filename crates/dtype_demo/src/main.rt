@@ -3,14 +3,16 @@
 
 //! A program that prints, for each field path on standard input, the type at that path in one fixed type.
 //!
-//! Each line is a path. It is split at `.`; the part `[]` is the element of a list, every other part is a name, and the
-//! empty line is the root. The type is `{a=list({b=u32})?, f=fixed_size_list(u8)[2]}`. For each line the program prints
-//! the path, ` = `, and the type found or `none`. The last line is `cover:` and, each after a space, the paths of which
-//! no other path is a beginning, in the order of the bytes of their texts.
+//! Each line of the input is a path, whose parts are separated by `.`. The part `[]` is the step to the element of a
+//! list, every other part is a step to the field with that name, and the empty line is the root. The type is
+//! `{a=list({b=u32})?, f=fixed_size_list(u8)[2]}`. For each line the program prints the path, ` = `, and the type at
+//! the path, or `none` if there is none. For example, it prints `$a.[].$b = u32` for the line `a.[].b`. The last line
+//! of the output is `cover:`, followed by the least paths: those of which no other path of the input is a prefix. They
+//! are printed with a space before each, in the order of the bytes of their texts.
 //!
-//! Begin with `run`, which works on any reader and writer. The definitions are in `specs/`: `Lines` (what a line
-//! means), `DemoTree` (the type), `Output` (what is printed), `Faults`. `docs/PROMISES.md` says what is proved and
-//! what is only tested.
+//! Begin with `run`, which works on any reader and writer. The definitions are in `specs/`: `Lines` (the path of a
+//! line), `DemoTree` (the type), `Output` (what is printed) and `Faults` (the texts of the errors). `docs/TRUST.md`
+//! lists what is proved and what is only tested.
 #![tactic(auto)]
 
 ghost use Rattle.std.specs.Prelude.{◌≡◌, ◌+◌, ◌<◌, ◌≤◌, length, IsUtf8, IfErr, IfSome, IsErrOf, OnOk};
@@ -37,19 +39,22 @@ mod tests;
 
 pub use fault::DemoFault;
 
-/// Answers each line of the reader's input to the writer, then writes the cover of the paths, and flushes. It first
-/// reads the whole input, at most 1,048,576 bytes and one more that shows that there are more, in at most as many
-/// reads; then it checks the input for UTF-8; and only then it writes.
+/// Reads the input from the reader, writes one line to the writer for each line of the input, then writes the line of
+/// the least paths, and flushes the writer.
+///
+/// It first reads the whole input: at most 1,048,576 bytes, and one more to find that the input is too long. Then it
+/// checks that the input is UTF-8. Only then does it write.
 ///
 /// # Errors
 ///
-/// In this order; with the first three nothing is written, and with the others any part of the output may be:
+/// The first three come in this order and before `WriteFailed`, and if one of them is returned, nothing has been
+/// written. If one of the last two is returned, a part of the output may have been written.
 ///
 /// - `ReadFailed`: the reader returns an error.
 /// - `InputTooLong`: the input has more than 1,048,576 bytes.
 /// - `NotUtf8`: the input isn't UTF-8.
 /// - `WriteFailed`: the writer returns an error.
-/// - `OutOfMemory`: an allocation fails, while it reads or while it writes.
+/// - `OutOfMemory`: an allocation fails, during the reading or during the writing.
 pub fn run<R: Read, W: Write>(
     alloc: Global,
     reader: &mut R,

@@ -23,7 +23,7 @@ use crate::field_list::FieldList;
 use crate::named::Named;
 use crate::{DType, DTypeIter, FieldDType, FieldIter};
 use dtype_base::{FieldName, FieldNames, IndexedNames, VortexError, VortexResult};
-use std::alloc::Global;
+use std::alloc::{AllocError, Global};
 use std::fmt;
 use std::hash::{Hash, Hasher};
 use std::rc::Rc;
@@ -487,6 +487,28 @@ impl Hash for StructFields {
 
     fn hash<H: Hasher>(&self, state: &mut H) {
         self.hash_into(HashMode::Whole, state);
+    }
+}
+
+/// Collects the fields that an iterator yields into a struct, in order, so that `collect` makes one.
+impl FromIterator<(FieldName, FieldDType)> for StructFields {
+    ghost use Rattle.dtype_types.specs.parts.FieldTypes.{AreValidFields, field_tree};
+    ghost use Rattle.dtype_types.specs.tree.TreeOf.{children, struct_tree};
+    ghost use Rattle.dtype_types.specs.tree.Valid.{Valid};
+
+    type Alloc = Global;
+
+    ghost from_iter_gives = { λ given s. (children s ≡ map (λ p. (p.0, field_tree p.1)) given)
+        × (AreValidFields given → Valid (struct_tree s)) };
+
+    fn from_iter<I: IntoIterator<Item = (FieldName, FieldDType)>>(
+        alloc: Global,
+        fields: I,
+    ) -> Result<StructFields, AllocError> {
+        match StructFields::from_iter(alloc, fields) {
+            Ok(fields) => Ok(fields),
+            Err(_) => Err(AllocError),
+        }
     }
 }
 

@@ -4,10 +4,14 @@
 // Iterators end, and yield as many items as their `len` says, in order.
 ghost use Rattle.std.specs.Prelude.{◌≡◌, IfOk, map, true};
 ghost use Rattle.dtype_types.specs.parts.Lists.{borrowed_pair};
-ghost use Rattle.dtype_types.specs.tree.TreeOf.{children, struct_pairs, with_trees};
+ghost use Rattle.dtype_types.specs.parts.FieldTypes.{AreValidFields, field_tree};
+ghost use Rattle.dtype_types.specs.tree.TreeOf.{children, struct_pairs, struct_tree, with_trees};
+ghost use Rattle.dtype_types.specs.tree.Valid.{Valid};
 
 use std::alloc::Global;
-use vortex_dtype::{DType, FieldName, FieldNames, StructFields, UnionVariants, VortexResult};
+use vortex_dtype::{
+    DType, FieldDType, FieldName, FieldNames, StructFields, UnionVariants, VortexResult,
+};
 
 /// Whether the iterator over the types of fields yields as many as `len` says: it always does.
 pub fn fields_len_is_count(fields: &StructFields) -> bool
@@ -64,6 +68,17 @@ pub fn collect_names_again(alloc: Global, names: FieldNames) -> VortexResult<Fie
     ensures { IfOk result (λ again. again ≡ names) }
 {
     Ok(names.into_iter().collect(alloc)?)
+}
+
+/// Collects fields, each a name and a type, into a struct: the same fields, in order, valid if their types are.
+pub fn collect_fields(
+    alloc: Global,
+    fields: Vec<(FieldName, FieldDType)>,
+) -> VortexResult<StructFields>
+    ensures made { IfOk result (λ s. children s ≡ map (λ p. (p.0, field_tree p.1)) fields.items) }
+    ensures valid { AreValidFields fields.items → IfOk result (λ s. Valid (struct_tree s)) }
+{
+    Ok(fields.into_iter().collect(alloc)?)
 }
 
 /// References to the fields of a struct, as a list of pairs: with the trees of their types, all of them in order.

@@ -1,7 +1,9 @@
 # SPDX-License-Identifier: Apache-2.0
 # SPDX-FileCopyrightText: Copyright the Vortex contributors
 
-"""tools/mutations, over an `rt` that says of a check what it is told."""
+"""tools/mutations, over a `rattle` that says of a check what it is told."""
+import re
+
 from planted import Planted
 
 CRATE = "crates/fixtures_values"
@@ -25,53 +27,69 @@ class Mutations(Planted):
         """What the tool prints of these mutations, and its status, where a check says this; each check is counted."""
         for name, text in mutations.items():
             self.write(f"{CRATE}/wrong/{name}.edit", text)
-        lines = "\n".join([*said, "holes=0"])
+        lines = "\n".join([*said, "only=1 holes=0"])
         self.write("said", f"{lines}\n")
-        self.script("rt", f'[ "$1" = version ] && echo kit && exit; echo check >>{self.top}/checks; cat {self.top}/said')
-        return self.run_tool("mutations", "fixtures_values", XDG_CACHE_HOME=f"{self.top}/cache")
+        self.script("rt", "[ \"$1\" != version ] || echo kit")
+        self.script("rattle", f"echo $@ >>{self.top}/checks; cat {self.top}/said")
+        status, said = self.run_tool("mutations", "fixtures_values")
+        return status, re.sub(r"(?m)^fixtures_values: (\d) checks?, .* processor time\n", "", said)
 
     def test_what_a_clause_refuses_passes(self):
         said = f"fn fixtures_values::two::one: {BY_SEARCH}"
         self.assertEqual(self.tried({"a": ONE}, said), (
-            0, "fixtures_values: a: refused by returns-clause-is\n1 passed, 0 failed\n"))
+            0, "fixtures_values: a: refused by returns-clause-is\n"
+               "1 of 1 mutations are refused: 1 by a clause\n1 passed, 0 failed\n"))
 
     def test_what_was_refused_is_kept(self):
         said = f"fn fixtures_values::two::one: {BY_SEARCH}"
         self.tried({"a": ONE}, said)
         self.assertEqual(self.tried({"a": ONE}, "fn fixtures_values::two::one: proved"), (
-            0, "fixtures_values: a: refused by returns-clause-is (kept)\n1 passed, 0 failed\n"))
+            0, "fixtures_values: a: refused by returns-clause-is (kept)\n"
+               "1 of 1 mutations are refused: 1 by a clause\n1 passed, 0 failed\n"))
         self.write(f"{CRATE}/src/two.rt", f"{SOURCE}\n")
         self.assertEqual(self.tried({"a": ONE}, "fn fixtures_values::two::one: proved")[0], 1)
 
     def test_what_is_still_proved_fails(self):
         self.assertEqual(self.tried({"a": ONE}, "fn fixtures_values::two::one: proved"), (
-            1, "fixtures_values: a: NOT REFUSED\n0 passed, 1 failed\n"))
+            1, "fixtures_values: a: NOT REFUSED\n0 of 1 mutations are refused\n0 passed, 1 failed\n"))
 
     def test_mutations_of_two_functions_are_tried_in_one_check(self):
         said = [f"fn fixtures_values::two::one: {BY_SEARCH}", f"fn fixtures_values::two::two: {BY_HAND}", WRONG_GOAL]
         self.assertEqual(self.tried({"a": ONE, "b": TWO}, *said), (
             0, "fixtures_values: a: refused by returns-clause-is\n"
-               "fixtures_values: b: refused at its proof of returns\n2 passed, 0 failed\n"))
-        self.assertEqual(self.read("checks"), "check\n")
+               "fixtures_values: b: refused at its proof of returns\n"
+               "2 of 2 mutations are refused: 1 at a proof by hand, 1 by a clause\n2 passed, 0 failed\n"))
+        checks = self.read("checks")
+        self.assertEqual(checks.count("\n"), 1)
+        self.assertIn("--only fixtures_values::two::one --only fixtures_values::two::two", checks)
 
     def test_a_proof_that_names_what_is_gone_fails(self):
         said = [f"fn fixtures_values::two::two: {BY_HAND}", NO_FIELD]
         self.assertEqual(self.tried({"b": TWO}, *said), (
-            1, "fixtures_values: b: proof doesn't fit\n0 passed, 1 failed\n"))
+            1, "fixtures_values: b: proof doesn't fit\n0 of 1 mutations are refused\n0 passed, 1 failed\n"))
 
     def test_a_function_that_hangs_on_another_is_tried_alone(self):
         said = [f"fn fixtures_values::two::one: {BY_SEARCH}", f"fn fixtures_values::two::two: {BY_CALL}"]
         self.assertEqual(self.tried({"a": ONE, "b": TWO}, *said), (
             1, "fixtures_values: a: refused by returns-clause-is\n"
-               "fixtures_values: b: only what it calls is refused\n1 passed, 1 failed\n"))
-        self.assertEqual(self.read("checks"), "check\ncheck\n")
+               "fixtures_values: b: only what it calls is refused\n"
+               "1 of 2 mutations are refused: 1 by a clause\n1 passed, 1 failed\n"))
+        self.assertEqual(self.read("checks").count("\n"), 2)
 
     def test_mutations_that_do_not_compile_are_told_apart(self):
-        status, said = self.tried({"a": ONE, "b": TWO})
-        self.script("rt", "[ \"$1\" = version ] && echo kit && exit; echo 'error[unexpected-token]: expected `;`'")
-        status, said = self.run_tool("mutations", "--anew", "fixtures_values", XDG_CACHE_HOME=f"{self.top}/cache")
-        self.assertEqual((status, said), (1, "fixtures_values: a: doesn't compile\nfixtures_values: b: doesn't compile\n"
-                                             "0 passed, 2 failed\n"))
+        self.tried({"a": ONE, "b": TWO})
+        self.script("rattle", "echo 'error[unexpected-token]: expected `;`'")
+        status, said = self.run_tool("mutations", "--anew", "fixtures_values")
+        self.assertEqual(status, 1)
+        self.assertIn("fixtures_values: a: doesn't compile\nfixtures_values: b: doesn't compile\n", said)
+        self.assertIn("fixtures_values: 3 checks, ", said)
+
+    def test_libraries_are_built_but_after_the_gate(self):
+        self.tried({"a": ONE}, f"fn fixtures_values::two::one: {BY_SEARCH}")
+        self.script("rt", "[ \"$1\" = lib ] && exit 1; echo kit")
+        self.assertEqual(self.run_tool("mutations", "fixtures_values"), (
+            2, "mutations: a library below isn't proved\n"))
+        self.assertEqual(self.run_tool("mutations", "--after-ci", "fixtures_values")[0], 0)
 
     def test_a_text_that_is_not_there_fails(self):
         status, said = self.tried({"a": "file: src/two.rt\nold:     7\nnew:     3\n"})

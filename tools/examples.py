@@ -8,12 +8,12 @@ input, so only a run shows that it succeeds.
 
 tools/data/run_by has, each with the calls that it runs, the commands of the console that aren't called as OWNERS and
 NAMED have it (an impl is named by its trait and its type), and where none makes a call a test by its path, or another
-call that is run, in whose crate the call is made."""
+call that is run, in whose crate the call is made. A command with an asterisk runs these calls besides its own: its lines
+show them (tools/evidence.py), and are no examples of them."""
 import re
 from collections import defaultdict
 
-from ledger import fault_of_test, parts_of, public_calls
-from repository import console_rows, crates, libraries, sources_of, text_of
+from repository import console_rows, crates, functions, public_calls, sources_of, text_of
 
 TRANSCRIPT = "crates/dtype_console/stdout"
 RUN_BY = "tools/data/run_by"
@@ -45,11 +45,26 @@ SHOWN = {
 }
 
 
-def listed():
-    """The calls by what runs them, as the list has them."""
+def names_of(listing):
+    """The names of a list in which braces stand for several, as `DType::{is_list, is_map}`."""
+    for it in re.findall(r"(?:[^,{]|\{[^}]*\})+", listing):
+        before, braces, after = re.fullmatch(r"([^{]*)(?:\{(.*)\})?(.*)", it.strip()).groups()
+        yield from (before + name.strip() + after for name in (braces or "").split(","))
+
+
+def listed(mark=""):
+    """The calls by what runs them, as the list has them: with an asterisk those that a command runs besides its own."""
     text = " ".join(text_of(RUN_BY).split())
-    return {runner: [name for it in re.findall(r"(?:[^,{]|\{[^}]*\})+", calls) for name in parts_of(it.strip())[0]]
-            for runner, calls in re.findall(r"([\w:]+): ([^;]+);", text)}
+    return {runner: list(names_of(calls)) for runner, found, calls in re.findall(r"([\w:]+)(\*?): ([^;]+);", text)
+            if found == mark}
+
+
+def fault_of_test(path):
+    """What is wrong with the path of a test, or None."""
+    crate, *rest = path.split("::")
+    file = f"crates/{crate}/src/{'/'.join(rest[:-1])}.rt"
+    is_there = any(it.file == file and it.name == rest[-1] and "#[test]" in it.attributes for it in functions([crate]))
+    return None if is_there else f"there is no test {path}"
 
 
 def commands():
@@ -110,28 +125,27 @@ def makes(name, files):
 
 def check():
     """How many public calls allocate, and each that nothing runs, or that is listed wrongly: where, and the fault."""
-    allocating, lines, rows, faults, run = defaultdict(set), answered(), list(commands()), [], set()
-    for crate, it in public_calls(libraries()):
-        if it.body and re.search("alloc: Global|-> VortexResult<", it.signature):
-            allocating[it.path].add(crate)
-    console = [it for it in crates() if "console" in it]
-    runners = [(row.name, it, "command") for row, calls in rows for it in calls if it in allocating]
-    others = {runner: calls for runner, calls in listed().items() if runner not in {row.name for row, _ in rows}}
-    runners += [(runner, it, "call") for runner, calls in others.items() for it in calls]
-    named = {call for _, call, _ in runners}
-    for runner, call, kind in runners:
-        name, beside = call.rpartition("::")[2], console if kind == "command" else allocating.get(runner, ())
-        is_made = makes(name, (file for crate in beside for file in sources_of(crate)))
-        if call not in allocating:
-            fault = "is no public call that allocates"
-        elif kind == "command":
-            run.update([call] * (is_made and any(is_value(answer) for _, answer in lines[runner])))
-            continue
-        elif runner in named:
-            fault = None if is_made else f"{runner} makes no call of {name}"
+    of_crates, lines, rows, faults, run = defaultdict(set), answered(), list(commands()), [], set()
+    allocating = {it.path for _, it in public_calls() if it.body and re.search("alloc: Global|-> VortexResult<", it.signature)}
+    for crate, it in public_calls():
+        of_crates[it.path].add(crate)
+    console = [file for it in crates() if "console" in it for file in sources_of(it)]
+    names = {row.name for row, _ in rows}
+    for row, calls in rows:
+        is_answered = any(is_value(answer) for _, answer in lines[row.name])
+        run.update(it for it in calls if it in allocating and is_answered and makes(it.rpartition("::")[2], console))
+    faults += [(RUN_BY, f"{runner}*: there is no such command") for runner in listed("*").keys() - names]
+    others = {runner: calls for runner, calls in listed().items() if runner not in names}
+    named = {it for calls in [*others.values(), *(calls for _, calls in rows)] for it in calls}
+    for runner, call in ((runner, it) for runner, calls in others.items() for it in calls):
+        made_in = [file for crate in of_crates.get(runner, ()) for file in sources_of(crate)]
+        if " for " not in call and call not in of_crates:
+            fault = "is no public call"
+        elif runner in named or runner in of_crates:
+            fault = None if makes(call.rpartition("::")[2], made_in) else f"{runner} makes no call of it"
         else:
-            fault = fault_of_test(runner, ())
+            fault = fault_of_test(runner)
         run.add(call)
         faults += [(RUN_BY, f"{call}: {fault}")] * bool(fault)
-    faults += [(RUN_BY, f"{it}, which allocates, isn't run") for it in sorted(allocating.keys() - run)]
+    faults += [(RUN_BY, f"{it}, which allocates, isn't run") for it in sorted(allocating - run)]
     return len(allocating), faults

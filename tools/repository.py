@@ -305,5 +305,24 @@ def is_public(function, names, modules):
     return is_open and (bool(owner and owner.trait) or function.visibility == "pub")
 
 
+def law_of(crate, function):
+    """The name of a law as `crate::laws::name`, or None: a public function of a module `..laws`, or what `laws`
+    re-exports."""
+    laws = f"crates/{crate}/src/laws.rt"
+    if function.owner or function.visibility != "pub" or not os.path.exists(laws):
+        return None
+    if not function.file.endswith("laws.rt"):
+        passed_on = re.search(rf"(?m)^pub use crate::\w+::{function.name};", text_of(laws))
+        return f"{crate}::laws::{function.name}" if passed_on else None
+    return f"{crate}::{os.path.basename(function.file).removesuffix('.rt')}::{function.name}"
+
+
+def public_calls():
+    """The functions of the libraries that a user can call: each its crate and itself, but for laws."""
+    names = {name for crate in libraries() for name in given_out(crate)[0]}
+    return [(crate, it) for crate in libraries() for it in functions([crate])
+            if not law_of(crate, it) and is_public(it, names, given_out(crate)[1])]
+
+
 if __name__ == "__main__":
     print(RT)

@@ -13,8 +13,6 @@ NAME = "crates/dtype_base/src/field_name.rt"
 NULLABILITY = "crates/dtype_base/src/nullability.rt"
 VALIDATED = "Err(VortexError::OutOfMemory) => Err(VortexError::OutOfMemory),"
 SPEC = "crates/dtype_types/specs/tree/Tree.antt"
-LEMMA = "\npub width_below : (n : ℕ) → width n ≤ 8\nwidth_below n = by_cases n\n"
-MADE = "ensures { Makes result (λ n. n ≡ text.now)", "ensures made { Makes result (λ n. n ≡ text.now)"
 CHANGES = [
     (NAMES, "::{AllocError, Global};", "::{AllocError as Gone, Global};", "any function: OutOfMemory where no"),
     ("crates/vortex_dtype/src/ext_dtype.rt", VALIDATED, "", "ExtDType::validate: there is no line any more"),
@@ -43,16 +41,11 @@ CHANGES = [
      "Named::find_counted: is to hand the names on"),
     (SPEC, "", "use Rattle.dtype_base.specs.private.NameOrder.{rising}\n", "LINE: cites specs.private of dtype_base"),
     (SPEC, "", "use Rattle.dtype_base.proofs.Sides.{pairs}\n", f"{SPEC}:LINE: cites proofs of dtype_base"),
-    (SPEC, "", LEMMA, "width_below is a lemma"),
-    (SPEC, "", "\nw_Decides : (n : ℕ) → Decides (is_wide n) (IsWide n)\nw_Decides n =\n  trivial\n", "w_Decides is a"),
-    (SPEC, "", "\npub same : (n : ℕ)\n  → IsWide n ↔ (width n ≡ 8)\nsame n = (f, g)\n", f"{SPEC}: same is a lemma"),
     (NAME, "use std::fmt;", "ghost use Rattle.std.specs.Prelude.{◌≤◌, ◌≡◌};\nuse std::fmt;", "imports ◌≤◌, and uses"),
     (NAME, "use std::fmt;", "ghost use Rattle.std.specs.Prelude.{◌≡◌, codes};\nuse std::fmt;", "imports codes, and"),
     (NULLABILITY, "use std::fmt;", "ghost use Rattle.std.specs.Prelude.{◌≡◌};\nuse std::fmt;",
      f"{NULLABILITY}: imports ◌≡◌ twice"),
-    (NAME, *MADE, f"{NAME}: FieldName::new: made: is to be called ok"),
-    (NAMES, "ensures { Makes result (λ n. n ≡ self.now)", "ensures valid { IfOk result (λ n. n ≡ self.now)",
-     "valid: is of another form"),
+    ("docs/GLOSSARY.md", "| `Beginning p q`", "| `Starting p q`", "docs/GLOSSARY.md:LINE: Starting is defined in no"),
 ]
 
 
@@ -66,9 +59,6 @@ class Borders(Planted):
         self.change(SPEC, "", "use Rattle.dtype_base.proofs.lemmas.Names.{names}\n\n"
                     "abbrev pub IsWide : ℕ → Type 0\nIsWide n = width n ≡ 8\n\n"
                     "pub width : ℕ → ℕ\nwidth n = n\n\nrecord pub Fits (n : ℕ) : Type 0\n  pub below : n ≤ 8\n")
-        self.write(SPEC.replace("Tree", "WidthLaws"), LEMMA)
-        self.change(NAME, *MADE)
-        self.change("tools/borders", "LABELS_OF_TODAY = {", f'LABELS_OF_TODAY = {{"{NAME[7:]} FieldName::new: made", ')
         self.assertRegex(self.run_tool("borders")[1], r"^\d+ passed, 0 failed\n$")
 
     def test_tells_a_definition_that_a_user_cannot_name(self):

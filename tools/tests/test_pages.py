@@ -1,17 +1,14 @@
 # SPDX-License-Identifier: Apache-2.0
 # SPDX-FileCopyrightText: Copyright the Vortex contributors
 
-"""tools/pages, with what it checks by ledger.py, examples.py, speed.py and tools/reference."""
+"""tools/pages, with what it checks by examples.py, speed.py and tools/reference."""
 from planted import Planted
 from repository import version
 
-LEDGER = "docs/PROMISES.md"
 NAME = "crates/dtype_base/src/field_name.rt"
-ROOT = "crates/dtype_base/src/lib.rt"
 TABLE = "crates/console_core/src/names.rt"
 RUN_BY = "tools/data/run_by"
 CALLING = "crates/vortex_dtype/CALLING.md"
-FIND = "`StructFields::find_counted: first"
 CHANGES = [
     ("README.md", "", "```rust\nlet gone = FieldName::gone();\n```\n", "README.md:LINE: no source has this block"),
     ("README.md", "", "```console\n> name a\nb\n```\n", "README.md:LINE: > name a: no golden test has this line and"),
@@ -21,31 +18,21 @@ CHANGES = [
     ("docs/TRUST.md", "", "\n[here](GUIDE.md#gone)\n", "docs/TRUST.md: docs/GUIDE.md has no heading #gone"),
     ("docs/GUIDE.md", "| 0 |", "| 1 |", "docs/GUIDE.md: lacks error 0, OutOfMemory"),
     ("docs/CONSOLE.md", "`name NAME`", "", "docs/CONSOLE.md: lacks the command name NAME"),
-    (LEDGER, FIND, "`StructFields::find_counted: sound", "LINE: StructFields::find_counted has no clause sound"),
-    (LEDGER, "`IndexedNames::find_counted: first`", "`FieldNames::gone`", "LINE: there is no public call FieldNames::g"),
-    (LEDGER, "laws::kept_again", "laws::gone", f"{LEDGER}:LINE: there is no law vortex_dtype::laws::gone"),
-    (LEDGER, "wrong/struct_find_scans`, `", "wrong/gone`, `", "LINE: there is no mutation dtype_types/wrong/gone"),
-    (LEDGER, "console: Lookup by names of 7", "console: By names", f"{LEDGER}:LINE: there is no golden test 'By names"),
-    (LEDGER, "`dtype_base/wrong/f16_takes_four_bytes`", "`dtype_base/must-fail/find_scans`",
-     f"{LEDGER}:LINE: dtype_base/must-fail/find_scans changes IndexedNames::find_counted, which no call of this line"),
-    ("crates/dtype_base/src/ptype.rt", "impl PType {", "impl PType {\n    pub fn digits(self) -> u8 {\n        0\n    }\n",
-     f"{LEDGER}: the call PType::digits stands in no line"),
-    (ROOT, "pub mod laws;", "pub mod laws;\n\npub const MOST: u8 = 76;", f"{LEDGER}: the constant MOST stands in no"),
-    (ROOT, "pub use ptype::PType;", "pub use ptype::{PType, Wide};\npub trait Wide {\n    ghost wide_law: { 1 ≡ 1 };\n}",
-     f"{LEDGER}: the law of a trait Wide: wide_law stands in no line"),
     (TABLE, 'r#""a b""#, "the name itself', 'r#""a c""#, "the name itself', 'the example name "a c" is no golden test'),
     (TABLE, '"", Names(NameCommand::NameCmp)', '"Io (1)", Names(NameCommand::NameCmp)', "name_cmp: there is no error Io"),
     ("crates/console_paths/src/merging.rt", "let merged = merge_nullability(", "let merged = (",
      f"{RUN_BY}: merge_nullability, which allocates, isn't run"),
     ("crates/console_core/src/paths.rt", '"from_step"', '"step"', "FieldPath::from_field: there is no test from_step"),
     (RUN_BY, "", "tests_types::gone: FieldName::new;\n", "FieldName::new: there is no test tests_types::gone"),
-    (RUN_BY, "", "FieldName::new: FieldName::gone;\n", "FieldName::gone: is no public call that allocates"),
+    (RUN_BY, "", "FieldName::inner: FieldName::gone;\n", "FieldName::gone: is no public call"),
+    (RUN_BY, "", "DType::kind: FieldName::from_inner;\n", "FieldName::from_inner: DType::kind makes no call of it"),
+    (RUN_BY, "", "go*: FieldName::inner;\n", "go*: there is no such command"),
     ("docs/TRUST.md", "", "\n| [`E`](../crates/dtype_base/specs/Errors.antt) | 900 | errors |\n", " lines, not 900"),
     ("docs/TRUST.md", "", "\nsome 4 lines of `specs/`\n", " lines, not 4\n"),
     ("docs/TRUST.md", "", "\n```sh\ntools/gone\n```\n", "docs/TRUST.md: there is no tools/gone"),
     ("docs/TRUST.md", "", "\n`tools/reference --chek`\n", "docs/TRUST.md: tools/reference has no --chek"),
     ("crates/dtype_native/src/integer_ptype.rt", "/// A native integer type: one of", "/// A type: one of",
-     "docs/reference/dtype_native.md: isn't of these sources"),
+     "docs/reference/dtype_native.md isn't of these sources"),
     ("CHANGELOG.md", f"## {version()}", f"## 9.9.9\n\n## {version()}", "its newest version is 9.9.9, the console's"),
     ("docs/benchmarks.csv", "", "find/x/10,30,10\n", "its summary isn't of docs/benchmarks.csv"),
     ("docs/benchmarks.csv", "", "fly/x,20,10\n", "no operation of tools/speed.py has the case fly/x"),
@@ -57,7 +44,7 @@ class Pages(Planted):
         self.assert_each_told("pages", CHANGES)
 
     def test_takes_what_is_there(self):
-        self.change(LEDGER, "", "\n```console\n> name \"a b\"\n\"a b\"\n```\n\n```sh\ntools/reference --check\n```\n")
+        self.change("docs/TRUST.md", "", "\n```console\n> name \"a b\"\n\"a b\"\n```\n\n```sh\ntools/reference --check\n```\n")
         self.assertEqual(self.run_tool("pages")[0], 0)
 
     def test_the_summary_has_the_greatest_ratio(self):
@@ -78,4 +65,6 @@ Returns a name.
 - console: `name "a b"` answers `"a b"`
 - console: `name b c` answers `refused 0: out of memory`
 """, self.read("docs/reference/dtype_base.md"))
-        self.assertIn("[`FieldName::new`](dtype_base.md#fieldnamenew)", self.read("docs/reference/README.md"))
+        front = self.read("docs/reference/README.md")
+        self.assertIn("[`FieldPath::resolve`](dtype_paths.md#fieldpathresolve)", front)
+        self.assertIn("[field_name](dtype_base.md#field_name)", front)

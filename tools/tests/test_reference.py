@@ -2,9 +2,12 @@
 # SPDX-FileCopyrightText: Copyright the Vortex contributors
 
 """tools/reference, over faults in what stands behind the calls."""
+import os
+
 from planted import Planted
 
 LAWS = "crates/dtype_paths/src/laws.rt"
+PTYPE = "crates/dtype_base/src/ptype.rt"
 
 
 class Reference(Planted):
@@ -26,6 +29,29 @@ class Reference(Planted):
     def test_a_mutation_of_no_item_fails(self):
         self.change("crates/dtype_paths/wrong/open_counts_no_visit.edit", "of: FieldPathSet::into_iter_counted\n", "")
         self.assert_fails("open_counts_no_visit.edit: is of no public item")
+
+    def test_a_mutation_of_a_call_that_does_not_reach_it_fails(self):
+        self.change("crates/dtype_paths/wrong/open_counts_no_visit.edit", "of: FieldPathSet::into_iter_counted",
+                    "of: FieldPath::parts")
+        self.assert_fails("changes Node::open, which FieldPath::parts doesn't reach")
+
+    def test_a_call_without_a_clause_fails(self):
+        self.change(PTYPE, "impl PType {", "impl PType {\n    pub fn digits(self) -> u8 {\n        0\n    }\n")
+        self.assert_fails("PType::digits has no clause")
+
+    def test_an_impl_without_a_clause_fails(self):
+        self.change("crates/dtype_base/src/vortex_error.rt", "    ghost from_gives = { λ _ e. e ≡ OutOfMemory };\n\n"
+                    "    fn from(_error: AllocError)", "    fn from(_error: AllocError)")
+        self.assert_fails("VortexError::from has no clause")
+
+    def test_a_call_that_nothing_shows_fails(self):
+        self.change(PTYPE, "impl PType {", "impl PType {\n    pub fn digits(self) -> u8\n        ensures { result ≡ 0 }\n"
+                    "    {\n        0\n    }\n")
+        self.assert_fails("PType::digits has neither a mutation nor an expected answer nor a test")
+
+    def test_a_mutation_that_is_gone_shows_in_the_reference(self):
+        os.remove(f"{self.top}/crates/dtype_paths/wrong/open_counts_no_visit.edit")
+        self.assert_fails("docs/reference/dtype_paths.md isn't of these sources")
 
     def test_a_clause_that_is_gone_shows_in_the_reference(self):
         file = "crates/dtype_paths/src/field_path_set.rt"

@@ -11,8 +11,12 @@
 //! are printed with a space before each, in the order of the bytes of their texts.
 //!
 //! Begin with `run`, which works on any reader and writer. The definitions are in `specs/`: `Lines` (the path of a
-//! line), `DemoTree` (the type), `Output` (what is printed) and `Faults` (the texts of the errors). `docs/TRUST.md`
-//! lists what is proved and what is only tested.
+//! line), `DemoTree` (the type), `Output` (what is printed) and `Faults` (the texts of the errors). A last line without
+//! a newline counts, and there is no line after a last newline.
+//!
+//! The clauses of `run` speak of what a reader has left to read and of what a writer has taken. Slices and vectors state
+//! both, and the standard streams state neither. So for the program as it runs only the clause `unwritten` says
+//! something, and the rest is tested (`tools/faults`).
 #![tactic(auto)]
 
 ghost use Rattle.std.specs.Prelude.{◌≡◌, ◌+◌, ◌<◌, ◌≤◌, length, IsUtf8, IfErr, IfSome, IsErrOf, OnOk};

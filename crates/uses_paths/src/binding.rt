@@ -6,15 +6,12 @@
 
 ghost use Rattle.std.specs.Prelude.{◌≡◌, IfNone, IfOk, IfSome, IsErrOf, IsTrue, List, OnOk};
 ghost use Rattle.std.specs.FinSet as set;
-ghost use Rattle.std.specs.Option.{option_map};
 ghost use Rattle.vortex_dtype.specs.At.{ExistsIn};
-ghost use Rattle.vortex_dtype.specs.Projected.{projected};
 ghost use Rattle.vortex_dtype.specs.TreeOf.{tree};
 ghost use Rattle.vortex_dtype.specs.Types.Field.{Field};
 ghost use Rattle.uses_paths.specs.declared.binding.BindError.TheVariants.{Library, Missing};
 
-use std::alloc::Global;
-use vortex_dtype::{DType, FieldPath, FieldPathSet, VortexError, VortexResult, project_paths};
+use vortex_dtype::{DType, FieldPath, FieldPathSet, VortexError, VortexResult};
 
 /// Why a query isn't bound to a table.
 #[derive(Debug, Drop)]
@@ -61,18 +58,4 @@ pub fn bind(asked: &FieldPathSet, table: &DType) -> Result<(), BindError>
         Some(path) => Err(BindError::Missing(path.try_clone()?)),
         None => Ok(()),
     }
-}
-
-/// What a query reads of a table, where it is bound to it.
-pub fn open_bound(
-    alloc: Global,
-    asked: &FieldPathSet,
-    table: &DType,
-) -> Result<Option<DType>, BindError>
-    ensures opened { IfOk result (λ r. option_map tree r ≡ projected (tree table.now) (set.contains asked.now)) }
-    ensures bound { OnOk result ((p : List Field) → IsTrue (set.contains asked.now p)
-        → ExistsIn (tree table.now) p) }
-{
-    bind(asked, table)?;
-    Ok(project_paths(alloc, table, asked)?)
 }

@@ -4,10 +4,9 @@
 //! A reader that is handed lists of masks: which paths one of them selects, said in words of the set of their paths.
 #![tactic(auto, using(vortex_dtype::proofs::rulesets::mask_lists))]
 
-ghost use Rattle.std.specs.Prelude.{◌↔◌, [], IfOk, IsTrue, List};
+ghost use Rattle.std.specs.Prelude.{◌↔◌, IfOk, IsTrue, List};
 ghost use Rattle.std.specs.FinSet as set;
-ghost use Rattle.std.specs.List.{All, Any};
-ghost use Rattle.vortex_dtype.specs.Covering.{covers};
+ghost use Rattle.std.specs.List.{Any};
 ghost use Rattle.vortex_dtype.specs.In.{In};
 ghost use Rattle.vortex_dtype.specs.PathOrder.{set_of};
 ghost use Rattle.vortex_dtype.specs.Types.Field.{Field};
@@ -23,37 +22,9 @@ pub fn exact_masks(alloc: Global, columns: Vec<FieldPath>) -> VortexResult<Vec<F
     Ok(columns.into_iter().map(FieldMask::Exact).collect(alloc)?)
 }
 
-/// The masks of some columns with all below them: one of them selects a path where the list covers it.
-pub fn prefix_masks(alloc: Global, columns: Vec<FieldPath>) -> VortexResult<Vec<FieldMask>>
-    ensures { IfOk result (λ ms. (q : List Field) → Any (λ m. In m q) ms.items
-        ↔ IsTrue (covers (set_of columns.items) q)) }
-{
-    Ok(
-        columns
-            .into_iter()
-            .map(|path| FieldMask::Prefix(path))
-            .collect(alloc)?,
-    )
-}
-
-/// Whether one of some masks selects the whole.
-pub fn selects_root(masks: &[FieldMask]) -> bool
-    ensures { IsTrue result ↔ Any (λ m. In m []) masks.now }
-{
-    masks.iter().any(|mask| mask.matches_root())
-}
-
 /// Whether one of some masks selects everything.
 pub fn selects_all(masks: &[FieldMask]) -> bool
     ensures { IsTrue result ↔ Any (λ m. (q : List Field) → In m q) masks.now }
 {
     masks.iter().any(|mask| mask.matches_all())
-}
-
-/// Whether all of some masks select everything: then each of them selects this path.
-pub fn all_select(masks: &[FieldMask], path: &FieldPath) -> bool
-    ensures { IsTrue result → All (λ m. In m path.now) masks.now }
-{
-    let _path = path;
-    masks.iter().all(|mask| mask.matches_all())
 }

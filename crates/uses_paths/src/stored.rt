@@ -4,22 +4,21 @@
 //! Schemas stored and read back.
 #![tactic(auto, using(vortex_dtype::proofs::rulesets::messages, vortex_dtype::proofs::rulesets::sessions, vortex_dtype::proofs::rulesets::equality))]
 
-ghost use Rattle.std.specs.Prelude.{◌≡◌, ◌++◌, [], ◌∷◌, IfOk, IsOkUnless, IsTrue, Some, map};
+ghost use Rattle.std.specs.Prelude.{◌≡◌, ◌++◌, [], ◌∷◌, IfOk, IsOkUnless, Some};
 ghost use Rattle.std.specs.Option.{option_map};
 ghost use Rattle.vortex_dtype.specs.Lookups.{first_named};
-ghost use Rattle.vortex_dtype.specs.Types.Nullability.TheVariants.{NonNullable, Nullable};
+ghost use Rattle.vortex_dtype.specs.Types.Nullability.TheVariants.{Nullable};
 ghost use Rattle.vortex_dtype.specs.Types.VortexError.TheVariants.{OutOfMemory};
 ghost use Rattle.vortex_dtype.specs.Valid.{Valid};
 ghost use Rattle.vortex_dtype.specs.TreeOf.{tree, struct_tree, children, fields_of};
 ghost use Rattle.vortex_dtype.specs.Tree.{fields, primitive, struct};
 ghost use Rattle.vortex_dtype.specs.Meaning.{Admits, AdmitsItems};
-ghost use Rattle.vortex_dtype.specs.PathMessage.{steps_of};
 ghost use Rattle.vortex_dtype.specs.Session.{meaning};
 
 use std::alloc::Global;
 use vortex_dtype::{
-    DType, DTypeProto, DTypeSession, ExtDTypePlugin, FieldName, FieldNames, FieldPath,
-    FieldPathProto, Nullability, PType, StructFields, VortexResult, pb,
+    DType, DTypeProto, DTypeSession, FieldName, FieldNames, FieldPathProto, Nullability, PType,
+    StructFields, VortexResult,
 };
 
 /// A type stored as a message and read back: the same type, where the session admits it. Refuses
@@ -38,19 +37,6 @@ pub fn stored_and_read_back(
     DType::from_proto(alloc, &stored, session)
 }
 
-/// Whether the type of a message, stored once more and read back, is the same: it always is.
-pub fn is_kept_by_storing(
-    alloc: Global,
-    proto: &pb::DType,
-    session: &DTypeSession,
-) -> VortexResult<bool>
-    ensures kept { IfOk result (λ b. IsTrue b) }
-{
-    let dtype = DType::from_proto(alloc, proto, session)?;
-    let again = stored_and_read_back(alloc, &dtype, session)?;
-    Ok(again == dtype)
-}
-
 /// The struct of these fields and one column more after them, of nullable numbers.
 pub fn with_column(
     alloc: Global,
@@ -67,39 +53,6 @@ pub fn with_column(
     let dtypes = vec![in alloc; DType::Primitive(numbers, Nullability::Nullable)]?;
     let column = StructFields::new(alloc, names, dtypes)?;
     Ok(DType::Struct(columns.disjoint_merge(alloc, &column)?, n))
-}
-
-/// The same stored and read back, under a session that admits the columns: the schema with the column more.
-pub fn stored_with_column(
-    alloc: Global,
-    columns: &StructFields,
-    name: FieldName,
-    numbers: PType,
-    session: &DTypeSession,
-) -> VortexResult<DType>
-    ensures { Valid (struct_tree columns.now)
-        → AdmitsItems (meaning (λ b. rewrites (b.vtable, b.value)) session.now) (fields_of columns.now)
-        → IfOk result (λ d. tree d
-        ≡ struct (fields (children columns.now ++ (name, primitive numbers Nullable) ∷ [])) NonNullable) }
-{
-    let wider = with_column(alloc, columns, Nullability::NonNullable, name, numbers)?;
-    let stored = wider.to_proto(alloc)?;
-    DType::from_proto(alloc, &stored, session)
-}
-
-/// Whether a copy of a message equals it: it always does.
-pub fn is_kept_by_copying(alloc: Global, proto: &pb::DType) -> VortexResult<bool>
-    ensures kept { IfOk result (λ b. IsTrue b) }
-{
-    Ok(proto.try_clone(alloc)? == *proto)
-}
-
-/// The path that a message says, read from a copy of it.
-pub fn path_of_copy(alloc: Global, proto: &pb::FieldPath) -> VortexResult<FieldPath>
-    ensures names { IfOk result (λ p. steps_of proto.now ≡ map Some p) }
-{
-    let copy = proto.try_clone(alloc)?;
-    FieldPath::from_proto(alloc, &copy)
 }
 
 /// The type of a column as a receiver reads it, or `None` where there is no such column: the column's type, where the

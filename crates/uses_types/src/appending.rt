@@ -4,13 +4,12 @@
 //! A builder of arrays: which arrays it may append.
 #![tactic(auto, using(vortex_dtype::proofs::rulesets::order))]
 
-ghost use Rattle.std.specs.Prelude.{◌≡◌, ◌↔◌, IfOk, IsTrue};
+ghost use Rattle.std.specs.Prelude.{◌≡◌, ◌↔◌, IsTrue};
 ghost use Rattle.dtype_types.specs.nullability.Sub.{Sub};
 ghost use Rattle.dtype_types.specs.tree.TreeOf.{tree};
 ghost use Rattle.dtype_types.specs.values.Value.{IncludedIn};
 
-use std::alloc::Global;
-use vortex_dtype::{DType, VortexResult};
+use vortex_dtype::DType;
 
 /// Whether an array of type `more` may be appended to one of type `dtype`. Then each of its values is a
 /// value of `dtype`.
@@ -28,21 +27,6 @@ pub fn can_append_through(first: &DType, second: &DType, third: &DType) -> bool
 {
     let _third = third;
     first.eq_with_nullability_subset(second)
-}
-
-/// Whether an array may be appended to one of its type made nullable: it always may.
-pub fn can_append_to_nullable(alloc: Global, dtype: &DType) -> VortexResult<bool>
-    ensures { IfOk result (λ b. IsTrue b) }
-{
-    let nullable = dtype.as_nullable(alloc)?;
-    Ok(dtype.eq_with_nullability_subset(&nullable))
-}
-
-/// A type for an array's values beside those of another, of which some may be null.
-pub fn type_for_both(alloc: Global, dtype: &DType, other: &DType) -> VortexResult<DType>
-    ensures { IfOk result (λ d. IncludedIn (tree dtype.now) (tree d)) }
-{
-    Ok(dtype.union_nullability(alloc, other.nullability())?)
 }
 
 /// Whether each of two arrays may be appended to the other. Then their types are equal.

@@ -4,21 +4,17 @@
 //! A binder of expressions: the types of column references, of projections and of joins.
 #![tactic(auto, using(vortex_dtype::proofs::rulesets::null_values))]
 
-ghost use Rattle.std.specs.Prelude.{◌≡◌, ◌↔◌, ◌++◌, ◌∷◌, IfNone, IfOk, IfSome, List, Some};
+ghost use Rattle.std.specs.Prelude.{IfNone, IfOk, IfSome};
 ghost use Rattle.dtype_types.specs.parts.Lookups.{Projects};
 ghost use Rattle.dtype_types.specs.tree.Tree.{Tree};
 ghost use Rattle.dtype_types.specs.tree.TreeOf.{children, tree};
 ghost use Rattle.dtype_types.specs.values.Value.{AddsNull, Of, Value};
 ghost use Rattle.vortex_dtype.specs.At.{At};
 ghost use Rattle.vortex_dtype.specs.Found.{FoundIn};
-ghost use Rattle.vortex_dtype.specs.In.{In, first_part};
-ghost use Rattle.vortex_dtype.specs.Types.Field.{Field};
 
 use std::alloc::Global;
 use vortex_dtype::laws::paths::resolution_is_exact_for_values;
-use vortex_dtype::{
-    DType, Field, FieldMask, FieldName, FieldPath, StructFields, VortexResult, field_path,
-};
+use vortex_dtype::{DType, FieldName, FieldPath, StructFields, VortexResult};
 
 /// Returns the type at the path of a column in a table, or `None` if there is none. Each value that is read at that
 /// path is a value of that type.
@@ -41,21 +37,6 @@ pub fn select(
     ensures { IfOk result (λ s. Projects (children source.now) names.now (children s)) }
 {
     source.project(alloc, names)
-}
-
-/// The fields of a join: those of the one and then those of the other.
-pub fn join(alloc: Global, left: &StructFields, right: &StructFields) -> VortexResult<StructFields>
-    ensures { IfOk result (λ s. children s ≡ children left.now ++ children right.now) }
-{
-    left.disjoint_merge(alloc, right)
-}
-
-/// What is asked below a column, of what is asked of its table.
-pub fn mask_below(mask: FieldMask) -> VortexResult<FieldMask>
-    ensures { IfOk result (λ m. (f : Field) (q : List Field) → first_part mask ≡ Some f
-        → (In m q ↔ In mask (f ∷ q))) }
-{
-    mask.step_into()
 }
 
 /// The type of a column in an outer join: its values, and null.

@@ -28,11 +28,3 @@ pub fn find_among_a_thousand(fields: &StructFields, name: &str) -> (Option<usize
 {
     fields.find_counted(name)
 }
-
-/// Whether two lookups in one struct compare equally many names: they do, for any two names, found
-/// or not.
-pub fn lookups_compare_equally(fields: &StructFields, first: &str, second: &str) -> bool
-    ensures { result ≡ true }
-{
-    fields.find_counted(first).1 == fields.find_counted(second).1
-}

@@ -3,28 +3,15 @@
 
 //! Loops to copy, each with its invariant in `proofs/loops`: a fold with a number, a search, a filter into a list, a rename,
 //! columns that are bound, and a list of children. `over_fields` has a count and a test of all.
-ghost use Rattle.std.specs.Prelude.{◌≡◌, Any, IfNone, IfOk, IfSome, None, Some, find, fold, map};
-ghost use Rattle.std.specs.List.{filter};
-ghost use Rattle.std.specs.Map.{keys_of};
+ghost use Rattle.std.specs.Prelude.{◌≡◌, Any, IfNone, IfOk, IfSome, None, Some, find, map};
 ghost use Rattle.dtype_types.specs.parts.Lookups.{field_types};
 ghost use Rattle.dtype_types.specs.tree.Kinds.{is_nested};
 ghost use Rattle.dtype_types.specs.tree.TreeOf.{children, tree};
 ghost use Rattle.vortex_dtype.specs.Along.{along};
-ghost use Rattle.uses_types.specs.Loops.{renaming, with_buffers};
+ghost use Rattle.uses_types.specs.Loops.{renaming};
 
 use std::alloc::Global;
 use vortex_dtype::{DType, FieldName, FieldNames, FieldPath, StructFields, VortexResult};
-
-/// How many buffers the columns take: two for one that holds others, and one for any other.
-pub fn count_of_buffers(table: &StructFields) -> u64
-    ensures { result ≡ fold with_buffers 0 (field_types (children table.now)) }
-{
-    let mut count = 0u64;
-    for dtype in table.fields() {
-        count = count.saturating_add(if dtype.is_nested() { 2 } else { 1 });
-    }
-    count
-}
 
 /// The first column that holds others.
 pub fn first_nested(table: &StructFields) -> Option<&DType>
@@ -37,19 +24,6 @@ pub fn first_nested(table: &StructFields) -> Option<&DType>
         }
     }
     None
-}
-
-/// The names of the columns that hold others.
-pub fn nested_names(alloc: Global, table: &StructFields) -> VortexResult<Vec<FieldName>>
-    ensures { IfOk result (λ names. names.items ≡ keys_of (filter (λ p. is_nested p.1) (children table.now))) }
-{
-    let mut names = Vec::new(alloc);
-    for pair in table.pairs() {
-        if pair.1.is_nested() {
-            names.push(pair.0.try_clone(alloc)?)?;
-        }
-    }
-    Ok(names)
 }
 
 /// The names, with each that is `from` changed to `to`.
@@ -87,15 +61,4 @@ pub fn bind_all<'a>(
         }
     }
     Ok(Some(types))
-}
-
-/// Copies of the columns' types.
-pub fn types_of_columns(alloc: Global, table: &StructFields) -> VortexResult<Vec<DType>>
-    ensures { IfOk result (λ types. map tree types.items ≡ field_types (children table.now)) }
-{
-    let mut types = Vec::new(alloc);
-    for dtype in table.fields() {
-        types.push(dtype.try_clone(alloc)?)?;
-    }
-    Ok(types)
 }

@@ -4,14 +4,13 @@
 //! Sessions that a contract gives by what is registered: what they keep of an extension's metadata.
 #![tactic(auto, using(vortex_dtype::proofs::rulesets::registrations, vortex_dtype::proofs::rulesets::keeping))]
 
-ghost use Rattle.std.specs.Prelude.{◌≡◌, ℕ, List, IfOk, IsErr, IsFalse, None, Some, codes};
-ghost use Rattle.vortex_dtype.specs.Meaning.{Rewrites, empty_meaning, keeps, register_in};
+ghost use Rattle.std.specs.Prelude.{◌≡◌, IfOk, IsErr, Some, codes};
+ghost use Rattle.vortex_dtype.specs.Meaning.{Rewrites, empty_meaning, register_in};
 ghost use Rattle.vortex_dtype.specs.Session.{meaning};
-ghost use Rattle.vortex_dtype.specs.Tree.{Tree};
 ghost use Rattle.vortex_dtype.specs.TreeOf.{extension_metadata, tree};
 ghost use Rattle.vortex_dtype.specs.Valid.{Valid};
 
-use vortex_dtype::{DType, DTypeSession, ExtDTypePlugin, ExtDTypeRef, VortexResult};
+use vortex_dtype::{DType, DTypeSession, ExtDTypeRef, VortexResult};
 
 /// An amount of money, in a session that knows money alone: its metadata is what the plugin writes back.
 pub fn amount(session: &DTypeSession, metadata: &[u8], storage: DType) -> VortexResult<ExtDTypeRef>
@@ -33,12 +32,4 @@ pub fn date_where_money_is_known(
         → Valid (tree storage) → IsErr result }
 {
     Ok(session.deserialize("shop.date", metadata, storage)?)
-}
-
-/// Whether a session may keep an extension of the id: where not, it keeps nothing.
-pub fn may_keep(session: &DTypeSession, id: &str) -> bool
-    ensures { IsFalse result → (bytes : List ℕ) (t : Tree)
-        → keeps (meaning (λ b. rewrites (b.vtable, b.value)) session.now) id.now bytes t ≡ None }
-{
-    session.registry(id) || session.allows_unknown()
 }

@@ -4,15 +4,15 @@
 //! Struct types and their columns: from a type to what it has, and back.
 #![tactic(auto, using(vortex_dtype::proofs::rulesets::structs, vortex_dtype::proofs::rulesets::equality))]
 
-ghost use Rattle.std.specs.Prelude.{◌≡◌, ◌↔◌, IfOk, IsTrue, Some};
-ghost use Rattle.vortex_dtype.specs.Kinds.{struct_fields};
-ghost use Rattle.vortex_dtype.specs.Nullable.{nullability};
+ghost use Rattle.std.specs.Prelude.{◌≡◌, IfOk, Some, map};
+ghost use Rattle.vortex_dtype.specs.FieldTypes.{AreValidFields, field_tree};
 ghost use Rattle.vortex_dtype.specs.Tree.{Fields, pairs, struct};
 ghost use Rattle.vortex_dtype.specs.TreeOf.{children, fields_of, shown, struct_tree, tree};
 ghost use Rattle.vortex_dtype.specs.Types.Nullability.{Nullability};
+ghost use Rattle.vortex_dtype.specs.Valid.{Valid};
 
 use std::alloc::Global;
-use vortex_dtype::{DType, Nullability, StructFields, VortexResult};
+use vortex_dtype::{DType, FieldDType, FieldName, Nullability, StructFields, VortexResult};
 
 /// The columns of a table's type: those that it was made of.
 pub fn columns_of_table<'a>(
@@ -27,25 +27,6 @@ pub fn columns_of_table<'a>(
     table.as_struct_fields_opt()
 }
 
-/// Whether a type is the struct of these columns, whatever its nullability.
-pub fn is_table_of(dtype: &DType, columns: &StructFields) -> bool
-    ensures { IsTrue result
-        ↔ (tree dtype.now ≡ struct (fields_of columns.now) (nullability (tree dtype.now))) }
-{
-    match dtype.as_struct_fields_opt() {
-        Some(own) => *own == *columns,
-        None => false,
-    }
-}
-
-/// Whether tables whose types are equal have the same columns: they always do.
-pub fn equal_tables_have_same_columns(table: &StructFields, other: &StructFields) -> bool
-    requires { struct_tree table.now ≡ struct_tree other.now }
-    ensures { IsTrue result }
-{
-    *table == *other
-}
-
 /// The columns of a table's type that a contract names one after another: their list.
 #[tactic(auto, using(vortex_dtype::proofs::rulesets::listed_fields))]
 pub fn columns_as_said(table: &DType) -> Option<&StructFields>
@@ -55,10 +36,13 @@ pub fn columns_as_said(table: &DType) -> Option<&StructFields>
     table.as_struct_fields_opt()
 }
 
-/// A table's type, which has the table's columns.
-#[tactic(auto, using(vortex_dtype::proofs::rulesets::listed_fields))]
-pub fn type_of_table(alloc: Global, table: &StructFields) -> VortexResult<DType>
-    ensures { IfOk result (λ d. struct_fields (tree d) ≡ Some (children table.now)) }
+/// Collects fields, each a name and a type, into a struct: the same fields, in order, valid if their types are.
+pub fn collect_fields(
+    alloc: Global,
+    fields: Vec<(FieldName, FieldDType)>,
+) -> VortexResult<StructFields>
+    ensures made { IfOk result (λ s. children s ≡ map (λ p. (p.0, field_tree p.1)) fields.items) }
+    ensures valid { AreValidFields fields.items → IfOk result (λ s. Valid (struct_tree s)) }
 {
-    Ok(DType::Struct(table.try_clone(alloc)?, Nullability::NonNullable))
+    Ok(fields.into_iter().collect(alloc)?)
 }

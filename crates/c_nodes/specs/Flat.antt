@@ -5,7 +5,14 @@
 -- bytes of its texts in the same order. The fields of a node and their order are a choice of ours.
 use Rattle.std.specs.Prelude.{ℕ, ℤ, pos, List, [], ◌∷◌, ◌++◌, ◌+◌, length, map, Option, Some, None, Bool, true, false}
 use Rattle.std.specs.List.{flat_map}
-use Rattle.dtype_messages.specs.Message.{Message, Child, Messages, missing, null, bool, primitive, decimal, utf8, binary, list, fixed_size_list, map_of, struct, union, variant, extension, absent, present, no_message, more}
+use Rattle.std.specs.String.{string_bytes}
+use Rattle.std.specs.declared.alloc.Global.{Global}
+use Rattle.std.specs.declared.boxed.Box.{Box}
+use Rattle.std.specs.declared.string.String.{String}
+use Rattle.std.specs.declared.vec.Vec.{Vec}
+use Rattle.dtype_messages.specs.MessageOf.{message, child_message, bytes_of}
+use Rattle.dtype_messages.specs.declared.pb.DType.{DType}
+use Rattle.dtype_messages.specs.Message.{Message, Child, Messages, messages, missing, null, bool, primitive, decimal, utf8, binary, list, fixed_size_list, map_of, struct, union, variant, extension, absent, present, no_message, more}
 use Rattle.c_nodes.specs.declared.node.Node.{Node}
 
 -- a flag as a number
@@ -122,3 +129,13 @@ abbrev mutual
   pub all_texts : Messages → List ℕ
   all_texts no_message = []
   all_texts (more m ms) = flat_texts m ++ all_texts ms
+
+-- the messages of a struct, a union and an extension, by the fields of the plain data
+abbrev pub struct_of : List (String Global) → List DType → Bool → Message
+struct_of names dtypes f = struct (map string_bytes names) (messages (map message dtypes)) f
+
+abbrev pub union_of : List (String Global) → List ℤ → List DType → Bool → Message
+union_of names tags dtypes f = union (map string_bytes names) (messages (map message dtypes)) tags f
+
+abbrev pub extension_of : String Global → Option (Vec ℕ Global) → Option (Box DType Global) → Message
+extension_of id metadata storage = extension (string_bytes id) (child_message storage) (bytes_of metadata)

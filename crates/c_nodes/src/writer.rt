@@ -4,9 +4,9 @@
 // Nodes and texts from messages.
 ghost use Rattle.std.specs.Prelude.{◌≡◌, ◌∷◌, ◌++◌, [], map, IfOk, string_bytes};
 ghost use Rattle.std.specs.List.{flat_map};
-ghost use Rattle.dtype_messages.specs.Message.{extension, messages, struct, union};
+ghost use Rattle.dtype_messages.specs.Message.{messages};
 ghost use Rattle.dtype_messages.specs.MessageOf.{message, kind_message, child_message, bytes_of};
-ghost use Rattle.c_nodes.specs.Flat.{flat_nodes, flat_texts, part_nodes, part_texts, all_nodes, all_texts, bytes_nodes, bytes_texts, text_node, tag_node};
+ghost use Rattle.c_nodes.specs.Flat.{flat_nodes, flat_texts, part_nodes, part_texts, all_nodes, all_texts, bytes_nodes, bytes_texts, text_node, tag_node, struct_of, union_of, extension_of};
 
 use crate::reader::MAX_LEVELS;
 use crate::{Node, NodeFault, node};
@@ -164,8 +164,8 @@ impl Flat {
         nullable: bool,
         levels: u32,
     ) -> Result<(), NodeFault>
-        ensures nodes { IfOk result (λ _. self.new.nodes.items ≡ self.old.nodes.items ++ flat_nodes (struct (map string_bytes names.now) (messages (map message dtypes.now)) nullable)) }
-        ensures texts { IfOk result (λ _. self.new.texts.items ≡ self.old.texts.items ++ flat_texts (struct (map string_bytes names.now) (messages (map message dtypes.now)) nullable)) }
+        ensures nodes { IfOk result (λ _. self.new.nodes.items ≡ self.old.nodes.items ++ flat_nodes (struct_of names.now dtypes.now nullable)) }
+        ensures texts { IfOk result (λ _. self.new.texts.items ≡ self.old.texts.items ++ flat_texts (struct_of names.now dtypes.now nullable)) }
     {
         let (name_count, types) = (number_of(names.len())?, number_of(dtypes.len())?);
         self.node(node::fields_node(10, name_count, 0, types, nullable))?;
@@ -185,8 +185,8 @@ impl Flat {
         nullable: bool,
         levels: u32,
     ) -> Result<(), NodeFault>
-        ensures nodes { IfOk result (λ _. self.new.nodes.items ≡ self.old.nodes.items ++ flat_nodes (union (map string_bytes names.now) (messages (map message dtypes.now)) type_ids.now nullable)) }
-        ensures texts { IfOk result (λ _. self.new.texts.items ≡ self.old.texts.items ++ flat_texts (union (map string_bytes names.now) (messages (map message dtypes.now)) type_ids.now nullable)) }
+        ensures nodes { IfOk result (λ _. self.new.nodes.items ≡ self.old.nodes.items ++ flat_nodes (union_of names.now type_ids.now dtypes.now nullable)) }
+        ensures texts { IfOk result (λ _. self.new.texts.items ≡ self.old.texts.items ++ flat_texts (union_of names.now type_ids.now dtypes.now nullable)) }
     {
         let (name_count, types) = (number_of(names.len())?, number_of(dtypes.len())?);
         let tags = number_of(type_ids.len())?;
@@ -207,8 +207,8 @@ impl Flat {
         storage: &Option<Box<pb::DType>>,
         levels: u32,
     ) -> Result<(), NodeFault>
-        ensures nodes { IfOk result (λ _. self.new.nodes.items ≡ self.old.nodes.items ++ flat_nodes (extension (string_bytes id.now) (child_message storage.now) (bytes_of metadata.now))) }
-        ensures texts { IfOk result (λ _. self.new.texts.items ≡ self.old.texts.items ++ flat_texts (extension (string_bytes id.now) (child_message storage.now) (bytes_of metadata.now))) }
+        ensures nodes { IfOk result (λ _. self.new.nodes.items ≡ self.old.nodes.items ++ flat_nodes (extension_of id.now metadata.now storage.now)) }
+        ensures texts { IfOk result (λ _. self.new.texts.items ≡ self.old.texts.items ++ flat_texts (extension_of id.now metadata.now storage.now)) }
     {
         let (has_storage, has_metadata) = (storage.is_some(), metadata.is_some());
         self.node(node::extension_node(has_storage, has_metadata))?;

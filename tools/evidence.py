@@ -15,7 +15,8 @@ import re
 from collections import defaultdict
 from glob import glob
 
-from examples import TRANSCRIPT, commands, listed
+import golden
+from examples import commands, listed
 from repository import (
     KEPT, anchor_of, bare, crates, functions, functions_of, law_of, libraries, public_calls, signature_of, text_of,
 )
@@ -130,11 +131,11 @@ def lines_by_item():
     also = listed("*")
     calls = {row.name: [*named, *also.get(row.name, ())] for row, named in commands()}
     heading, found = "", defaultdict(list)
-    for line in text_of(TRANSCRIPT).split("\n"):
+    for line, answer in (it for file in golden.FILES for it in golden.tests(file)):
         if line.startswith("# == "):
             heading = line[5:]
-        elif line.startswith("> "):
-            for call in calls.get(line[2:].split(" ")[0], ()):
+        elif answer is not None:
+            for call in calls.get(line.split(" ")[0], ()):
                 found[call].append(heading)
     return found
 

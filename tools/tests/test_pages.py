@@ -34,6 +34,7 @@ CHANGES = [
     ("crates/dtype_native/src/integer_ptype.rt", "/// A native integer type: one of", "/// A type: one of",
      "docs/reference/dtype_native.md isn't of these sources"),
     ("CHANGELOG.md", f"## {version()}", f"## 9.9.9\n\n## {version()}", "its newest version is 9.9.9, the console's"),
+    ("crates/dtype_console/stdin", "", "name b\n", "stdin: its lines aren't those of crates/dtype_console/stdout"),
     ("docs/benchmarks.csv", "", "find/x/10,30,10\n", "its summary isn't of docs/benchmarks.csv"),
     ("docs/benchmarks.csv", "", "fly/x,20,10\n", "no operation of tools/speed.py has the case fly/x"),
 ]
@@ -46,6 +47,12 @@ class Pages(Planted):
     def test_takes_what_is_there(self):
         self.change("docs/TRUST.md", "", "\n```console\n> name \"a b\"\n\"a b\"\n```\n\n```sh\ntools/reference --check\n```\n")
         self.assertEqual(self.run_tool("pages")[0], 0)
+
+    def test_tells_a_line_that_is_too_long(self):
+        long = "a" * 501
+        self.change("crates/dtype_console/stdout", "", f"> name {long}\n{long}\n")
+        self.run_tool("golden.py")
+        self.assert_told("pages", f"a line is longer than 500 characters; tools/data/long_lines has such lines: name {long[:75]}")
 
     def test_the_summary_has_the_greatest_ratio(self):
         self.change("docs/benchmarks.csv", "", "find/x/10,300,10\n")

@@ -16,6 +16,13 @@ KIT = "[ $1 = version ] && echo rattle-kit-1 || echo '  rt ci     {}'"
 # A driver that says the same of all that it can read, and golden files of two lines.
 READS, ROWS = "sed 's/^name_eq a$/unreadable at {1}/; t; s/.*/{0}/'", "rows_from_original bin/driver"
 GOLDEN = "# A name.\n> name a\ntrue\n> name_eq a\nunreadable at 10: expected a name\n"
+# Lines in the form of tools/data/long_lines, and what they are in full.
+LONG_LINES = [
+    ("> nfields {«#=u8|, |0..2»}", "> nfields {0=u8, 1=u8, 2=u8}"),
+    ("«list(*2»u8«)*2»", "list(list(u8))"), ("«#.x #-1.y| |4..2 by 2» 0", "4.x 3.y 2.x 1.y 0"),
+    ("«#@255-#=u8|,|254..255»", "254@1=u8,255@0=u8"), ("«a#:03| |9..11»", "a009 a010 a011"),
+    ("0x«7*#:02x||35..37»", "0xf5fc03"),
+]
 FUZZ = "fuzz bin/driver bin/console"
 FORMS = {"name": "NAME", "type": "T", "find": "NAME S", "contains": "PATH PATH..", "read": "SESSION MSG",
          "set": "NAME insert PATH|missing T|iter", "session": "NAME new|register PLUGIN"}
@@ -64,7 +71,7 @@ class Runs(Planted):
         for file, text in ((f"{TRIED}/must-fail/other.edit", ""), ("crates/dtype_demo/stdout", "right\n"),
                            ("crates/console_core/src/table.rt", table),
                            ("crates/dtype_console/stdin", "# A name.\nname a\nname_eq a\n"),
-                           ("crates/dtype_console/stdout", GOLDEN)):
+                           ("crates/dtype_console/stdout", GOLDEN), ("tools/data/long_lines", "")):
             self.write(file, text)
         self.script("console", "sed 's/^/answer of /'")
         for file, text, command, status, *told in RUNS:
@@ -93,6 +100,16 @@ class Runs(Planted):
         self.assert_told("faults", "the stored run: status 0", "standard input is closed: status 0",
                          "an input of 7 bytes: status 0", "no allocation fails: it made none", "names, on a stack of ",
                          "equal ends, in 2 seconds: status 0", "memory of 4194304 KB: status 0")
+
+    def test_writes_the_lines_of_the_transcript(self):
+        self.write("crates/dtype_console/stdout", f"{GOLDEN}\n# Another.\n")
+        self.assertEqual(self.run_tool("golden.py"), (0, ""))
+        self.assertEqual(self.read("crates/dtype_console/stdin"), "# A name.\nname a\nname_eq a\n\n# Another.\n")
+
+    def test_writes_long_lines_in_full(self):
+        self.write("short", "".join(f"{it}\n" for it, _ in LONG_LINES))
+        said = self.run_tool("long_lines.py", "short")
+        self.assertEqual(said, (0, "".join(f"{it}\n" for _, it in LONG_LINES)))
 
     def test_has_names_of_one_hash_in_order(self):
         names = self.read("tools/data/names_of_one_hash").split()
@@ -148,6 +165,7 @@ class RefusedMemory(Planted):
         lines = ["name a", "set s insert a", "set s iter"]
         self.write("crates/dtype_console/stdin", "".join(f"{it}\n" for it in lines))
         self.write("crates/dtype_console/stdout", "".join(f"> {it}\n{it[0]}\n" for it in lines))
+        self.write("tools/data/long_lines", "")
         self.write("crates/tests_allocations/stdout", "cover {a}: done\n")
         last = 'mark("begin\\n", 6) || mark("end\\n", 4)'
         self.build("dtype_console", "fgets(line, sizeof line, stdin)", "line", refused, freed, last)

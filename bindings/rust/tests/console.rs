@@ -31,6 +31,20 @@ fn golden() -> Vec<(String, String)> {
             found.push((line.to_owned(), answer.join("\n")));
         }
     }
+    found.extend(long_lines());
+    found
+}
+
+/// The same of the lines that are long, which the gate writes in full into the file that `LONG_LINES` names.
+fn long_lines() -> Vec<(String, String)> {
+    let shown = std::env::var_os("LONG_LINES").and_then(|file| fs::read_to_string(file).ok()).unwrap_or_default();
+    let mut lines = shown.lines();
+    let mut found = Vec::new();
+    while let Some(line) = lines.next() {
+        if let Some(asked) = line.strip_prefix("> ") {
+            found.push((asked.to_owned(), lines.next().unwrap_or_default().to_owned()));
+        }
+    }
     found
 }
 

@@ -1,0 +1,63 @@
+#!/usr/bin/env python3
+# SPDX-License-Identifier: Apache-2.0
+# SPDX-FileCopyrightText: Copyright the Vortex contributors
+
+"""The golden tests of the console: lines, each with the answer that is expected. crates/dtype_console/stdout has those
+that are short, as a transcript: each line behind `> ` with its answer below it, and comments and blank lines as they
+are. tools/data/long_lines has the others (tools/long_lines.py says in which form).
+
+    tools/golden.py    writes crates/dtype_console/stdin, which are the lines of stdout without the answers"""
+import sys
+
+import long_lines
+from repository import lines_of
+
+TRANSCRIPT, STDIN = "crates/dtype_console/stdout", "crates/dtype_console/stdin"
+# The files with golden tests, each with what has its lines in full.
+FILES = {TRANSCRIPT: lines_of, long_lines.FILE: long_lines.transcript}
+
+
+def tests(file=TRANSCRIPT):
+    """The lines of a transcript, each with its answer: a comment or a blank line has none."""
+    lines = iter(FILES[file](file))
+    for line in lines:
+        is_asked = line.startswith("> ")
+        yield (line[2:], next(lines, "")) if is_asked else (line, None)
+
+
+def rows():
+    """All golden tests, the long ones too: each line that isn't a comment or blank, and its answer."""
+    return [(line, answer) for file in FILES for line, answer in tests(file) if answer is not None]
+
+
+def stdin():
+    """The lines that the console reads: those of the transcript without the answers."""
+    return [line for line, _ in tests()]
+
+
+def write(answers):
+    """Writes the transcript with these answers in place of its own, in the order of `rows`, and stdin."""
+    left = iter(answers)
+    made = [text for line, answer in tests() for text in ([line] if answer is None else [f"> {line}", next(left)])]
+    write_lines(TRANSCRIPT, made)
+    write_lines(STDIN, stdin())
+
+
+def write_lines(file, lines):
+    with open(file, "w", encoding="utf-8", newline="\n") as it:
+        it.writelines(f"{line}\n" for line in lines)
+
+
+def faults():
+    """That stdin isn't of the transcript, and lines of it that are too long."""
+    if lines_of(STDIN) != stdin():
+        yield STDIN, f"its lines aren't those of {TRANSCRIPT}: run tools/golden.py"
+    for line, answer in tests():
+        if max(len(line), len(answer or "")) > long_lines.LONG:
+            yield TRANSCRIPT, f"a line is longer than {long_lines.LONG} characters; {long_lines.FILE} has such lines: {line[:80]}"
+
+
+if __name__ == "__main__":
+    if sys.argv[1:]:
+        sys.exit(__doc__)
+    write_lines(STDIN, stdin())

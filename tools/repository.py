@@ -98,6 +98,31 @@ def below(names):
     return [crate for crate in crates() if crate in needed]
 
 
+def is_left_built(crate):
+    """Whether all libraries below a crate are there as a run of `rt ci` or `rt lib` built them, of the sources of today."""
+    for it in below([crate]):
+        library = f"crates/{it}/out/rlib/{it}.rlib"
+        files = ["crates.txt", *sources_of(it, ("src", "specs", "proofs"), (".rt", ".antt"))]
+        if it != crate and (not os.path.exists(library) or max(map(os.path.getmtime, files)) > os.path.getmtime(library)):
+            return False
+    return True
+
+
+def rattle_over_built(verb, crate, *flags):
+    """The command, for a crate's folder, that checks or builds it with `rattle` over its libraries as they are built.
+    `rt` would first prove each library anew that `rt ci` has built, because it keeps no sum of what it built."""
+    kit = os.path.dirname(os.path.dirname(os.path.realpath(RT)))
+    under, lower = dependencies(), below([crate])
+    library = lambda it: f"{kit}/rlibs/{it}.rlib" if it not in under else os.path.abspath(f"crates/{it}/out/rlib/{it}.rlib")
+    words = [f"{kit}/bin/rattle", verb, "--crate-name", crate, "src/lib.rt", "-L", f"dependency={kit}/rlibs"]
+    for it in ("std", *under[crate]):
+        words += ["--extern", f"{it}={library(it)}"]
+    for it in lower[:-1]:
+        words += ["-L", f"dependency={os.path.dirname(library(it))}"]
+    return [*words, "--links", f"{crate}=", "--antt-project", f"{kit}/rattle/logic/antt-project.json",
+            "--logic-built", f"{kit}/logic_built", *flags]
+
+
 def version():
     """The newest version of CHANGELOG.md, or None."""
     found = re.search(r"(?m)^## (\d+\.\d+\.\d+)", text_of("CHANGELOG.md"))

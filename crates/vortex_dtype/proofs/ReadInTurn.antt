@@ -25,10 +25,10 @@ use Rattle.vortex_dtype.specs.IsMessage.{IsMessage, AreMessages, AreTags}
 use Rattle.vortex_dtype.specs.Meaning.{Meaning, Admits, LawfulSession}
 use Rattle.vortex_dtype.specs.Numbers.{integer_byte}
 use Rattle.vortex_dtype.specs.ReadInOrder.{read, read_all, read_tags, ◌>>=◌, Gives, Fails}
-use Rattle.vortex_dtype.specs.Reads.{AreBytes, Fault, Reads, ReadsAsNothing}
+use Rattle.vortex_dtype.specs.Reads.{AreBytes, Fault}
 use Rattle.vortex_dtype.specs.Written.{written}
-use Rattle.vortex_dtype.proofs.lemmas.InOrder.{bytes_are, read_reads, tags_reading}
-use Rattle.vortex_dtype.proofs.lemmas.Reads.{reads_accepted, refused_faulty, written_read}
+use Rattle.vortex_dtype.proofs.lemmas.InOrder.{bytes_are, read_fault, read_reads, tags_reading}
+use Rattle.vortex_dtype.proofs.lemmas.Reads.{reads_accepted, written_read}
 use Rattle.dtype_messages.specs.declared.pb.DType.{DType}
 
 bind_fails : {A B : Type 0} (e : VortexError) (r : Result A VortexError) (f : A → Result B VortexError) → Fails e r → Fails e (r >>= f)
@@ -105,12 +105,10 @@ gives_in_order s m (Ok d) g = g
 gives_in_order s m (Err OutOfMemory) g = inl refl
 gives_in_order s m (Err e) g = inr g
 
-pub gives_reads : (s : Meaning) (m : Message) (r : Result Logical VortexError) → Gives tree r (read s m) → MatchResult r (λ t. Reads s m (tree t)) (λ e. (e ≡ OutOfMemory) ⊎ (Fault s m e × ReadsAsNothing s m))
-gives_reads s m r g = MatchResult-weaker r (gives_in_order s m r g) (λ d. read_reads s m (tree d)) (λ e. ⊎_elim inl (λ is. inr (refused_faulty s m e is)))
-
-pub gives_accepts : (s : Meaning) → LawfulSession s → (m : Message) (r : Result Logical VortexError) → IfOk r (λ _. IsMessage m) → Gives tree r (read s m) → IfOk r (λ t. Accepts s m (tree t))
+pub gives_accepts : (s : Meaning) → LawfulSession s → (m : Message) (r : Result Logical VortexError) → IfOk r (λ _. IsMessage m) → Gives tree r (read s m)
+    → MatchResult r (λ t. Accepts s m (tree t)) (λ e. (e ≡ OutOfMemory) ⊎ Fault s m e)
 gives_accepts s l m (Ok d) i g = reads_accepted s m (tree d) l i (read_reads s m (tree d) g)
-gives_accepts s l m (Err e) i g = tt
+gives_accepts s l m (Err e) i g = ⊎_elim inl (λ is. inr (read_fault s m e is)) (gives_in_order s m (Err e) g)
 
 -- the message of an admitted type reads as that type
 pub gives_back : (s : Meaning) (m : Message) (r : Result Logical VortexError) → Gives tree r (read s m) → (t : Tree) → Valid t → Admits s t → m ≡ written t → MatchResult r (λ u. tree u ≡ t) (λ e. e ≡ OutOfMemory)

@@ -1,12 +1,12 @@
 -- SPDX-License-Identifier: Apache-2.0
 -- SPDX-FileCopyrightText: Copyright the Vortex contributors
 
--- When a session and a downcast return an error, and which, except `OutOfMemory`; and each error's number, from
--- `dtype_base`. From the documentation of `deserialize` and `try_downcast`.
+-- When a session returns an error, and which, except `OutOfMemory`; which errors a downcast returns; and each error's
+-- number, from `dtype_base`. From the documentation of `deserialize` and `try_downcast`.
 pub use Rattle.dtype_base.specs.Errors.{fault_number, number_of}
 use Rattle.std.specs.Prelude.{◌≡◌, ◌≢◌, ℕ, List, Option, Some, None, Bool, false}
 use Rattle.dtype_base.specs.declared.vortex_error.VortexError.{VortexError}
-use Rattle.dtype_base.specs.declared.vortex_error.VortexError.TheVariants.{MetadataRefused, ExtensionIdDiffers, Message}
+use Rattle.dtype_base.specs.declared.vortex_error.VortexError.TheVariants.{OutOfMemory, MetadataRefused, ExtensionIdDiffers, Message}
 use Rattle.dtype_base.specs.declared.vortex_error.MessageFault.TheVariants.{ExtensionUnregistered}
 use Rattle.dtype_types.specs.tree.Tree.{Tree}
 use Rattle.vortex_dtype.specs.Meaning.{Meaning, Rewrites}
@@ -28,9 +28,10 @@ abbrev pub Unfit : {M : Type 0} → Option M → (M → Bool) → Type 0
 Unfit None fits = Unit {0}
 Unfit (Some m) fits = fits m ≡ false
 
--- the errors of a downcast, by the extension's id and the vtable's: `ExtensionIdDiffers` (23) where they differ; else
--- `MetadataRefused` (22), and then P holds
-abbrev pub DowncastError : List ℕ → List ℕ → Type 0 → VortexError → Type 0
-DowncastError i j P ExtensionIdDiffers = i ≢ j
-DowncastError i j P MetadataRefused = (i ≡ j) × P
-DowncastError i j P _ = ⊥
+-- the errors of a downcast, by the extension's id and the vtable's: `ExtensionIdDiffers` (23) where they differ,
+-- `MetadataRefused` (22) where they are the same, and `OutOfMemory` (0)
+abbrev pub DowncastError : List ℕ → List ℕ → VortexError → Type 0
+DowncastError i j OutOfMemory = Unit {0}
+DowncastError i j ExtensionIdDiffers = i ≢ j
+DowncastError i j MetadataRefused = i ≡ j
+DowncastError i j _ = ⊥

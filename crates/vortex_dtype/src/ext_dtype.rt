@@ -203,10 +203,11 @@ impl<V: ExtVTable> ExtDType<V> {
             (λ x. V.reads vtable (extension_metadata erased) ≡ Some (V.meant (metadata_of x))) }
         ensures fits { Valid (storage_tree erased) → IfOk result
             (λ x. V.fits vtable (V.meant (metadata_of x)) (storage_tree erased) ≡ true) }
-        ensures errors { IfErr result (λ p. (p.1 ≡ OutOfMemory)
-            ⊎ DowncastError (extension_id erased) (V.id_text vtable)
-            (Valid (storage_tree erased) → Unfit (V.reads vtable (extension_metadata erased))
-            (λ m. V.fits vtable m (storage_tree erased))) p.1) }
+        ensures errors { IfErr result
+            (λ p. DowncastError (extension_id erased) (V.id_text vtable) p.1) }
+        ensures refused { Valid (storage_tree erased) → IfErr result (λ p. p.1 ≡ MetadataRefused
+            → Unfit (V.reads vtable (extension_metadata erased))
+            (λ m. V.fits vtable m (storage_tree erased))) }
     {
         match ExtDType::read_metadata(alloc, &erased, &vtable) {
             Err(fault) => Err((erased, fault)),
@@ -226,11 +227,10 @@ impl<V: ExtVTable> ExtDType<V> {
         ensures id { OnOk result (extension_id erased.now ≡ V.id_text vtable.now) }
         ensures ok { MatchResult result
             (λ m. V.reads vtable.now (extension_metadata erased.now) ≡ Some (V.meant m))
-            (λ e. (e ≡ OutOfMemory)
-            ⊎ DowncastError (extension_id erased.now) (V.id_text vtable.now)
-            (Valid (storage_tree erased.now)
+            (DowncastError (extension_id erased.now) (V.id_text vtable.now)) }
+        ensures refused { Valid (storage_tree erased.now) → IfErr result (λ e. e ≡ MetadataRefused
             → Unfit (V.reads vtable.now (extension_metadata erased.now))
-            (λ m. V.fits vtable.now m (storage_tree erased.now))) e) }
+            (λ m. V.fits vtable.now m (storage_tree erased.now))) }
         ensures fits { Valid (storage_tree erased.now) → IfOk result
             (λ m. V.fits vtable.now (V.meant m) (storage_tree erased.now) ≡ true) }
     {
@@ -252,9 +252,9 @@ impl<V: ExtVTable> ExtDType<V> {
     ) -> VortexResult<()>
         ensures fits { Valid (tree storage.now)
             → OnOk result (V.fits vtable.now (V.meant metadata.now) (tree storage.now) ≡ true) }
-        ensures errors { IfErr result (λ e. (e ≡ OutOfMemory)
-            ⊎ ((e ≡ MetadataRefused) × (Valid (tree storage.now)
-            → V.fits vtable.now (V.meant metadata.now) (tree storage.now) ≡ false))) }
+        ensures errors { IfErr result (λ e. (e ≡ OutOfMemory) ⊎ (e ≡ MetadataRefused)) }
+        ensures refused { Valid (tree storage.now) → IfErr result (λ e. e ≡ MetadataRefused
+            → V.fits vtable.now (V.meant metadata.now) (tree storage.now) ≡ false) }
     {
         match vtable.validate_dtype(alloc, metadata, storage) {
             Ok(()) => Ok(()),

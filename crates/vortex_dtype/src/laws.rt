@@ -102,6 +102,17 @@ pub fn kept_again()
         → keeps s id b t ≡ Some c → Bytes c × (keeps s id c t ≡ Some c) }
 {}
 
+/// For each session whose plugins are lawful, each id and each metadata `b`, the session keeps the same of `b` over a
+/// valid storage type `t` and over `u`, which is `t` with another outer nullability. For example, what it keeps of `AB`
+/// over `utf8` it keeps of `AB` over `utf8?`.
+///
+/// About [`DTypeSession::deserialize`].
+#[tactic(auto, using(crate::proofs::lemmas::Sessions::keeps_outer))]
+pub fn kept_over_each_nullability()
+    ensures { (s : Meaning) → LawfulSession s → (id b : List ℕ) (t u : Tree) (n : Nullability)
+        → Bytes b → Valid t → SetNull t n u → keeps s id b u ≡ keeps s id b t }
+{}
+
 /// Four statements about extension types that aren't known. First, two values of `ForeignExtMetadata` are equal by `==`
 /// exactly if their bytes are the same. Second, two values of `ForeignExtDType` are equal by `==` exactly if their ids
 /// are the same. Third, metadata writes to a hasher what its bytes write. Fourth, a vtable writes to a hasher what its

@@ -19,14 +19,14 @@ ghost use Rattle.dtype_messages.specs.PathNames.{part_names};
 ghost use Rattle.vortex_dtype.specs.PathMessage.{path_of, step_of, steps_of};
 ghost use Rattle.vortex_dtype.specs.IsMessage.{IsMessage};
 ghost use Rattle.vortex_dtype.specs.ReadInOrder.{read};
-ghost use Rattle.vortex_dtype.specs.Reads.{Fault, Reads, ReadsAsNothing};
+ghost use Rattle.vortex_dtype.specs.Reads.{Fault};
 ghost use Rattle.vortex_dtype.specs.Written.{written};
 ghost use Rattle.vortex_dtype.specs.Session.{meaning};
 
 use crate::plugin::ExtDTypePlugin;
 use crate::proto::read::read;
 use crate::proto::write::write;
-use crate::session::{DTypeSession, session_laws};
+use crate::session::DTypeSession;
 use dtype_base::{FieldName, MessageFault, VortexError, VortexResult};
 use dtype_messages::pb;
 use dtype_paths::{Field, FieldPath};
@@ -87,18 +87,15 @@ impl DTypeProto for DType {
     /// - `ExtensionUnregistered` (35): no plugin is registered under the id of an extension, and the session doesn't
     ///   keep unknown ids.
     /// - `OutOfMemory` (0): an allocation fails.
-    #[tactic(auto, using(crate::proofs::ReadInTurn::gives_reads, crate::proofs::ReadInTurn::gives_in_order, crate::proofs::ReadInTurn::gives_accepts, crate::proofs::ReadInTurn::gives_back))]
+    #[tactic(auto, using(crate::proofs::ReadInTurn::gives_in_order, crate::proofs::ReadInTurn::gives_back))]
     fn from_proto(alloc: Global, proto: &pb::DType, session: &DTypeSession) -> VortexResult<DType>
         ensures reads { MatchResult result
-            (λ t. Reads (meaning rewrites session.now) (message proto.now) (tree t))
-            (λ e. (e ≡ OutOfMemory) ⊎ (Fault (meaning rewrites session.now) (message proto.now) e
-            × ReadsAsNothing (meaning rewrites session.now) (message proto.now))) }
+            (λ t. Accepts (meaning rewrites session.now) (message proto.now) (tree t))
+            (λ e. (e ≡ OutOfMemory) ⊎ Fault (meaning rewrites session.now) (message proto.now) e) }
         ensures in_order { MatchResult result
             (λ t. read (meaning rewrites session.now) (message proto.now) ≡ Ok (tree t))
             (λ e. (e ≡ OutOfMemory)
             ⊎ (read (meaning rewrites session.now) (message proto.now) ≡ Err e)) }
-        ensures accepts { IfOk result (λ t. Accepts (meaning rewrites session.now)
-            (message proto.now) (tree t)) }
         ensures message { IfOk result (λ _. IsMessage (message proto.now)) }
 
         // the message that is written of an admitted type reads as that type
@@ -106,7 +103,6 @@ impl DTypeProto for DType {
             → message proto.now ≡ written t
             → Makes result (λ u. tree u ≡ t) }
     {
-        session_laws(session);
         read(alloc, proto, session)
     }
 

@@ -5,18 +5,15 @@
 #![tactic(auto, unfolding(crate::specs::Session::meaning, crate::specs::Meaning::empty_meaning, crate::specs::Meaning::register_in, crate::specs::Meaning::allow_unknown_in))]
 
 ghost use Rattle.std.specs.Prelude.{◌≡◌, ◌⊎◌, ◌↔◌, IfOk, IfErr, IsOkUnless, IsSome, IsTrue, OnErr, OnOk, Some};
-ghost use Rattle.dtype_base.specs.declared.nullability.Nullability.{Nullability};
 ghost use Rattle.dtype_base.specs.declared.vortex_error.VortexError.TheVariants.{OutOfMemory};
-ghost use Rattle.dtype_types.specs.nullability.Nullable.{SetNull};
 ghost use Rattle.dtype_types.specs.tree.TreeOf.{extension_metadata, extension_tree, tree};
 ghost use Rattle.dtype_types.specs.tree.Valid.{Valid};
-ghost use Rattle.dtype_types.specs.tree.Tree.{Tree, extension};
-ghost use Rattle.vortex_dtype.specs.Meaning.{LawfulSession, allow_unknown_in, empty_meaning, keeps, register_in};
+ghost use Rattle.dtype_types.specs.tree.Tree.{extension};
+ghost use Rattle.vortex_dtype.specs.Meaning.{Bytes, LawfulSession, allow_unknown_in, empty_meaning, keeps, register_in};
 ghost use Rattle.vortex_dtype.specs.Errors.{SessionError};
 ghost use Rattle.vortex_dtype.specs.Session.{meaning};
 
 use crate::plugin::{ExtDTypePlugin, boxed_deserialize, boxed_id};
-use dtype_base::laws::slices_hold_bytes;
 use dtype_base::{MessageFault, VortexError, VortexResult};
 use dtype_types::{DType, ExtDTypeRef, ExtId};
 use std::alloc::Global;
@@ -99,7 +96,7 @@ impl DTypeSession {
     /// none is registered and the session keeps unknown ids, it keeps the bytes unchanged.
     ///
     /// If the kept metadata is read again, it is kept unchanged. Which metadata is kept doesn't depend on the outer
-    /// nullability of the storage type.
+    /// nullability of the storage type (`laws::kept_over_each_nullability`).
     ///
     /// # Errors
     ///
@@ -108,7 +105,6 @@ impl DTypeSession {
     /// - `MetadataRefused` (22): exactly if the registered plugin doesn't accept the metadata over this storage type.
     /// - `ExtensionUnregistered` (35): exactly if no plugin is registered under the id and unknown ids aren't kept.
     /// - `OutOfMemory` (0): an allocation fails.
-    #[tactic(auto, using(crate::proofs::lemmas::Sessions::keeps_outer, crate::proofs::lemmas::Sessions::keeps_again))]
     pub fn deserialize(
         &self,
         id: &str,
@@ -123,16 +119,11 @@ impl DTypeSession {
         ensures again { Valid (tree storage) → IfOk result (λ e.
             keeps (meaning rewrites self.now) id.now (extension_metadata e) (tree storage)
             ≡ Some (extension_metadata e)) }
-        ensures outer { (t : Tree) (n : Nullability) → Valid (tree storage) → SetNull (tree storage) n t
-            → keeps (meaning rewrites self.now) id.now metadata.now t
-            ≡ keeps (meaning rewrites self.now) id.now metadata.now (tree storage) }
         ensures valid { Valid (tree storage) → IfOk result (λ e. Valid (extension_tree e)) }
         ensures errors { Valid (tree storage) → IfErr result
             (λ e. (e ≡ OutOfMemory)
             ⊎ SessionError (meaning rewrites self.now) id.now metadata.now (tree storage) e) }
     {
-        session_laws(self);
-        slices_hold_bytes(metadata);
         self.extension_of(id, metadata, storage)
     }
 
@@ -144,6 +135,7 @@ impl DTypeSession {
         ensures kept { Valid (tree storage) → IfOk result (λ e.
             keeps (meaning rewrites self.now) id.now metadata.now (tree storage)
             ≡ Some (extension_metadata e)) }
+        ensures bytes { Bytes metadata.now }
         ensures valid { Valid (tree storage) → IfOk result (λ e. Valid (extension_tree e)) }
         ensures errors { Valid (tree storage) → IfErr result
             (λ e. (e ≡ OutOfMemory)

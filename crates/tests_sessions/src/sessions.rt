@@ -56,6 +56,18 @@ fn a_refused_downcast_hands_back_an_equal_value(rt: HostRuntime) -> Result<(), F
     Ok(())
 }
 
+#[test]
+fn registered_ids_are_sorted(rt: HostRuntime) -> Result<(), Fail> {
+    let alloc = rt.alloc();
+    let mut session = DTypeSession::new(alloc);
+    assert!(rt; session.registered()?.is_empty());
+    session.register(Box::new(alloc, TextAlone)?)?;
+    session.register(Box::new(alloc, PluginOf::new(Tag))?)?;
+    session.register(Box::new(alloc, TextAlone)?)?;
+    assert!(rt; session.registered()?.as_slice() == ["x.tag", "x.text"].as_slice());
+    Ok(())
+}
+
 fn tag(alloc: Global, bytes: &[u8]) -> VortexResult<ExtDType<Tag>> {
     let metadata = TagName(Vec::from_slice(alloc, bytes)?);
     ExtDType::try_new(alloc, metadata, DType::Null)

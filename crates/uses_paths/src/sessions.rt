@@ -4,7 +4,7 @@
 //! Sessions: what is known after registrations, what is kept of metadata, and which errors come.
 #![tactic(auto, using(vortex_dtype::proofs::rulesets::sessions, vortex_dtype::proofs::rulesets::messages))]
 
-ghost use Rattle.std.specs.Prelude.{◌≡◌, IfOk, Some};
+ghost use Rattle.std.specs.Prelude.{◌≡◌, ℕ, List, Contains, IfOk, IsSome, Some, map};
 ghost use Rattle.vortex_dtype.specs.Meaning.{keeps};
 ghost use Rattle.vortex_dtype.specs.Session.{meaning};
 ghost use Rattle.vortex_dtype.specs.TreeOf.{extension_metadata, tree};
@@ -14,6 +14,15 @@ use std::alloc::Global;
 use vortex_dtype::laws::base::slices_hold_bytes;
 use vortex_dtype::laws::session_laws;
 use vortex_dtype::{DType, DTypeSession, ExtDTypePlugin, ExtDTypeRef, VortexResult};
+
+/// Returns the ids that a session knows, for the text of an error. Each id with a plugin is among them.
+pub fn known_ids(session: &DTypeSession) -> VortexResult<Vec<&str>>
+    ensures { (id : List ℕ)
+        → IsSome ((meaning (λ b. rewrites (b.vtable, b.value)) session.now).registered id)
+        → IfOk result (λ ids. Contains (map (λ i. i.now) ids.items) id) }
+{
+    Ok(session.registered()?)
+}
 
 /// An extension read by the second of two plugins of one id: as the second writes it back.
 pub fn read_by_last_plugin(

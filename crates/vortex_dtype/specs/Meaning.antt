@@ -4,7 +4,10 @@
 -- What a plugin and a session mean. From the documentation of `ExtDTypePlugin` and `DTypeSession`: a plugin says which
 -- bytes it writes back for an extension's metadata; a session knows which plugin is registered under an id, and whether
 -- the metadata of unknown ids is kept.
-use Rattle.std.specs.Prelude.{◌≡◌, ℕ, List, Option, Some, None, Bool, true, false, if◌then◌else◌, bytes_eq}
+use Rattle.std.specs.Prelude.{◌≡◌, ◌↔◌, ℕ, List, Option, Some, None, IsSome, Contains, Bool, true, false, if◌then◌else◌, bytes_eq}
+use Rattle.std.specs.Cmp.Lexicographic.{slice_cmp}
+use Rattle.std.specs.List.Sorted.{IsStrictlySortedBy}
+use Rattle.std.specs.Ordering.{nat_cmp}
 pub use Rattle.dtype_base.specs.Bytes.{Bytes}
 use Rattle.dtype_base.specs.declared.nullability.Nullability.{Nullability}
 use Rattle.dtype_base.specs.declared.vortex_error.VortexError.{VortexError}
@@ -40,6 +43,11 @@ register_in i r m = record { registered = λ id. if bytes_eq i id then Some r el
 -- the session that keeps unknown ids from now on
 unfoldable pub allow_unknown_in : Meaning → Meaning
 allow_unknown_in m = record { registered = m.registered; unknown = true }
+
+-- the ids under which a plugin is registered, each once, sorted by their bytes
+pub record ListsIds (m : Meaning) (ids : List (List ℕ)) : Type 0 where
+  pub each : (id : List ℕ) → Contains ids id ↔ IsSome (m.registered id)
+  pub sorted : IsStrictlySortedBy (slice_cmp nat_cmp) ids
 
 -- every plugin of the session is lawful
 pub record LawfulSession (m : Meaning) : Type 0 where

@@ -4,12 +4,15 @@
 // The session: the registered plugins, and whether extension types with unknown ids are kept.
 #![tactic(auto, unfolding(crate::specs::Session::meaning, crate::specs::Meaning::empty_meaning, crate::specs::Meaning::register_in, crate::specs::Meaning::allow_unknown_in))]
 
-ghost use Rattle.std.specs.Prelude.{◌≡◌, ◌⊎◌, ◌↔◌, IfOk, IfErr, IsOkUnless, IsSome, IsTrue, OnErr, OnOk, Some};
+ghost use Rattle.std.specs.Prelude.{◌≡◌, ◌⊎◌, ◌↔◌, IfOk, IfErr, IsOkUnless, IsSome, IsTrue, OnErr, OnOk, Some, map, string_bytes};
+ghost use Rattle.std.specs.HashMap.{IsUnique, keys};
+ghost use Rattle.std.specs.String.{string_eq};
+ghost use Rattle.dtype_base.specs.Errors.{Makes};
 ghost use Rattle.dtype_base.specs.declared.vortex_error.VortexError.TheVariants.{OutOfMemory};
 ghost use Rattle.dtype_types.specs.tree.TreeOf.{extension_metadata, extension_tree, tree};
 ghost use Rattle.dtype_types.specs.tree.Valid.{Valid};
 ghost use Rattle.dtype_types.specs.tree.Tree.{extension};
-ghost use Rattle.vortex_dtype.specs.Meaning.{Bytes, LawfulSession, allow_unknown_in, empty_meaning, keeps, register_in};
+ghost use Rattle.vortex_dtype.specs.Meaning.{Bytes, LawfulSession, ListsIds, allow_unknown_in, empty_meaning, keeps, register_in};
 ghost use Rattle.vortex_dtype.specs.Errors.{SessionError};
 ghost use Rattle.vortex_dtype.specs.Session.{meaning};
 
@@ -89,6 +92,33 @@ impl DTypeSession {
         ensures { IsTrue result ↔ IsSome ((meaning rewrites self.now).registered id.now) }
     {
         self.plugins.contains_key(id)
+    }
+
+    /// Returns the ids under which plugins are registered, each once, sorted by their bytes. For example, after plugins
+    /// of `x.tag` and `x.date` were registered it returns `x.date` and `x.tag`.
+    ///
+    /// # Errors
+    ///
+    /// - `OutOfMemory` (0): an allocation fails.
+    pub fn registered(&self) -> VortexResult<Vec<&str>>
+        ensures { Makes result (λ ids. ListsIds (meaning rewrites self.now) (map (λ id. id.now) ids.items)) }
+    {
+        let mut ids = self.ids()?;
+        ids.sort_unstable();
+        Ok(ids)
+    }
+
+    // The ids under which plugins are registered, in the order of the map.
+    fn ids(&self) -> VortexResult<Vec<&str>>
+        ensures all { Makes result (λ ids. map (λ id. id.now) ids.items
+            ≡ map string_bytes (keys self.now.plugins)) }
+        ensures unique { IsUnique string_eq self.now.plugins }
+    {
+        let mut ids = Vec::with_capacity(self.alloc, self.plugins.len())?;
+        for id in self.plugins.keys() {
+            ids.push(id.as_str())?;
+        }
+        Ok(ids)
     }
 
     /// Returns the extension type with this id, this storage type, and the metadata that the session keeps in place of

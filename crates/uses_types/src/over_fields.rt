@@ -4,6 +4,7 @@
 //! Going over the columns of a table: what holds of all, of any, how many, by chains and by a loop. What an
 //! iterator over types gives is said by their trees.
 ghost use Rattle.std.specs.Prelude.{◌≡◌, ◌↔◌, All, IsTrue, count_by, false};
+ghost use Rattle.std.specs.List.{AllByRecursion, zip};
 ghost use Rattle.dtype_types.specs.tree.Kinds.{is_nested};
 ghost use Rattle.dtype_types.specs.parts.Lookups.{field_types};
 ghost use Rattle.dtype_types.specs.nullability.Nullable.{IsNullable};
@@ -37,4 +38,19 @@ pub fn is_flat(table: &StructFields) -> bool
     ensures { IsTrue result ↔ All (λ t. is_nested t ≡ false) (field_types (children table.now)) }
 {
     count_nested_by_loop(table) == 0
+}
+
+/// Returns whether the columns of two tables are nullable alike, position by position. Columns behind the end of the
+/// shorter table don't count.
+#[tactic(auto, using(vortex_dtype::proofs::rulesets::zipped))]
+pub fn are_nullable_alike(left: &StructFields, right: &StructFields) -> bool
+    ensures { IsTrue result ↔ AllByRecursion (λ p. IsNullable p.0 ↔ IsNullable p.1)
+        (zip (field_types (children left.now)) (field_types (children right.now))) }
+{
+    for (a, b) in left.fields().zip(right.fields()) {
+        if a.is_nullable() != b.is_nullable() {
+            return false;
+        }
+    }
+    true
 }

@@ -17,3 +17,4 @@ pub mod Widened
 pub mod FieldLists
 pub mod Counted
 pub mod Registered
+pub mod Zipped

@@ -27,12 +27,14 @@ pub use Rattle.dtype_paths.proofs.lemmas.Unresolved.{unresolved_paths}
 pub use Rattle.dtype_projection.proofs.lemmas.Descending.{descending, opened_after, opened_nowhere, opened_uncontained}
 pub use Rattle.dtype_projection.proofs.lemmas.Projecting.{projecting, projecting_one}
 -- of vortex_dtype: sessions; and what callers of the crates below need and their own proofs don't: names that are among
--- the names of fields, also each of many, fields that a contract names one after another, and counts
+-- the names of fields, also each of many, fields that a contract names one after another, counts,
+-- and two lists side by side
 pub use Rattle.vortex_dtype.proofs.lemmas.Sessions.{sessions}
 pub use Rattle.vortex_dtype.proofs.lemmas.NamesAmong.{among}
 pub use Rattle.vortex_dtype.proofs.lemmas.EachAmong.{each_among}
 pub use Rattle.vortex_dtype.proofs.lemmas.FieldLists.{listed_fields}
 pub use Rattle.vortex_dtype.proofs.lemmas.Counted.{counted}
+pub use Rattle.vortex_dtype.proofs.lemmas.Zipped.{zipped}
 -- lemmas of these for answers of one's own: the set of paths that a loop collects, and any number of comparisons; and a
 -- union in the other order, for a function's own line, since beside `covering` a search turns it back and forth; and that
 -- types each below the other are equal, for a function's own line too: beside `order` a search goes from `Sub` to `Sub`

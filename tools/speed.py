@@ -14,7 +14,7 @@ PAGE, TABLE = "docs/BENCHMARKS.md", "docs/benchmarks.csv"
 
 # What each is called, and its cases as patterns. The copies of structs come before those of what nests 64 deep.
 OPERATIONS = {name: patterns.split() for name, _, patterns in (line.rpartition(": ") for line in """
-==, also ignoring nullability: eq/* eq_ignore_nullability/*
+==, with and without nullability: eq/* eq_ignore_nullability/*
 hashes: hash/*
 texts: text/*
 element_size: element_size/*
@@ -26,18 +26,18 @@ find among 10,000 fields: find/*/10000
 project a tenth of the fields: project/*
 project all fields: project_all/*
 build a struct of names and types: build/names/*
-the same, and its first find: build/and_find/*
-build it with its names: build/texts/* build/and_drop/*
+build a struct of names and types, and find one name: build/and_find/*
+make the names, and build a struct of them: build/texts/* build/and_drop/*
 read a message: read/*
 write a message: write/*
 copy or set nullability of a struct: copy/wide/* copy/deep/* with_nullability/wide/* with_nullability/deep/*
-merge structs, in the Rust by hand: merge/wide/* merge/deep/* merge_equal/wide/* merge_equal/deep/*
-copy, set nullability of, merge 64 nested lists, extensions: copy/*/64 with_nullability/*/64 merge/*/64 merge_equal/*/64
-path sets: insert, copy: set/from_iter/* set/copy/*
-path sets: contains: set/contains/*
-path sets: cover: set/into_iter/*
+merge structs (in the Rust library by hand): merge/wide/* merge/deep/* merge_equal/wide/* merge_equal/deep/*
+copy, merge, or set nullability of 64 nested lists or extensions: copy/*/64 with_nullability/*/64 merge/*/64 merge_equal/*/64
+path sets, insert or copy: set/from_iter/* set/copy/*
+path sets, contains: set/contains/*
+path sets, cover: set/into_iter/*
 """.strip().split("\n"))}
-SUMMARY = re.compile(r"(?m)^\| Operation \| Time, divided by the Rust's \|\n(?:\|.*\n)*")
+SUMMARY = re.compile(r"(?m)^\| Operation \| Time here, divided by the Rust library's \|\n(?:\|.*\n)*")
 
 
 def number(ratio):
@@ -53,7 +53,7 @@ def summary():
         if row["port_ns"] and float(row["rust_ns"] or 0) and row["case"] != "empty":
             of = (name for name, patterns in OPERATIONS.items() if any(fnmatchcase(row["case"], it) for it in patterns))
             ratios.get(next(of, ""), rest).append((float(row["port_ns"]) / float(row["rust_ns"]), row["case"]))
-    lines = ["| Operation | Time, divided by the Rust's |", "|---|---|"]
+    lines = ["| Operation | Time here, divided by the Rust library's |", "|---|---|"]
     for name, own in ratios.items():
         shown = dict.fromkeys(number(ratio) for ratio, _ in (min(own), max(own)))
         lines.append(f"| {name} | {' to '.join(shown)} |")

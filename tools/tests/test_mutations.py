@@ -2,6 +2,7 @@
 # SPDX-FileCopyrightText: Copyright the Vortex contributors
 
 """tools/mutations, over a `rattle` that says of a check what it is told."""
+import os
 import re
 
 from planted import Planted
@@ -63,6 +64,18 @@ class Mutations(Planted):
         self.assertEqual(checks.count("\n"), 1)
         self.assertIn("--only fixtures_values::two::one --only fixtures_values::two::two", checks)
 
+    def test_mutations_of_one_cycle_are_tried_apart(self):
+        self.write(f"{CRATE}/src/two.rt", SOURCE.replace("pub fn", "#[cycle(both)]\npub fn"))
+        said = [f"fn fixtures_values::two::one: {BY_SEARCH}", f"fn fixtures_values::two::two: {BY_SEARCH}"]
+        self.assertEqual(self.tried({"a": ONE, "b": TWO}, *said)[0], 0)
+        self.assertEqual(self.read("checks").count("\n"), 2)
+
+    def test_a_lemma_of_a_proof_that_fails_refuses_alone(self):
+        said = ["fn fixtures_values::two::one: not proved; it stands on `Rattle.fixtures_values.proofs.Sides.pairs`, which "
+                "antt refuses", "./proofs/Sides.antt:7:1: error: `pairs`: `search`: no proof"]
+        self.assertEqual(self.tried({"a": ONE}, *said)[1].splitlines()[0],
+                         "fixtures_values: a: refused at its proof, at the lemma pairs")
+
     def test_a_proof_that_names_what_is_gone_fails(self):
         said = [f"fn fixtures_values::two::two: {BY_HAND}", NO_FIELD]
         self.assertEqual(self.tried({"b": TWO}, *said), (
@@ -84,12 +97,15 @@ class Mutations(Planted):
         self.assertIn("fixtures_values: a: doesn't compile\nfixtures_values: b: doesn't compile\n", said)
         self.assertIn("fixtures_values: 3 checks, ", said)
 
-    def test_libraries_are_built_but_after_the_gate(self):
+    def test_libraries_are_built_unless_the_gate_has_just_built_them(self):
         self.tried({"a": ONE}, f"fn fixtures_values::two::one: {BY_SEARCH}")
         self.script("rt", "[ \"$1\" = lib ] && exit 1; echo kit")
-        self.assertEqual(self.run_tool("mutations", "fixtures_values"), (
-            2, "mutations: a library below isn't proved\n"))
-        self.assertEqual(self.run_tool("mutations", "--after-ci", "fixtures_values")[0], 0)
+        for arguments, status in ((["--anew"], 1), (["--anew", "--after-ci"], 1), (["--after-ci"], 0)):
+            if status == 0:
+                for crate in ("dtype_base", "dtype_types"):
+                    os.makedirs(f"{self.top}/crates/{crate}/out/rlib/{crate}.rlib")
+            found, said = self.run_tool("mutations", *arguments, "fixtures_values")
+            self.assertEqual((found, "a library below isn't proved" in said), (status, status == 1), said)
 
     def test_a_text_that_is_not_there_fails(self):
         status, said = self.tried({"a": "file: src/two.rt\nold:     7\nnew:     3\n"})

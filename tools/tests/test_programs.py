@@ -156,8 +156,29 @@ class RefusedMemory(Planted):
     }
     """
 
-    def build(self, crate, *parts):
-        self.write(f"crates/{crate}/out/it.c", self.PROGRAM % parts)
+    # A program that extends a set by two paths, each of which makes an allocation, and inserts each on its own.
+    EXTENDS = """#include <stdio.h>
+    #include <stdlib.h>
+    #include <unistd.h>
+    static int insert(void) { void *it = malloc(8); free(it); return it != NULL; }
+    static void mark(const char *line, size_t length) { if (write(2, line, length) != (ssize_t)length) abort(); }
+    static void call(const char *text, int count) {
+        int held = 0;
+        mark("begin\\n", 6);
+        while (held < count && insert()) held++;
+        mark("end\\n", 4);
+        printf(held < count ? "%%s: out of memory, holds the first %%d\\n" : "%%s: ok, %%d\\n", text, %s);
+    }
+    int main(void) {
+        static char out[1 << 12];
+        setvbuf(stdout, out, _IOFBF, sizeof out);
+        call("cover {a}", 1), call("extend {} by a b", 2 + %s);
+        call("item 0 of extend {} by a b", 1), call("item 1 of extend {} by a b", 1);
+    }
+    """
+
+    def build(self, crate, program, *parts):
+        self.write(f"crates/{crate}/out/it.c", program % parts)
         made = f"{self.top}/crates/{crate}/out/{crate}"
         subprocess.run(["cc", "-O0", "-fno-builtin", "-o", made, f"{self.top}/crates/{crate}/out/it.c"], check=True)
 
@@ -168,8 +189,8 @@ class RefusedMemory(Planted):
         self.write("tools/data/long_lines", "")
         self.write("crates/tests_allocations/stdout", "cover {a}: done\n")
         last = 'mark("begin\\n", 6) || mark("end\\n", 4)'
-        self.build("dtype_console", "fgets(line, sizeof line, stdin)", "line", refused, freed, last)
-        self.build("tests_allocations", "once", '"cover {a}: done"', '"cover {a}: out of memory"', "free(zeroed)", "0")
+        self.build("dtype_console", self.PROGRAM, "fgets(line, sizeof line, stdin)", "line", refused, freed, last)
+        self.build("tests_allocations", self.PROGRAM, "once", '"cover {a}: done"', '"cover {a}: out of memory"', "free(zeroed)", "0")
 
     def test_counts_each_allocation(self):
         """Of the tests of the set each fails alone, so that the other answers as ever."""
@@ -184,3 +205,22 @@ class RefusedMemory(Planted):
     def test_tells_memory_that_is_held(self):
         self.run_with(freed="(void)0")
         self.assert_told("refused_memory", "name a: with enough memory 'n', and 1 blocks held")
+
+    def extend_with(self, held="held", more="0"):
+        """Over such a program, whose failed `extend` has so many paths, and makes so many more allocations."""
+        self.run_with()
+        told = ["cover {a}: ok, 1", f"extend {{}} by a b: ok, {2 + int(more)}",
+                *(f"item {it} of extend {{}} by a b: ok, 1" for it in (0, 1))]
+        self.write("crates/tests_allocations/stdout", "".join(f"{it}\n" for it in told))
+        self.build("tests_allocations", self.EXTENDS, held, more)
+
+    def test_tells_at_which_path_an_extend_stopped(self):
+        self.extend_with()
+        self.assertEqual(self.run_tool("refused_memory")[0], 0)
+        for held in ("held < count ? 0 : held", "held == 1 ? 0 : held", "held < count ? 1 : held"):
+            self.extend_with(held)
+            self.assert_told("refused_memory", "refused_memory: extend {} by a b: allocation ")
+
+    def test_tells_an_extend_that_makes_other_allocations_than_its_paths(self):
+        self.extend_with(more="1")
+        self.assert_told("refused_memory", "extend {} by a b: 3 allocations, and its paths, one by one, [1, 1]")

@@ -20,11 +20,13 @@ const INSERTED: [(&str, &str); 4] = [
 // The same, where no node is added.
 const KNOWN: [(&str, &str); 3] = [(".", "a.b"), ("a", "a.b"), ("a.b", "a.b")];
 
-// Paths, and the set that is extended by them.
-const EXTENDED: [(&str, &str); 3] = [
+// Paths, and the set that is extended by them. Each changes the set.
+const EXTENDED: [(&str, &str); 5] = [
     ("a.b x a", ""),
     ("a.b.c a.b.d y", "a x"),
     ("b c d e f g h", "a"),
+    (". a.a.a.a a.b a.a a.a.c x.y.z", "b"),
+    ("b c d e f g h i j k l m n o p q r s t u", "a"),
 ];
 
 // How many children the node has that gets one more. It keeps them in a list or a hash map, whose buckets are counted in
@@ -52,6 +54,21 @@ pub fn tell(rt: &(impl Print + Eprint), alloc: Global) -> Result<()> {
     for (added, old) in EXTENDED.iter() {
         let told = extend(rt, alloc, set(alloc, old)?, paths(alloc, added)?)?;
         println!(rt; "extend {{{old}}} by {added}: {told}")?;
+        tell_items(rt, alloc, added, old)?;
+    }
+    Ok(())
+}
+
+// The insertions of an `extend`, each on its own in a set that has the paths before it, so that its allocations are counted.
+fn tell_items(rt: &(impl Print + Eprint), alloc: Global, added: &str, old: &str) -> Result<()> {
+    let paths = paths(alloc, added)?;
+    for item in 0..paths.len() {
+        let mut set = set(alloc, old)?;
+        for path in &paths[..item] {
+            set.insert(path.try_clone()?)?;
+        }
+        let told = insert(rt, alloc, set, paths[item].try_clone()?)?;
+        println!(rt; "item {item} of extend {{{old}}} by {added}: {told}")?;
     }
     Ok(())
 }

@@ -131,6 +131,37 @@ class Runs(Planted):
         self.assertEqual(said.splitlines()[-1], "| find/wide/10 | 10.0 |")
 
 
+class Sizes(Planted):
+    """Over a console that answers each text as tools/sizes has it, and other lines by a word."""
+
+    CONSOLE = """#!/usr/bin/env python3
+import importlib.machinery, sys
+sys.path.append("{0}/tools")
+sizes = importlib.machinery.SourceFileLoader("sizes", "{0}/tools/sizes").load_module()
+texts = dict(sizes.texts())
+for line in sys.stdin.read().splitlines():
+    print({1})
+"""
+    RIGHT = "texts.get(line, 'ok')"
+
+    def asked(self, answer):
+        self.write("bin/console", self.CONSOLE.format(self.top, answer), 0o755)
+        return self.run_tool("sizes", "bin/console")
+
+    def test_asks_each_command_in_each_size(self):
+        status, said = self.asked(self.RIGHT)
+        self.assertRegex(said, r"^sizes: 6\d,\d{3} lines\n\d+ passed, 0 failed\n$")
+        self.assertEqual(status, 0)
+
+    def test_tells_a_body_that_gives_up_for_one_size(self):
+        for line, told in (("path_text " + ".".join(["[]"] * 56), "sizes: path_text [].[].[]"),
+                           ("cover " + " ".join(f"f{it}" for it in range(23)), "sizes: cover f0 f1 f2 ")):
+            answer = f"{self.RIGHT} if line != '{line}' else 'refused 0: out of memory'"
+            status, said = self.asked(answer)
+            self.assertIn(told, said)
+            self.assertEqual((status, said.splitlines()[-1].partition(", ")[2]), (1, "1 failed"), said)
+
+
 class RefusedMemory(Planted):
     """Over a console that allocates in each of four ways once a line, the first again where it failed, so that it fails
     where all after it fail too; and the same as a program of one call."""

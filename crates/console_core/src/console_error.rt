@@ -14,7 +14,8 @@ pub enum ConsoleError {
         number: u8,
         error: VortexError,
     },
-    /// The library returned an error about a column, whose name follows its text.
+    /// The library returned an error about something that its text doesn't name: the name of a column, or a number, follows
+    /// it.
     #[error("refused {number}: {error}: {name}")]
     Column {
         number: u8,

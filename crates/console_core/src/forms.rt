@@ -25,14 +25,15 @@ pub fn forms_of(topic: Topic) -> &'static [Form] {
 
 impl Form {
     /// Returns whether this is what a form is called: the whole of how it is written, one of several that are joined by
-    /// commas, or its first word.
+    /// commas, or its first word, with a colon behind it or without.
     pub fn is_called(&self, text: &str) -> bool {
         let written = self.0;
         let first = match written.split_once(' ') {
             Some((first, _)) => first,
             None => written,
         };
-        written == text || first == text || written.split(", ").any(|one| one == text)
+        let is_first = first == text || first.strip_suffix(":").is_some_and(|it| it == text);
+        written == text || is_first || written.split(", ").any(|one| one == text)
     }
 }
 
@@ -102,7 +103,7 @@ const ANSWERS: [Form; 14] = [
     Form("ok", "the call returns nothing, and did what it says", "set s new"),
     Form("-", "an empty list", "names {}"),
     Form(r#""""#, "an empty text; in a text a newline is \\n", r#"name_text """#),
-    Form("refused N: TEXT", "the library returns the error of this number, also for a type in the line that can't be made; help N shows one, help errors all; 16 and 18 name the column behind the text", "type decimal(0,0)"),
+    Form("refused N: TEXT", "the library returns the error of this number, also for a type in the line that can't be made; help N shows one, help errors all; 16 and 18 name the column behind the text, 25 the number", "type decimal(0,0)"),
     Form("condition: TEXT", "the call needs what isn't so of these arguments, so it isn't made", "as_nonnullable null"),
     Form("unreadable at N: expected TEXT", "the line can't be read from this byte on, counted from 1", "type {a=i32"),
     Form("unknown: TEXT", "there is no set or no session of this name", "set nowhere iter"),
@@ -147,7 +148,7 @@ const ERRORS: [Form; 37] = [
     Form("22", "a plugin rejects the metadata or the storage of an extension", "tag_new 0x21 utf8"),
     Form("23", "an extension has another id", "tag_downcast x.word[0x](utf8)"),
     Form("24", "a message has no kind", "read strict {}"),
-    Form("25", "a message has a number that no primitive type has", "read strict primitive { type: 99 }"),
+    Form("25", "a message has a number that no primitive type has, which is told", "read strict primitive { type: 99 }"),
     Form("26", "a message's precision is above 255", "read strict decimal { precision: 256 }"),
     Form("27", "a message's scale isn't from -128 to 127", "read strict decimal { precision: 1 scale: 128 }"),
     Form("28", "a list's message has no element", "read strict list {}"),

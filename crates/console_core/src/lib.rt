@@ -28,6 +28,7 @@ mod near_types;
 mod own;
 mod paths;
 mod primitives;
+mod quoted;
 mod reader;
 mod sessions;
 mod sets;
@@ -36,6 +37,7 @@ mod table;
 mod types;
 mod unions;
 mod unknown;
+mod whole_numbers;
 mod writer;
 mod written;
 
@@ -75,5 +77,6 @@ pub use types::{
 };
 pub use unions::{UnionByIndex, UnionByName, UnionCommand, UnionQuery};
 pub use unknown::{column_error, unknown_command, unknown_name, unknown_topic};
+pub use whole_numbers::whole_number;
 pub use writer::{MAX_WRITTEN_LEVELS, put, write_name, write_quoted};
 pub use written::Written;

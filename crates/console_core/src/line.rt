@@ -1,7 +1,7 @@
 // SPDX-License-Identifier: Apache-2.0
 // SPDX-FileCopyrightText: Copyright the Vortex contributors
 
-// The rest of a line, and the words, quotes and numbers in it.
+// The rest of a line, and the words and numbers in it.
 use crate::found::{QUOTE_NAMES, has_special, is_special, misread, text_of_found, text_of_next};
 use crate::{ConsoleError, ConsoleResult};
 use dtype_base::FieldName;
@@ -61,8 +61,8 @@ impl<'a> Line<'a> {
         misread(self.position(), text)
     }
 
-    // Returns the error that this was expected where a word is that was read.
-    fn expected_word(&self, position: usize, expected: &str, found: &str) -> ConsoleError {
+    /// Returns the error that this was expected where a word is that was read.
+    pub fn expected_word(&self, position: usize, expected: &str, found: &str) -> ConsoleError {
         misread(position, text_of_found(self.alloc, expected, found, ""))
     }
 
@@ -77,6 +77,28 @@ impl<'a> Line<'a> {
     /// Returns the next byte, if there is one, and doesn't read it.
     pub fn peek(&self) -> Option<u8> {
         self.rest.first().copied()
+    }
+
+    /// Reads the next byte, if there is one, and returns it.
+    pub fn next(&mut self) -> Option<u8> {
+        match self.rest {
+            [byte, rest @ ..] => {
+                self.rest = rest;
+                Some(*byte)
+            }
+            [] => None,
+        }
+    }
+
+    /// Reads a digit of this radix, which is 16 at most, if it is next, and returns its value.
+    pub fn accepts_digit(&mut self, radix: u8) -> Option<u8> {
+        let value = digit(self.peek()?)?;
+        if value < radix {
+            let _ = self.next();
+            Some(value)
+        } else {
+            None
+        }
     }
 
     /// Reads this text if it is next, and returns whether it was.
@@ -228,15 +250,21 @@ impl<'a> Line<'a> {
         T::Err: Drop,
     {
         let position = self.position();
-        let bytes = self.take_while(|byte| byte == b'-' || is_bare(byte));
-        if bytes.is_empty() {
-            return Err(self.expected_here(expected, ""));
-        }
-        let text = self.text_of(bytes, position, expected)?;
+        let text = self.number_word(expected)?;
         match text.parse() {
             Ok(number) => Ok(number),
             Err(_) => Err(self.expected_word(position, expected, text)),
         }
+    }
+
+    /// Reads the word of a number, which may have a minus, and returns it.
+    pub fn number_word(&mut self, expected: &'static str) -> ConsoleResult<&'a str> {
+        let position = self.position();
+        let bytes = self.take_while(|byte| byte == b'-' || is_bare(byte));
+        if bytes.is_empty() {
+            return Err(self.expected_here(expected, ""));
+        }
+        self.text_of(bytes, position, expected)
     }
 
     /// Returns the error that this was expected here, with what is here unless it is a blank or the line's end.
@@ -247,94 +275,8 @@ impl<'a> Line<'a> {
         }
     }
 
-    /// Reads what is in double quotes, after the opening one, and returns its bytes.
-    pub fn quoted(&mut self, alloc: Global) -> ConsoleResult<Vec<u8>> {
-        let mut bytes = Vec::new(alloc);
-        self.add_quoted(&mut bytes, "\"")?;
-        Ok(bytes)
-    }
-
-    /// Reads texts in double or single quotes, one or more with blanks between them, and returns the bytes of all.
-    pub fn joined_texts(&mut self, alloc: Global) -> ConsoleResult<Vec<u8>> {
-        let mut bytes = Vec::new(alloc);
-        let Some(mark) = self.accepts_quote() else {
-            return Err(self.expected_here("a text in quotes", ""));
-        };
-        self.add_quoted(&mut bytes, mark)?;
-        for _ in 0..self.max_items() {
-            let before = self.rest;
-            self.skip_blanks();
-            match self.accepts_quote() {
-                Some(mark) => self.add_quoted(&mut bytes, mark)?,
-                None => {
-                    self.rest = before;
-                    break;
-                }
-            }
-        }
-        Ok(bytes)
-    }
-
-    // Reads a double or a single quote if it is next, and returns it.
-    fn accepts_quote(&mut self) -> Option<&'static str> {
-        if self.accepts("\"") {
-            Some("\"")
-        } else if self.accepts("'") {
-            Some("'")
-        } else {
-            None
-        }
-    }
-
-    // Reads what is in quotes, after the opening one, and adds its bytes to these.
-    fn add_quoted(&mut self, bytes: &mut Vec<u8>, mark: &str) -> ConsoleResult<()> {
-        for _ in 0..self.rest.len() {
-            if self.accepts(mark) {
-                return Ok(());
-            }
-            bytes.push(self.quoted_byte()?)?;
-        }
-        Err(self.expected("a closing quote"))
-    }
-
-    // Reads a byte within quotes, or an escape, and returns the byte.
-    fn quoted_byte(&mut self) -> ConsoleResult<u8> {
-        match self.rest {
-            [b'\\', b'x', rest @ ..] => {
-                self.rest = rest;
-                self.hexadecimal()
-            }
-            [b'\\', rest @ ..] => {
-                self.rest = rest;
-                self.escaped()
-            }
-            [byte, rest @ ..] => {
-                self.rest = rest;
-                Ok(*byte)
-            }
-            [] => Err(self.expected("a closing quote")),
-        }
-    }
-
-    // Reads what is after a backslash, and returns the byte that it means.
-    fn escaped(&mut self) -> ConsoleResult<u8> {
-        for (mark, byte) in [
-            ("\\", b'\\'),
-            ("\"", b'"'),
-            ("'", b'\''),
-            ("t", b'\t'),
-            ("n", b'\n'),
-            ("r", b'\r'),
-        ] {
-            if self.accepts(mark) {
-                return Ok(byte);
-            }
-        }
-        Err(self.expected("an escape"))
-    }
-
-    // Reads two hexadecimal digits, and returns their byte.
-    fn hexadecimal(&mut self) -> ConsoleResult<u8> {
+    /// Reads two hexadecimal digits, and returns their byte.
+    pub fn hexadecimal(&mut self) -> ConsoleResult<u8> {
         match self.rest {
             [high, low, rest @ ..] => match (digit(*high), digit(*low)) {
                 (Some(high), Some(low)) => {
@@ -360,15 +302,6 @@ impl<'a> Line<'a> {
             bytes.push(self.hexadecimal()?)?;
         }
         Ok(bytes)
-    }
-
-    /// Reads a text in quotes, after the opening one, and returns it.
-    pub fn quoted_text(&mut self, alloc: Global) -> ConsoleResult<String> {
-        let position = self.position();
-        match String::from_utf8(self.quoted(alloc)?) {
-            Ok(text) => Ok(text),
-            Err(_) => Err(expected_at(position, "a text in UTF-8")),
-        }
     }
 
     /// Reads a name, bare or in quotes, and returns it.
@@ -473,15 +406,22 @@ impl<'a> Line<'a> {
 
     /// Reads a comma with the blanks around it, if it is next after blanks, and returns whether it was.
     pub fn accepts_comma(&mut self) -> bool {
-        let before = self.rest;
-        self.skip_blanks();
-        let is_comma = self.accepts(",");
+        let is_comma = self.accepts_behind_blanks(",");
         if is_comma {
             self.skip_blanks();
-        } else {
-            self.rest = before;
         }
         is_comma
+    }
+
+    /// Reads this text with the blanks before it, if it is next after blanks, and returns whether it was.
+    pub fn accepts_behind_blanks(&mut self, text: &str) -> bool {
+        let before = self.rest;
+        self.skip_blanks();
+        let is_next = self.accepts(text);
+        if !is_next {
+            self.rest = before;
+        }
+        is_next
     }
 }
 

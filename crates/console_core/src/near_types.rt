@@ -58,13 +58,17 @@ impl NearNames {
     }
 }
 
-/// Returns what to write in place of a type that this library hasn't and Arrow, Parquet or SQL call by this word, whatever
-/// its case, or `None`.
+/// Returns what to write in place of a word: of a type that this library hasn't and Arrow, Parquet or SQL call so, whatever
+/// its case, or of the id of an extension; or `None`.
 pub fn in_place_of(word: &str) -> Option<&'static str> {
     let found = ABSENT
         .iter()
         .find(|(name, _)| name.eq_ignore_ascii_case(word));
-    found.map(|(_, text)| *text)
+    match found {
+        Some((_, text)) => Some(*text),
+        None if word.contains('.') => Some("an extension with its metadata, as x.tag[0x](utf8)"),
+        None => None,
+    }
 }
 
 // Returns the type that Arrow or SQL call by this word, whatever its case, or `None`.

@@ -2,10 +2,13 @@
 // SPDX-FileCopyrightText: Copyright the Vortex contributors
 
 // The command on the types of native types.
-use console_core::{Call, ConsoleResult, Line, expected_at};
+use console_core::{Call, ConsoleResult, Line};
 use dtype_native::NativeDType;
 use dtype_types::DType;
 use std::alloc::Global;
+
+const A_NATIVE_TYPE: &str =
+    "a native type: u8 to u64, i8 to i64, bool, String, &str or &[u8], in up to two of Option<..> and Vec<..>";
 
 /// Answers `native_dtype`.
 pub fn answer(call: &mut Call<'_>) -> ConsoleResult<()> {
@@ -49,7 +52,7 @@ fn native_dtype(call: &mut Call<'_>, first: Owner, second: Owner) -> ConsoleResu
         return of::<&[u8]>(call.alloc, first, second);
     }
     let position = call.line.position();
-    match call.line.word("a native type")? {
+    match call.line.word(A_NATIVE_TYPE)? {
         "u8" => of::<u8>(call.alloc, first, second),
         "u16" => of::<u16>(call.alloc, first, second),
         "u32" => of::<u32>(call.alloc, first, second),
@@ -60,7 +63,7 @@ fn native_dtype(call: &mut Call<'_>, first: Owner, second: Owner) -> ConsoleResu
         "i64" => of::<i64>(call.alloc, first, second),
         "bool" => of::<bool>(call.alloc, first, second),
         "String" => of::<String>(call.alloc, first, second),
-        _ => Err(expected_at(position, "a native type")),
+        other => Err(call.line.expected_word(position, A_NATIVE_TYPE, other)),
     }
 }
 

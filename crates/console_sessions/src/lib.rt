@@ -13,6 +13,7 @@ pub mod path_messages;
 mod reader;
 pub mod sessions;
 pub mod typed;
+mod unknown_numbers;
 mod writer;
 
 pub use sessions::Sessions;

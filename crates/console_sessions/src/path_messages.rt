@@ -39,33 +39,65 @@ fn read_argument(call: &mut Call<'_>) -> ConsoleResult<pb::FieldPath> {
         if call.line.is_at_end() {
             break;
         }
-        path.push(read_part(call.alloc, &mut call.line)?)?;
-        call.line.separate()?;
+        read_parts(call.alloc, &mut call.line, &mut path)?;
+        separate_parts(&mut call.line)?;
     }
     Ok(pb::FieldPath { path })
 }
 
-fn read_part(alloc: Global, line: &mut Line<'_>) -> ConsoleResult<pb::Field> {
+// Reads a part, or a list of parts in square brackets, and adds them to those of a path.
+fn read_parts(alloc: Global, line: &mut Line<'_>, path: &mut Vec<pb::Field>) -> ConsoleResult<()> {
     line.take("path")?;
     line.skip_blanks();
     accept_colon(line);
+    if !line.accepts("[") {
+        return Ok(path.push(read_part(alloc, line)?)?);
+    }
+    line.skip_blanks();
+    let mut is_closed = line.accepts("]");
+    for _ in 0..line.max_items() {
+        if is_closed {
+            break;
+        }
+        path.push(read_part(alloc, line)?)?;
+        is_closed = line.closes("]")?;
+    }
+    Ok(())
+}
+
+// Reads what is between two parts: a comma or a semicolon with the blanks around it, or blanks alone.
+fn separate_parts(line: &mut Line<'_>) -> ConsoleResult<()> {
+    if line.accepts_behind_blanks(",") || line.accepts_behind_blanks(";") {
+        line.skip_blanks();
+        Ok(())
+    } else {
+        line.separate()
+    }
+}
+
+// Reads a part in braces.
+fn read_part(alloc: Global, line: &mut Line<'_>) -> ConsoleResult<pb::Field> {
     let close = open_message(line)?;
     line.skip_blanks();
     let field_type = read_field_type(alloc, line)?;
     line.then(pb::Field { field_type }, close)
 }
 
-// Reads a name, if there is one, and the blanks after it.
+// Reads a name, if there is one, and the blanks after it. Of several names the last counts.
 fn read_field_type(alloc: Global, line: &mut Line<'_>) -> ConsoleResult<Option<pb::FieldType>> {
-    if !line.accepts("name") {
-        return Ok(None);
+    let mut found = None;
+    for _ in 0..line.max_items() {
+        if !line.accepts("name") {
+            break;
+        }
+        line.skip_blanks();
+        line.take(":")?;
+        line.skip_blanks();
+        found = Some(pb::FieldType::Name(read_text(alloc, line)?));
+        end_field(line);
+        line.skip_blanks();
     }
-    line.skip_blanks();
-    line.take(":")?;
-    line.skip_blanks();
-    let name = read_text(alloc, line)?;
-    end_field(line);
-    Ok(Some(pb::FieldType::Name(name)))
+    Ok(found)
 }
 
 fn write_part(out: &mut String, part: &pb::Field) -> VortexResult<()> {

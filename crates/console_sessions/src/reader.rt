@@ -2,7 +2,7 @@
 // SPDX-FileCopyrightText: Copyright the Vortex contributors
 
 // The reader of messages in protobuf's text format. It bounds how deep they are.
-use console_core::{Argument, ConsoleResult, Line, MAX_LEVELS, expected_at};
+use console_core::{Argument, ConsoleResult, Line, MAX_LEVELS, expected_at, whole_number};
 use std::alloc::Global;
 use vortex_dtype::pb;
 
@@ -61,6 +61,9 @@ impl Parts {
     }
 }
 
+const A_KIND: &str =
+    "a kind of type: null, bool, primitive, decimal, utf8, binary, list, fixed_size_list, map, struct, union, variant or extension";
+
 // Returns whether there is a kind of this name.
 fn is_kind(name: &str) -> bool {
     match name {
@@ -90,9 +93,9 @@ fn has_field(kind: &str, field: &str) -> bool {
 #[cycle(messages)]
 fn read_kind(alloc: Global, line: &mut Line<'_>, levels: u32) -> ConsoleResult<pb::DtypeType> {
     let position = line.position();
-    let kind = line.word("a kind of type")?;
+    let kind = line.word(A_KIND)?;
     if !is_kind(kind) {
-        return Err(expected_at(position, "a kind of type"));
+        return Err(line.expected_word(position, A_KIND, kind));
     }
     line.skip_blanks();
     accept_colon(line);
@@ -228,11 +231,11 @@ fn read_value(
     line.skip_blanks();
     match field {
         "names" => read_names(alloc, line, parts),
-        "type_ids" => read_type_ids(line, parts),
+        "type_ids" => read_type_ids(alloc, line, parts),
         "id" => read_id(alloc, line, parts),
         "metadata" => read_metadata(alloc, line, parts),
         "nullable" | "keys_sorted" => read_flag(line, field, parts),
-        _ => read_number(line, field, parts),
+        _ => read_number(alloc, line, field, parts),
     }
 }
 
@@ -254,9 +257,9 @@ fn read_names(alloc: Global, line: &mut Line<'_>, parts: &mut Parts) -> ConsoleR
 }
 
 // Reads a tag, or a list of tags in square brackets.
-fn read_type_ids(line: &mut Line<'_>, parts: &mut Parts) -> ConsoleResult<()> {
+fn read_type_ids(alloc: Global, line: &mut Line<'_>, parts: &mut Parts) -> ConsoleResult<()> {
     if !line.accepts("[") {
-        return Ok(parts.type_ids.push(line.number(SIGNED)?)?);
+        return Ok(parts.type_ids.push(line.signed(alloc, SIGNED)?)?);
     }
     line.skip_blanks();
     let mut is_closed = line.accepts("]");
@@ -264,7 +267,7 @@ fn read_type_ids(line: &mut Line<'_>, parts: &mut Parts) -> ConsoleResult<()> {
         if is_closed {
             break;
         }
-        parts.type_ids.push(line.number(SIGNED)?)?;
+        parts.type_ids.push(line.signed(alloc, SIGNED)?)?;
         is_closed = line.closes("]")?;
     }
     Ok(())
@@ -287,9 +290,13 @@ fn read_metadata(alloc: Global, line: &mut Line<'_>, parts: &mut Parts) -> Conso
 fn read_flag(line: &mut Line<'_>, field: &str, parts: &mut Parts) -> ConsoleResult<()> {
     let position = line.position();
     let flag = match line.word("true or false")? {
-        "true" | "True" | "t" | "1" => true,
-        "false" | "False" | "f" | "0" => false,
-        _ => return Err(expected_at(position, "true or false")),
+        "true" | "True" | "t" => true,
+        "false" | "False" | "f" => false,
+        word => match whole_number(word) {
+            Some(1) => true,
+            Some(0) => false,
+            _ => return Err(expected_at(position, "true or false")),
+        },
     };
     match field {
         "nullable" => parts.nullable = flag,
@@ -298,12 +305,17 @@ fn read_flag(line: &mut Line<'_>, field: &str, parts: &mut Parts) -> ConsoleResu
     Ok(())
 }
 
-fn read_number(line: &mut Line<'_>, field: &str, parts: &mut Parts) -> ConsoleResult<()> {
+fn read_number(
+    alloc: Global,
+    line: &mut Line<'_>,
+    field: &str,
+    parts: &mut Parts,
+) -> ConsoleResult<()> {
     match field {
-        "type" => parts.ptype = read_number_of_ptype(line)?,
-        "precision" => parts.precision = line.number(UNSIGNED)?,
-        "scale" => parts.scale = line.number(SIGNED)?,
-        _ => parts.size = line.number(UNSIGNED)?,
+        "type" => parts.ptype = read_number_of_ptype(alloc, line)?,
+        "precision" => parts.precision = line.unsigned(UNSIGNED)?,
+        "scale" => parts.scale = line.signed(alloc, SIGNED)?,
+        _ => parts.size = line.unsigned(UNSIGNED)?,
     }
     Ok(())
 }
@@ -318,14 +330,20 @@ pub fn read_text(alloc: Global, line: &mut Line<'_>) -> ConsoleResult<String> {
 }
 
 // Reads a primitive type's number, or its name.
-fn read_number_of_ptype(line: &mut Line<'_>) -> ConsoleResult<i32> {
-    if line.peek().is_some_and(|byte| byte.is_ascii_alphabetic()) {
-        let position = line.position();
-        let word = line.word("a primitive type")?;
-        return ptype_number(word).ok_or(expected_at(position, "a primitive type"));
+fn read_number_of_ptype(alloc: Global, line: &mut Line<'_>) -> ConsoleResult<i32> {
+    if !line.peek().is_some_and(|byte| byte.is_ascii_alphabetic()) {
+        return line.signed(alloc, A_PTYPE);
     }
-    line.number("a primitive type")
+    let position = line.position();
+    let word = line.word(A_PTYPE)?;
+    match ptype_number(word) {
+        Some(number) => Ok(number),
+        None => Err(line.expected_word(position, A_PTYPE, word)),
+    }
 }
+
+const A_PTYPE: &str =
+    "a primitive type (U8 to U64, I8 to I64, F16, F32, F64) or a number from -2147483648 to 2147483647";
 
 // Returns the number of the primitive type of this name, or `None`.
 fn ptype_number(name: &str) -> Option<i32> {
@@ -359,7 +377,7 @@ fn kind_of(
         "struct" => Ok(struct_of(parts)),
         "union" => Ok(union_of(parts)),
         "extension" => extension_of(alloc, parts),
-        _ => plain_kind(kind, &parts).ok_or(expected_at(position, "a kind of type")),
+        _ => plain_kind(kind, &parts).ok_or(expected_at(position, A_KIND)),
     }
 }
 

@@ -3,6 +3,7 @@
 
 // Commands on sessions, and the sessions with a name, which last from line to line.
 use crate::reader::Message;
+use crate::unknown_numbers::read_dtype;
 use crate::writer::say_message_result;
 use console_core::{
     Bytes, Call, ConsoleError, ConsoleResult, Line, MessageForm, SessionCommand, expected_at,
@@ -299,14 +300,14 @@ fn round_trip(call: &mut Call<'_>, session: &DTypeSession) -> ConsoleResult<()> 
 
 fn read_eq(call: &mut Call<'_>, session: &DTypeSession) -> ConsoleResult<()> {
     let (Message(message), Message(other)) = call.last()?;
-    let dtype = DType::from_proto(call.alloc, &message, session)?;
-    let other = DType::from_proto(call.alloc, &other, session)?;
+    let dtype = read_dtype(call.alloc, &message, session)?;
+    let other = read_dtype(call.alloc, &other, session)?;
     call.say(dtype == other)
 }
 
 fn read(call: &mut Call<'_>, command: MessageForm, session: &DTypeSession) -> ConsoleResult<()> {
     let Message(message) = call.last()?;
-    let dtype = DType::from_proto(call.alloc, &message, session)?;
+    let dtype = read_dtype(call.alloc, &message, session)?;
     match command {
         MessageForm::Read => call.write(&dtype),
         MessageForm::Normal => say_message_result(call, dtype.to_proto(call.alloc)),

@@ -19,6 +19,7 @@ use vortex_array::dtype::*;
 
 use crate::line::{Argument, Bytes, Line, Number, arguments, is_bare};
 use crate::living::{Living, Plugin, Session, cover, session, set};
+use crate::messages::Parts;
 use crate::models::*;
 use crate::types::{Answer, Id, PTYPES, Stop, Tags, Text, Told, holding, id, joined, paths, several, stop};
 
@@ -301,8 +302,8 @@ fn add_extensions(c: &mut Console) {
         };
         metadata_text(it: ExtDTypeRef) Text(it.display_metadata().to_string());
         write(dtype: DType) pb::DType::try_from(&dtype);
-        path_message(parts: Vec<pb::Field>) several(&parts);
-        read_path(path: Vec<pb::Field>) FieldPath::try_from(&pb::FieldPath { path });
+        path_message(parts: Parts) several(&parts.0);
+        read_path(parts: Parts) FieldPath::try_from(&pb::FieldPath { path: parts.0 });
         // (the original's conversion is prost's; what has no name is none)
         pb_from_number(number: i32) usize::try_from(number).ok().and_then(|place| PTYPES.get(place).copied());
         registry(session: Session, id: Id) session.made().dtypes().registry().get(&id.0).is_some();

@@ -237,11 +237,25 @@ impl<'a> Line<'a> {
         Some(sign)
     }
 
+    /// A whole number of a message: in decimal, in octal behind `0`, or in hexadecimal behind `0x`. A minus may stand
+    /// before a number that has a sign, with blanks between.
+    pub fn whole_number<T: TryFrom<i64>>(&mut self, has_sign: bool) -> Answer<T> {
+        let at = self.at;
+        let is_negative = has_sign && self.eat("-");
+        if is_negative {
+            self.blanks();
+        }
+        let word = self.take(is_bare);
+        let has_more = self.rest().starts_with('-');
+        let number = whole_number(word).filter(|_| !has_more).map(|it| if is_negative { -it } else { it });
+        self.found(at, number.and_then(|it| it.try_into().ok()))
+    }
+
     /// A text in double quotes.
     pub fn text(&mut self) -> Answer<String> {
         let at = self.at;
         self.expect("\"")?;
-        let bytes = self.quoted('"')?;
+        let bytes = self.quoted('"', Self::escape_of_name)?;
         self.found(at + 1, String::from_utf8(bytes).ok())
     }
 
@@ -251,7 +265,7 @@ impl<'a> Line<'a> {
         let mut at = self.at;
         while let Some(mark) = ['"', '\''].into_iter().find(|mark| self.rest().starts_with(*mark)) {
             self.at += 1;
-            found.push(self.quoted(mark)?);
+            found.push(self.quoted(mark, Self::escape_of_message)?);
             at = self.at;
             self.blanks();
         }
@@ -259,32 +273,64 @@ impl<'a> Line<'a> {
         if found.is_empty() { self.fail(at) } else { Ok(found.concat()) }
     }
 
-    /// The bytes of what stands in quotes behind the opening one.
-    fn quoted(&mut self, mark: char) -> Answer<Vec<u8>> {
+    /// The bytes of what stands in quotes behind the opening one, with the escapes that are read so.
+    fn quoted(&mut self, mark: char, escape: fn(&mut Self) -> Answer<Vec<u8>>) -> Answer<Vec<u8>> {
         let mut found = Vec::new();
         while let Some(sign) = self.next() {
             if sign == mark {
                 return Ok(found);
             }
-            if sign != '\\' {
-                found.extend(sign.to_string().into_bytes());
-                continue;
-            }
-            let at = self.at;
-            found.push(match self.next() {
-                Some('x') => {
-                    let at = self.at;
-                    let byte = self.byte();
-                    self.found(at, byte)?
-                }
-                Some('t') => b'\t',
-                Some('n') => b'\n',
-                Some('r') => b'\r',
-                Some(itself @ ('\\' | '"' | '\'')) => itself as u8,
-                _ => return self.fail(at),
-            });
+            found.extend(if sign == '\\' { escape(self)? } else { sign.to_string().into_bytes() });
         }
         self.fail(self.at)
+    }
+
+    /// What an escape of a name means, behind its backslash.
+    fn escape_of_name(&mut self) -> Answer<Vec<u8>> {
+        let at = self.at;
+        let byte = match self.next() {
+            Some('x') => {
+                let at = self.at;
+                let byte = self.byte();
+                self.found(at, byte)?
+            }
+            sign => self.found(at, sign.and_then(|sign| marked(sign, r#"\"'tnr"#)))?,
+        };
+        Ok(vec![byte])
+    }
+
+    /// What an escape of a message's text means, behind its backslash.
+    fn escape_of_message(&mut self) -> Answer<Vec<u8>> {
+        let at = self.at;
+        let byte = match self.next() {
+            Some('u') => return self.code_point(4),
+            Some('U') => return self.code_point(8),
+            Some('x') => self.digits(16, 2)?,
+            Some('0'..='7') => {
+                self.at = at;
+                self.digits(8, 3)?
+            }
+            sign => self.found(at, sign.and_then(|sign| marked(sign, r#"abfnrtv\'"?"#)))?,
+        };
+        Ok(vec![byte])
+    }
+
+    /// The byte of digits of a radix, one at least and so many at most.
+    fn digits(&mut self, radix: u32, most: usize) -> Answer<u8> {
+        let at = self.at;
+        let count = self.rest().chars().take(most).take_while(|sign| sign.is_digit(radix)).count();
+        let number = u32::from_str_radix(&self.rest()[..count], radix).ok();
+        self.at += count;
+        self.found(at, number.and_then(|it| it.try_into().ok()))
+    }
+
+    /// The bytes of the character whose code point has so many hexadecimal digits.
+    fn code_point(&mut self, count: usize) -> Answer<Vec<u8>> {
+        let at = self.at;
+        let digits = self.rest().get(..count).filter(|it| it.chars().all(|sign| sign.is_ascii_hexdigit()));
+        let sign = digits.and_then(|it| char::from_u32(u32::from_str_radix(it, 16).ok()?));
+        self.at += if sign.is_some() { count } else { 0 };
+        self.found(at, sign.map(|sign| sign.to_string().into_bytes()))
     }
 
     /// A name: bare, where a dot may follow that of a step, or in quotes.
@@ -343,6 +389,32 @@ impl<'a> Line<'a> {
         self.level -= 1;
         Ok(found)
     }
+}
+
+/// The byte that an escape of one of these marks means.
+fn marked(mark: char, marks: &str) -> Option<u8> {
+    let byte = match mark {
+        'a' => 7,
+        'b' => 8,
+        't' => b'\t',
+        'n' => b'\n',
+        'v' => 11,
+        'f' => 12,
+        'r' => b'\r',
+        itself => u8::try_from(itself).ok()?,
+    };
+    marks.contains(mark).then_some(byte)
+}
+
+/// The number without a sign that a word of a message is.
+pub fn whole_number(word: &str) -> Option<i64> {
+    let hexadecimal = word.strip_prefix("0x").or(word.strip_prefix("0X"));
+    let (digits, radix) = match hexadecimal {
+        Some(digits) => (digits, 16),
+        None => (word, if word.len() > 1 && word.starts_with('0') { 8 } else { 10 }),
+    };
+    let is_sound = digits.chars().all(|sign| sign.is_ascii_hexdigit());
+    is_sound.then(|| i64::from_str_radix(digits, radix).ok()).flatten()
 }
 
 pub fn is_blank(sign: char) -> bool {

@@ -8,7 +8,7 @@ use vortex_array::dtype::proto::dtype::d_type::DtypeType;
 use vortex_array::dtype::proto::dtype::field::FieldType;
 use vortex_array::dtype::proto::dtype::*;
 
-use crate::line::{Line, arguments, is_bare};
+use crate::line::{Argument, Line, arguments, is_bare, whole_number};
 use crate::types::{Answer, PTYPES, Told, quoted, told};
 
 /// Makes the kinds of messages: the word of each, its type, and its fields: texts, messages, others, nullable.
@@ -74,7 +74,7 @@ macro_rules! scalars {
 
 scalars! {
     bool: |_, line| line.word(flag), |_, it| it.to_string();
-    u32: |_, line| line.number(), |_, it| it.to_string();
+    u32: |_, line| line.whole_number(false), |_, it| it.to_string();
     i32: number, |name, it| PTYPES.get(*it as usize).filter(|_| name == "type").map_or(it.to_string(), in_capitals);
     String: |_, line| joined(line), |_, it| quoted(it);
     Vec<u8>: |_, line| line.texts(), |_, it| quoted_bytes(it);
@@ -82,9 +82,13 @@ scalars! {
 
 fn flag(word: &str) -> Option<bool> {
     match word {
-        "true" | "True" | "t" | "1" => Some(true),
-        "false" | "False" | "f" | "0" => Some(false),
-        _ => None,
+        "true" | "True" | "t" => Some(true),
+        "false" | "False" | "f" => Some(false),
+        _ => match whole_number(word) {
+            Some(1) => Some(true),
+            Some(0) => Some(false),
+            _ => None,
+        },
     }
 }
 
@@ -101,7 +105,7 @@ fn in_capitals(ptype: &PType) -> String {
 fn number(field: &str, line: &mut Line) -> Answer<i32> {
     let is_name = field == "type" && line.rest().starts_with(|sign: char| sign.is_ascii_alphabetic());
     let of_name = |word: &str| PTYPES.iter().position(|it| in_capitals(it) == word).map(|number| number as i32);
-    if is_name { line.word(of_name) } else { line.number() }
+    if is_name { line.word(of_name) } else { line.whole_number(true) }
 }
 
 /// Bytes in quotes: printable ASCII as it is, all else in hexadecimal.
@@ -151,10 +155,10 @@ fn opened(line: &mut Line) -> Answer<&'static str> {
     if line.eat("<") { Ok(">") } else { line.expect("{").map(|()| "}") }
 }
 
-/// The comma or the semicolon that may stand behind a field.
-fn end(line: &mut Line) {
+/// The comma or the semicolon that may stand behind a field: whether there is one.
+fn end(line: &mut Line) -> bool {
     line.blanks();
-    let _ = line.eat(",") || line.eat(";");
+    line.eat(",") || line.eat(";")
 }
 
 /// A kind with its fields, which stand in any order.
@@ -243,24 +247,53 @@ arguments! {
         }
         kind(line)
     };
-    Field: |line| {
-        line.expect("path")?;
-        line.blanks();
-        may_have_colon(line);
-        let close = opened(line)?;
-        line.blanks();
-        let field_type = if line.eat("name") {
+}
+
+/// The parts of a path, in any number of fields.
+#[derive(Clone)]
+pub struct Parts(pub Vec<Field>);
+
+impl Argument for Parts {
+    const IS_SEVERAL: bool = true;
+
+    fn read(line: &mut Line) -> Answer<Self> {
+        let mut found = Vec::new();
+        while !line.is_at_end() {
+            line.expect("path")?;
             line.blanks();
-            line.open(":")?;
-            let name = joined(line)?;
-            end(line);
-            Some(FieldType::Name(name))
-        } else {
-            None
-        };
-        line.close(close)?;
-        Ok(Field { field_type })
-    };
+            may_have_colon(line);
+            found.extend(if line.eat("[") {
+                line.blanks();
+                line.items("]", part)?
+            } else {
+                vec![part(line)?]
+            });
+            let at = line.at;
+            if end(line) {
+                line.blanks();
+            } else {
+                line.at = at;
+                line.separate()?;
+            }
+        }
+        Ok(Self(found))
+    }
+}
+
+/// A part of a path in braces: of several names the last counts.
+fn part(line: &mut Line) -> Answer<Field> {
+    let close = opened(line)?;
+    line.blanks();
+    let mut field_type = None;
+    while line.eat("name") {
+        line.blanks();
+        line.open(":")?;
+        field_type = Some(FieldType::Name(joined(line)?));
+        end(line);
+        line.blanks();
+    }
+    line.close(close)?;
+    Ok(Field { field_type })
 }
 
 told! {

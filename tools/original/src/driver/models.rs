@@ -155,14 +155,17 @@ fn children(message: &pb::DType) -> Vec<Option<&pb::DType>> {
 }
 
 /// The original takes an unknown primitive number as `u8`, and panics at a struct of more names than types, or fewer.
-/// Here they are errors, 25 and 32. Faults are met in the order of reading: each part before what holds it, and a part
+/// Here they are errors, 25, to which the console adds the number, and 32. Faults are met in the order of reading: each part before what holds it, and a part
 /// that is absent before the parts after it; all others are those that the original meets.
 pub fn read(session: &VortexSession, message: &pb::DType) -> Answer<DType> {
     for child in children(message) {
         child.map_or_else(|| Ok(DType::from_proto(message, session)?), |child| read(session, child))?;
     }
     match &message.dtype_type {
-        Some(DtypeType::Primitive(it)) if !(0..=10).contains(&it.r#type) => Err(refused(25, &[])),
+        Some(DtypeType::Primitive(it)) if !(0..=10).contains(&it.r#type) => {
+            let Stop(text) = refused(25, &[]);
+            Err(Stop(format!("{text}: {}; U8 to F64 have the numbers 0 to 10", it.r#type)))
+        }
         Some(DtypeType::Struct(it)) if it.names.len() != it.dtypes.len() => Err(refused(32, &[])),
         _ => Ok(DType::from_proto(message, session)?),
     }

@@ -3,19 +3,11 @@
 
 //! The console over the original: answers lines of the console's language (docs/CONSOLE.md) by calling vortex-array.
 
-mod commands;
-mod errors;
-mod line;
-mod living;
-mod messages;
-mod models;
-mod types;
-
 use std::io::{self, BufRead, Write};
 use std::panic;
 use std::thread;
 
-use commands::Console;
+use original::commands::Console;
 
 /// Types and messages nest up to 128 deep, and are walked by recursion.
 const STACK: usize = 1 << 28;

@@ -1,0 +1,460 @@
+# SPDX-License-Identifier: Apache-2.0
+# SPDX-FileCopyrightText: Copyright the Vortex contributors
+
+"""Other forms of a function, for tools/hint. The prover finds a proof for some forms of code and of clauses, and none for
+others that mean the same. Each form here is an edit that applies by the shape of the text alone, so an edit can also
+fail to compile, and who tries it has to check that it does."""
+import re
+from collections import namedtuple
+
+from repository import BODY, CLAUSE, HEADER, SIGNATURE_END, WHERE, code_of, end_of, shape_of
+
+# An edit: what it is called, the text of the function with it, the words of std that it imports, and what a reader has
+# to know before it is taken, or nothing.
+Form = namedtuple("Form", "name text imports warning")
+# `head` ends where the first clause or the body begins; a clause is its kind, its name and its text.
+Parts = namedtuple("Parts", "head clauses body")
+Written = namedtuple("Written", "kind name text")
+
+MODULES = {"AllByRecursion": "Rattle.std.specs.List", "IsAmong": "Rattle.vortex_dtype.specs.Names"}
+PRELUDE = "Rattle.std.specs.Prelude"
+STATEMENT = re.compile(r"(?:if|match|for|while|loop|unsafe)\b|\{")
+ARM = re.compile(r"\s*=>\s*")
+
+
+def parts_of(text):
+    """The parts of the text of a function, which begins with `fn` or its visibility."""
+    shape = shape_of(code_of(text))
+    header = HEADER.search(shape)
+    behind = SIGNATURE_END.search(shape, header.end())
+    where = WHERE.match(shape, behind.start())
+    at = head = where.end() if where else behind.start()
+    clauses = []
+    while clause := CLAUSE.match(shape, at):
+        at = end_of(shape, clause.end() - 1)
+        clauses.append(Written(clause[1], clause[2], text[clause.end():at - 1].strip()))
+    brace = BODY.match(shape, at)
+    return Parts(text[:head].rstrip(), tuple(clauses), text[brace.end() - 1:] if brace else text[at:])
+
+
+def text_of_parts(parts):
+    clauses = "".join(f"\n    {it.kind} {it.name + ' ' if it.name else ''}{{ {it.text} }}" for it in parts.clauses)
+    return f"{parts.head}{clauses}\n{parts.body}"
+
+
+# ---- the last expressions of a body
+
+def end_of_statement(shape, at, end):
+    """Where the statement ends that begins at an index, and whether it ends with a semicolon or is a block."""
+    is_block = bool(STATEMENT.match(shape, at))
+    while at < end:
+        if shape[at] in "([{":
+            was_brace = shape[at] == "{"
+            at = end_of(shape, at)
+            behind = shape[at:end].lstrip()
+            if is_block and was_brace and not re.match(r"else\b|[.?]|=>", behind):
+                return at, True
+        elif shape[at] == ";":
+            return at + 1, True
+        else:
+            at += 1
+    return end, False
+
+
+def last_of_block(shape, brace):
+    """Where the last expression of a block begins and ends, or None if the block ends with a statement."""
+    end = end_of(shape, brace) - 1
+    at = brace + 1
+    while True:
+        at += len(shape[at:end]) - len(shape[at:end].lstrip())
+        behind, is_statement = end_of_statement(shape, at, end)
+        if shape[behind:end].strip():
+            at = behind
+            continue
+        is_last_block = is_statement and shape[behind - 1] == "}" and re.match(r"(?:if|match)\b", shape[at:])
+        return (at, behind if is_last_block else at + len(shape[at:end].rstrip())) if not is_statement or is_last_block else None
+
+
+def leaves(shape, begin, end):
+    """The expressions that an expression may come to, each where it begins and ends: those of all branches and arms."""
+    word = re.match(r"(?:if|match)\b", shape[begin:end])
+    if not word:
+        return [(begin, end)]
+    found, at = [], begin
+    while (brace := shape.find("{", at, end)) >= 0:
+        behind = end_of(shape, brace)
+        # (in parentheses before it, as in a closure, is no block of this expression)
+        opened = [it.start() for it in re.finditer(r"[(\[]", shape[at:brace])]
+        if opened and end_of(shape, at + opened[-1]) > brace:
+            at = end_of(shape, at + opened[-1])
+            continue
+        if word[0] == "match":
+            return found + arms_of(shape, brace)
+        found += block_leaves(shape, brace)
+        rest = re.match(r"\s*else\b\s*", shape[behind:end])
+        if not rest:
+            return found
+        at = behind + rest.end()
+        if re.match(r"match\b", shape[at:end]):
+            return found + leaves(shape, at, end)
+    return found
+
+
+def block_leaves(shape, brace):
+    last = last_of_block(shape, brace)
+    return leaves(shape, *last) if last else []
+
+
+def arms_of(shape, brace):
+    found, at, end = [], brace + 1, end_of(shape, brace) - 1
+    while arrow := ARM.search(shape, at, end):
+        opened = next((it for it in re.finditer(r"[(\[{]", shape[at:arrow.start()])), None)
+        if opened and end_of(shape, at + opened.start()) > arrow.end():
+            at = end_of(shape, at + opened.start())
+            continue
+        at = arrow.end()
+        if shape[at] == "{":
+            found += block_leaves(shape, at)
+            at = end_of(shape, at)
+            continue
+        begin = at
+        while at < end and shape[at] != ",":
+            at = end_of(shape, at) if shape[at] in "([{" else at + 1
+        found += leaves(shape, begin, begin + len(shape[begin:at].rstrip()))
+    return found
+
+
+def with_last(body, change):
+    """A body in which `change` was made to each last expression, or None if it changes none. It is passed the text of
+    the expression, and returns its new text or None."""
+    shape, changed = shape_of(code_of(body)), body
+    for begin, end in sorted(block_leaves(shape, 0), reverse=True):
+        new = change(body[begin:end])
+        if new is not None:
+            changed = changed[:begin] + new + changed[end:]
+    return None if changed == body else changed
+
+
+# ---- forms of code
+
+def is_call(text):
+    return text.endswith(")") and not re.match(r"(?:Ok|Err|Some|return|Self|\w+!)\b|\(", text)
+
+
+def opened_call(returned):
+    """`call()` as `Ok(call()?)`, or as `Some(call()?)` in a function that returns an option."""
+    if re.search(r"Result<", returned.split("Option<")[0]):
+        return "Ok"
+    return "Some" if returned.startswith("Option<") else None
+
+
+def tail_calls(parts, returned):
+    word = opened_call(returned)
+    body = word and with_last(parts.body, lambda it: f"{word}({it}?)" if is_call(it) else None)
+    if body:
+        yield Form(f"`{word}(call(..)?)` in place of a call at the end", parts._replace(body=body), (), "")
+
+
+def split_options(parts, returned):
+    """What a call at the end returns, taken apart by a match."""
+    if not re.search(r"Result<\s*Option<", returned):
+        return
+    def split(it):
+        inner = it[3:-1] if it.startswith("Ok(") else f"{it}?"
+        if not (is_call(it) or it.startswith("Ok(") and re.search(r"[)?]$", inner) and not inner.startswith(("Some(", "None"))):
+            return None
+        return f"match {inner} {{\n        Some(value) => Ok(Some(value)),\n        None => Ok(None),\n    }}"
+    body = with_last(parts.body, split)
+    if body:
+        yield Form("a `match` on the option that a call at the end returns", parts._replace(body=body), (), "")
+
+
+def named_bindings(parts, _):
+    shape = shape_of(code_of(parts.body))
+    found = list(re.finditer(r"\b(Ok|Some|Err)\(_\)(?=[^;{}]*(?:=>|=))", shape))
+    if found:
+        body = parts.body
+        for it in reversed(found):
+            name = {"Ok": "_value", "Some": "_value", "Err": "_error"}[it[1]]
+            body = body[:it.start()] + f"{it[1]}({name})" + body[it.end():]
+        yield Form("a name in place of `_` in a pattern", parts._replace(body=body), (), "")
+
+
+CLOSURE = re.compile(r"\|\s*(?:&?\s*(\w+|\([^|]*\)))\s*\|\s*")
+
+
+def method_at_end(text):
+    """The receiver, the method and the arguments of an expression that ends with a call of a method, or None."""
+    shape = shape_of(code_of(text))
+    if not shape.endswith(")"):
+        return None
+    for it in re.finditer(r"\s*\.(\w+)(?:::<[^>]*>)?\(", shape):
+        if end_of(shape, it.end() - 1) == len(shape):
+            return text[:it.start()], it[1], text[it.end():-1].strip().rstrip(",")
+    return None
+
+
+MATCHED = {"map": "Some(VALUE)", "and_then": "VALUE", "is_some_and": "VALUE", "is_none_or": "VALUE"}
+OTHERWISE = {"map": "None", "and_then": "None", "is_some_and": "false", "is_none_or": "true"}
+
+
+def matched_closures(parts, _):
+    """A closure around an option at the end, as a match."""
+    def matched(it):
+        found = method_at_end(it)
+        if not found or found[1] not in MATCHED or re.search(r"\.(iter|fields|names|pairs|variants|parts)\(\)", found[0]):
+            return None
+        receiver, method, argument = found
+        closure = CLOSURE.match(argument)
+        if not closure:
+            return None
+        value = MATCHED[method].replace("VALUE", argument[closure.end():])
+        return (f"match {receiver} {{\n        Some({closure[1]}) => {value},\n"
+                f"        None => {OTHERWISE[method]},\n    }}")
+    body = with_last(parts.body, matched)
+    if body:
+        yield Form("a `match` in place of a closure around an option", parts._replace(body=body), (), "")
+
+
+def positions(parts, _):
+    """`pairs().find(..).map(..)` by `position` and `field_name`."""
+    found = re.search(r"(\w+)\s*\.pairs\(\)\s*\.find\(\|\(_, (\w+)\)\| (.*?)\)\s*\.map\(\|\((\w+), _\)\| \4\)", parts.body, re.S)
+    if found:
+        new = (f"match {found[1]}.fields().position(|{found[2]}| {found[3]}) {{\n"
+               f"        Some(index) => {found[1]}.field_name(index),\n        None => None,\n    }}")
+        body = parts.body[:found.start()] + new + parts.body[found.end():]
+        yield Form("`fields().position(..)` in place of `pairs().find(..).map(..)`", parts._replace(body=body), (), "")
+
+
+def compared_values(parts, _):
+    """`a == b` of two parameters that are references, as `*a == *b`."""
+    borrowed = set(re.findall(r"(\w+): &", parts.head))
+    def starred(it):
+        return f"*{it[1]} {it[2]} *{it[3]}" if {it[1], it[3]} <= borrowed else it[0]
+    body = re.sub(r"(?<![\w.*)])(\w+) ([!=]=) (\w+)\b(?![\w.(])", starred, parts.body)
+    if body != parts.body:
+        yield Form("`*a == *b` in place of `a == b` of two references", parts._replace(body=body), (), "")
+
+
+def branches(parts, _):
+    """`a && b` at the end as an `if`."""
+    def branched(it):
+        shape, depth = shape_of(code_of(it)), 0
+        for at, sign in enumerate(shape):
+            depth += (sign in "([{") - (sign in ")]}")
+            if depth == 0 and shape.startswith((" && ", "&& "), at) and "|" not in shape[:at]:
+                left, right = it[:at].strip(), it[at:].strip().removeprefix("&&").strip()
+                return f"if {left} {{\n        {right}\n    }} else {{\n        false\n    }}"
+        return None
+    body = with_last(parts.body, branched)
+    if body:
+        yield Form("an `if` in place of `&&` at the end", parts._replace(body=body), (), "")
+
+
+# ---- forms of clauses
+
+def words(text, word):
+    return re.search(rf"(?<![\w.]){word}(?!\w)", text)
+
+
+def with_clauses(parts, change, kinds=("ensures",)):
+    """Clauses in which `change` was made to the text of each, or None if it changes none."""
+    clauses = tuple(it._replace(text=change(it.text)) if it.kind in kinds else it for it in parts.clauses)
+    return None if clauses == parts.clauses else parts._replace(clauses=clauses)
+
+
+def rest_of_bracket(text, at):
+    """Where the bracket closes in which an index is, or the end of the text."""
+    depth = 0
+    for it in re.finditer(r"[([{]|[)\]}]", text[at:]):
+        depth += 1 if it[0] in "([{" else -1
+        if depth < 0:
+            return at + it.start()
+    return len(text)
+
+
+def atom_at(text, at):
+    """Where the term ends that begins at an index: a name with its fields, or what is in parentheses."""
+    if text[at] == "(":
+        return end_of(text, at)
+    return at + len(re.match(r"[\w.]*", text[at:])[0])
+
+
+def none_cases(text, is_as_strong):
+    """A clause about `IsNone r` by `IfNone r`, or by `IsSome r` as strong."""
+    found = re.search(r"(?<![\w.])IsNone ", text)
+    if not found:
+        return text
+    behind = atom_at(text, found.end())
+    option, sign = text[found.end():behind], re.match(r" (↔|→) ", text[behind:])
+    if not sign:
+        return text
+    end = rest_of_bracket(text, behind)
+    said = text[behind + sign.end():end]
+    refused = re.fullmatch(r"\((.*) → ⊥\)", said, re.S) or re.fullmatch(r"¬ (.*)", said, re.S)
+    if is_as_strong:
+        new = f"IsSome {option} ↔ ({refused[1]})" if sign[1] == "↔" and refused else None
+    else:
+        new = f"IfNone {option} ({said[1:-1] if refused and said[0] == '(' else said})"
+    return text if new is None else text[:found.start()] + new + text[end:]
+
+
+def of_none(parts, _):
+    changed = with_clauses(parts, lambda it: none_cases(it, True))
+    if changed:
+        yield Form("`IsSome r ↔ p` in place of `IsNone r ↔ (p → ⊥)`", changed, ("IsSome",), "")
+    changed = with_clauses(parts, lambda it: none_cases(it, False))
+    if changed:
+        weaker = any("IsNone" in it.text and "↔" in it.text for it in parts.clauses)
+        yield Form("`IfNone r p` in place of `IsNone r ..`", changed, ("IfNone",),
+                   "this clause says only what `None` means, and not when it is returned" if weaker else "")
+
+
+def of_each(parts, _):
+    """What is said of each element."""
+    text = " ".join(it.text for it in parts.clauses if it.kind == "ensures")
+    if words(text, "AllByRecursion"):
+        each = lambda it: re.sub(r"(?<![\w.])AllByRecursion(?!\w)", "All", it)
+        yield Form("`All` in place of `AllByRecursion`", with_clauses(parts, each), ("All",), "")
+        if words(text, "Contains"):
+            among = lambda it: re.sub(r"(?<![\w.])Contains(?!\w)", "IsAmong", each(it))
+            yield Form("`All` with `IsAmong` in place of `AllByRecursion` with `Contains`", with_clauses(parts, among),
+                       ("All", "IsAmong"), "")
+    elif words(text, "All"):
+        each = lambda it: re.sub(r"(?<![\w.])All(?!\w)", "AllByRecursion", it)
+        yield Form("`AllByRecursion` in place of `All`", with_clauses(parts, each), ("AllByRecursion",), "")
+    if words(text, "Contains") and not words(text, "AllByRecursion"):
+        among = lambda it: re.sub(r"(?<![\w.])Contains(?= \((?:field|variant)_names)", "IsAmong", it)
+        if changed := with_clauses(parts, among):
+            yield Form("`IsAmong` in place of `Contains`", changed, ("IsAmong",), "")
+
+
+def negations(parts, _):
+    def plain(text):
+        while found := re.search(r"¬ ", text):
+            end = atom_at(text, found.end()) if text[found.end()] == "(" else rest_of_bracket(text, found.end())
+            said = text[found.end():end]
+            new = f"{said[1:-1] if said.startswith('(') else said} → ⊥"
+            whole = found.start() == 0 and end == len(text)
+            text = text[:found.start()] + (new if whole else f"({new})") + text[end:]
+        return text
+    if changed := with_clauses(parts, plain):
+        yield Form("`p → ⊥` in place of `¬ p`", changed, (), "")
+
+
+def premises(parts, _):
+    """A premise of a clause as a `requires`."""
+    required, clauses = [], []
+    for it in parts.clauses:
+        premise = it.kind == "ensures" and re.match(r"((?:Valid|Admits|Distinct|n ≡|Contains)\b[^→↔λ]*?) → ", it.text)
+        if premise and not re.search(r"\bresult\b|\.new\b", premise[1]):
+            if premise[1] not in required:
+                required.append(premise[1])
+            it = it._replace(text=it.text[premise.end():])
+        clauses.append(it)
+    if required:
+        name = lambda n: "" if len(required) == 1 and not any(it.kind == "requires" for it in clauses) else f"given{n}"
+        new = [Written("requires", name(n), it) for n, it in enumerate(required)]
+        old = [it for it in clauses if it.kind == "requires"], [it for it in clauses if it.kind != "requires"]
+        yield Form("a `requires` in place of a premise", parts._replace(clauses=tuple(old[0] + new + old[1])), (),
+                   "each caller has to show it")
+
+
+def conjunctions(parts, _):
+    """`λ d. p × q` as two clauses."""
+    clauses = []
+    for it in parts.clauses:
+        found = it.kind == "ensures" and re.fullmatch(r"(IfOk result \(λ \w+\. (?:IfSome \w+ \(λ \w+\. )?)(.*?)(\)+)", it.text, re.S)
+        said = split_at(found[2], " × ") if found and found[2].count("(") == found[2].count(")") else []
+        if len(said) < 2 or re.search(r"(?:→|↔|λ|⊎)", outside(found[2])):
+            clauses.append(it)
+            continue
+        for n, each in enumerate(said):
+            each = each[1:-1] if each.startswith("(") and end_of(each, 0) == len(each) else each
+            clauses.append(it._replace(name=f"{it.name or 'part'}_{n + 1}", text=f"{found[1]}{each}{found[3]}"))
+    if len(clauses) > len(parts.clauses):
+        yield Form("a clause for each part of a conjunction", parts._replace(clauses=tuple(clauses)), (), "")
+
+
+def split_at(text, sign):
+    """A term at an operator that stands in no bracket."""
+    found, depth, begin = [], 0, 0
+    for at, it in enumerate(text):
+        depth += (it in "([{") - (it in ")]}")
+        if depth == 0 and text.startswith(sign, at):
+            found.append(text[begin:at].strip())
+            begin = at + len(sign)
+    return found + [text[begin:].strip()]
+
+
+def outside(text):
+    """What of a term stands in no bracket."""
+    kept, depth = [], 0
+    for it in text:
+        depth += (it in "([{") - (it in ")]}")
+        kept += it if depth == 0 else ""
+    return "".join(kept)
+
+
+CODE = (tail_calls, split_options, named_bindings, matched_closures, positions, compared_values, branches)
+CLAUSES = (of_none, of_each, negations, conjunctions, premises)
+
+
+def returned_by(parts):
+    return parts.head.rpartition("->")[2].strip()
+
+
+def forms_of(text):
+    """The forms of a function, each a single edit, and then all edits of its code, and these with those of its clauses
+    that ask no more of a caller and promise no less."""
+    parts = parts_of(text)
+    single = [form for make in CODE + CLAUSES for form in make(parts, returned_by(parts))]
+    together = []
+    for makers in (CODE, CODE + CLAUSES):
+        changed, names, imports = parts, [], []
+        for make in makers:
+            form = next((it for it in make(changed, returned_by(changed)) if not it.warning), None)
+            if form:
+                changed, names, imports = form.text, names + [form.name], imports + list(form.imports)
+        if len(names) > 1:
+            together.append(Form(", ".join(names), changed, tuple(imports), ""))
+    found, seen = [], {text_of_parts(parts)}
+    for it in single + together:
+        form = it._replace(text=text_of_parts(it.text))
+        if form.text not in seen:
+            seen.add(form.text)
+            found.append(form)
+    return found
+
+
+def module_of_word(word):
+    return MODULES.get(word, PRELUDE)
+
+
+def with_imports(text, imports):
+    """A file with these words of std among its imports."""
+    for word in imports:
+        if re.search(rf"ghost use [^;]*[{{, ]{re.escape(word)}[,}}][^;]*;", text):
+            continue
+        module = module_of_word(word)
+        group = re.search(rf"ghost use {re.escape(module)}\.\{{([^}}]*)\}};", text)
+        if group:
+            text = text[:group.end(1)] + f", {word}" + text[group.end(1):]
+            continue
+        last = list(re.finditer(r"(?m)^ghost use [^;]*;\n", text))
+        at = last[-1].end() if last else 0
+        text = f"{text[:at]}ghost use {module}.{{{word}}};\n{text[at:]}"
+    return text
+
+
+def with_item(text, item):
+    """A file with an import, in the group of its module if there is one."""
+    module, words = re.match(r"ghost use (\S+?)\.\{([^}]*)\};", item).groups()
+    group = re.search(rf"ghost use {re.escape(module)}\.\{{([^}}]*)\}};", text)
+    if group:
+        has = {it.strip() for it in group[1].split(",")}
+        new = "".join(f", {it}" for it in (it.strip() for it in words.split(",")) if it not in has)
+        return text[:group.end(1)] + new + text[group.end(1):]
+    last = list(re.finditer(r"(?m)^ghost use [^;]*;\n", text))
+    at = last[-1].end() if last else 0
+    return f"{text[:at]}{item}\n{text[at:]}"

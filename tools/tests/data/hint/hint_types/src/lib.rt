@@ -1,0 +1,9 @@
+// SPDX-License-Identifier: Apache-2.0
+// SPDX-FileCopyrightText: Copyright the Vortex contributors
+
+//! Functions that a user would write, for tools/tests/hint_study.
+#![tactic(auto)]
+
+pub mod nulls;
+pub mod schemas;
+pub mod shapes;

@@ -8,7 +8,7 @@ use crate::{ConsoleResult, Line};
 use std::alloc::Global;
 use std::char;
 
-/// The escapes that a text in quotes may have.
+// The escapes that a text in quotes may have.
 #[derive(Clone, Copy)]
 enum Escapes {
     OfNames,

@@ -3,8 +3,6 @@
 
 // The whole numbers of messages, as protobuf's text format has them: in decimal, in octal behind `0`, or in hexadecimal
 // behind `0x`.
-ghost use Rattle.std.specs.Prelude.{◌≤◌};
-
 use crate::{ConsoleResult, Line};
 use std::alloc::Global;
 
@@ -62,24 +60,16 @@ pub fn whole_number(word: &str) -> Option<i64> {
         Some(digits) => Some(digits),
         None => word.strip_prefix("0X"),
     };
-    let octal = word.strip_prefix("0");
-    if let Some(digits) = hexadecimal {
-        number_of(digits, 16)
-    } else if octal.is_some_and(|digits| !digits.is_empty()) {
-        number_of(word, 8)
-    } else {
-        number_of(word, 10)
+    let digits = hexadecimal.unwrap_or(word);
+    if !digits.bytes().all(|byte| byte.is_ascii_hexdigit()) {
+        return None;
     }
-}
-
-// Returns the number of these digits, which no sign may begin, or `None`.
-fn number_of(digits: &str, radix: u32) -> Option<i64>
-    requires lower_bound { 2 ≤ radix }
-    requires upper_bound { radix ≤ 36 }
-{
-    if digits.bytes().all(|byte| byte.is_ascii_hexdigit()) {
-        i64::from_str_radix(digits, radix).ok()
+    let number = if hexadecimal.is_some() {
+        i64::from_str_radix(digits, 16)
+    } else if digits.len() > 1 && digits.starts_with('0') {
+        i64::from_str_radix(digits, 8)
     } else {
-        None
-    }
+        i64::from_str_radix(digits, 10)
+    };
+    number.ok()
 }

@@ -228,7 +228,7 @@ impl<V: ExtVTable> ExtDType<V> {
         ensures ok { MatchResult result
             (λ m. V.reads vtable.now (extension_metadata erased.now) ≡ Some (V.meant m))
             (DowncastError (extension_id erased.now) (V.id_text vtable.now)) }
-        ensures refused { Valid (storage_tree erased.now) → IfErr result (λ e. e ≡ MetadataRefused
+        ensures errors { Valid (storage_tree erased.now) → IfErr result (λ e. e ≡ MetadataRefused
             → Unfit (V.reads vtable.now (extension_metadata erased.now))
             (λ m. V.fits vtable.now m (storage_tree erased.now))) }
         ensures fits { Valid (storage_tree erased.now) → IfOk result

@@ -110,7 +110,7 @@ impl DTypeSession {
 
     // The ids under which plugins are registered, in the order of the map.
     fn ids(&self) -> VortexResult<Vec<&str>>
-        ensures all { Makes result (λ ids. map (λ id. id.now) ids.items
+        ensures ok { Makes result (λ ids. map (λ id. id.now) ids.items
             ≡ map string_bytes (keys self.now.plugins)) }
         ensures unique { IsUnique string_eq self.now.plugins }
     {

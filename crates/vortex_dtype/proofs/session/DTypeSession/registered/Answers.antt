@@ -5,4 +5,4 @@ use Rattle.vortex_dtype.proofs.RegisteredIds.{sorted_keys}
 use Rattle.vortex_dtype.proofs.session.DTypeSession.registered.Goals as goal
 
 pub returns : goal.returns
-returns g c = sorted_keys _ c.args.self.now _ _ c.in_ok-ids.ensures.all c.ids.ensures.unique c.sort_unstable.ensures.permutation c.sort_unstable.ensures.sorted
+returns g c = sorted_keys _ c.args.self.now _ _ c.in_ok-ids.ensures.ok c.ids.ensures.unique c.sort_unstable.ensures.permutation c.sort_unstable.ensures.sorted

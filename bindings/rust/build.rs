@@ -2,15 +2,19 @@
 // SPDX-FileCopyrightText: Copyright the Vortex contributors
 
 //! Finds the proved library, which this package only calls: the file or the folder that `VORTEX_LOGICAL_TYPES_LIB`
-//! names, else `native/` in this package, else where `rt lib` writes it in the repository.
-use std::env;
+//! names, else `native/` in this package, else where `rt lib` writes it in the repository. The library of a release calls
+//! its heap by names of its own, which `src/ffi/heap.rs` then has.
 use std::path::{Path, PathBuf};
+use std::{env, fs};
 
 const ARCHIVE: &str = "libvortex_logical_types.a";
 const SETTING: &str = "VORTEX_LOGICAL_TYPES_LIB";
+/// A function of the heap by the name that a release has for it.
+const RENAMED: &[u8] = b"\0vortex_logical_types_alloc\0";
 
 fn main() {
     println!("cargo::rerun-if-env-changed={SETTING}");
+    println!("cargo::rustc-check-cfg=cfg(renamed_heap)");
     let target = env::var("TARGET").unwrap_or_default();
     if !target.starts_with("x86_64-") || !target.contains("-linux-") {
         println!("cargo::error=the library is built for Linux on x86-64 alone, and the target is {target}");
@@ -22,6 +26,9 @@ fn main() {
             println!("cargo::rerun-if-changed={}", archive.display());
             println!("cargo::rustc-link-search=native={}", folder.display());
             println!("cargo::rustc-link-lib=static=vortex_logical_types");
+            if fs::read(&archive).is_ok_and(|it| it.windows(RENAMED.len()).any(|part| part == RENAMED)) {
+                println!("cargo::rustc-cfg=renamed_heap");
+            }
         }
         Err(looked_for) => println!(
             "cargo::error=there is no {ARCHIVE} ({looked_for}): take the package of a release, which has it in native/, \

@@ -4,6 +4,10 @@
 //! The heap under the library: the three functions that it calls for memory, over those of the C library, which every
 //! Rust program on Linux links. (`std::alloc` wants the size of a block when it is freed, and the library doesn't pass
 //! it.)
+//!
+//! In a release the library calls them by names of its own (`renamed_heap`, which `build.rs` finds out), so that a program
+//! may link other packages that have a library of the same toolchain in them. As `rt lib` builds it, it calls them
+//! `rattle_alloc`, `rattle_realloc` and `rattle_dealloc`, as each such library does.
 use std::ffi::c_void;
 
 /// Whether memory was found, and where. The pointer is never null, also not where there was none.
@@ -39,7 +43,8 @@ fn is_refused() -> bool {
 use refusing::is_refused;
 
 /// A block of `size` bytes; of no bytes one of `align` bytes, so that `malloc` has no reason to return null.
-#[unsafe(no_mangle)]
+#[cfg_attr(renamed_heap, unsafe(export_name = "vortex_logical_types_alloc"))]
+#[cfg_attr(not(renamed_heap), unsafe(no_mangle))]
 extern "C" fn rattle_alloc(size: usize, align: usize) -> Tried {
     if is_refused() {
         return tried(std::ptr::null_mut());
@@ -49,7 +54,8 @@ extern "C" fn rattle_alloc(size: usize, align: usize) -> Tried {
 }
 
 /// The block with `size` bytes, of which the first `kept` are as before. Where there is no memory the block stays.
-#[unsafe(no_mangle)]
+#[cfg_attr(renamed_heap, unsafe(export_name = "vortex_logical_types_realloc"))]
+#[cfg_attr(not(renamed_heap), unsafe(no_mangle))]
 unsafe extern "C" fn rattle_realloc(at: *mut c_void, _kept: usize, size: usize, align: usize) -> Tried {
     if is_refused() {
         return tried(std::ptr::null_mut());
@@ -58,7 +64,8 @@ unsafe extern "C" fn rattle_realloc(at: *mut c_void, _kept: usize, size: usize, 
     tried(unsafe { realloc(at, if size == 0 { align } else { size }) })
 }
 
-#[unsafe(no_mangle)]
+#[cfg_attr(renamed_heap, unsafe(export_name = "vortex_logical_types_dealloc"))]
+#[cfg_attr(not(renamed_heap), unsafe(no_mangle))]
 unsafe extern "C" fn rattle_dealloc(at: *mut c_void) {
     // SAFETY: as above.
     unsafe { free(at) }

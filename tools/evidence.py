@@ -16,10 +16,8 @@ from collections import defaultdict
 from glob import glob
 
 import golden
-from examples import commands, listed
-from repository import (
-    KEPT, anchor_of, bare, crates, functions, functions_of, law_of, libraries, public_calls, signature_of, text_of,
-)
+from examples import commands, item_of, listed
+from repository import KEPT, anchor_of, bare, crates, functions, functions_of, law_of, libraries, public_calls, text_of
 
 ABOUT = re.compile(r"\[`([^`]+)`\]")
 # What prints, compares, hashes, copies and walks without a call that is written out.
@@ -31,14 +29,6 @@ WITHOUT_CLAUSE = {
     "DTypeProto": "the impl for `DType` has the clauses",
     "FieldPathProto": "the impl for `FieldPath` has the clauses",
 }
-
-
-def item_of(function):
-    """The name of the item that has a function: of an impl of a trait that of the impl."""
-    owner = function.owner
-    if owner and owner.kind == "impl" and owner.trait:
-        return re.sub(r"<'\w+>|'\w+ |\bfmt::", "", signature_of(owner.heading))
-    return function.path
 
 
 def comment_of(function):

@@ -3,21 +3,31 @@
 
 """The lines of the console that show each call, for tools/reference: a command's example where the golden tests have
 it, else the first of them that is short, with its answer; and the first that is answered by an error. And checks for
-tools/pages that something runs each public call that allocates: a contract lets a call return OutOfMemory for any
-input, so only a run shows that it succeeds.
+tools/pages that something runs each public call: a contract lets a call return OutOfMemory for any input, and what a
+machine makes of a proved body is seen only where it runs.
 
 tools/data/run_by has, each with the calls that it runs, the commands of the console that aren't called as OWNERS and
 NAMED have it (an impl is named by its trait and its type), and where none makes a call a test by its path, or another
 call that is run, in whose crate the call is made. A command with an asterisk runs these calls besides its own: its lines
-show them (tools/evidence.py), and are no examples of them."""
+show them (tools/evidence.py), and are no examples of them. A call that doesn't allocate isn't listed if the sources of
+the tests and programs show who makes it: they have it behind its type, or no other public call has its name."""
 import re
 from collections import defaultdict
 
-from repository import console_rows, crates, functions, public_calls, sources_of, text_of
+from repository import (
+    bare, code_of, console_rows, crates, functions, libraries, public_calls, signature_of, sources_of, text_of,
+)
 
 TRANSCRIPT = "crates/dtype_console/stdout"
 RUN_BY = "tools/data/run_by"
 SHORT = 90
+ALLOCATES = "alloc: Global|-> VortexResult<"
+# The crates above the libraries that aren't run: callers that are only proved.
+NOT_RUN = ["uses_types", "uses_paths"]
+# What an argument of this form may be, all of which lines ask for if it is the first of a command.
+INTEGERS = ["u8", "u16", "u32", "u64", "i8", "i16", "i32", "i64"]
+CHOICES = {"INT": INTEGERS, "PT": [*INTEGERS, "f16", "f32", "f64"], "N": ["NonNullable", "Nullable"],
+           "DI": ["i8", "i16", "i32", "i64", "i128"], "DT": ["i8", "i16", "i32", "i64", "i128", "i256"]}
 
 # The type whose call a command makes, by its topic, or by what stands before the call's name.
 OWNERS = {name: owner for owner, names in {
@@ -123,10 +133,18 @@ def makes(name, files):
     return any(call.search(text_of(file)) for file in files)
 
 
+def item_of(function):
+    """The name of the item that has a function: of an impl of a trait that of the impl."""
+    owner = function.owner
+    if owner and owner.kind == "impl" and owner.trait:
+        return re.sub(r"<'\w+>|'\w+ |\bfmt::", "", signature_of(owner.heading))
+    return function.path
+
+
 def check():
     """How many public calls allocate, and each that nothing runs, or that is listed wrongly: where, and the fault."""
     of_crates, lines, rows, faults, run = defaultdict(set), answered(), list(commands()), [], set()
-    allocating = {it.path for _, it in public_calls() if it.body and re.search("alloc: Global|-> VortexResult<", it.signature)}
+    allocating = {it.path for _, it in public_calls() if it.body and re.search(ALLOCATES, it.signature)}
     for crate, it in public_calls():
         of_crates[it.path].add(crate)
     console = [file for it in crates() if "console" in it for file in sources_of(it)]
@@ -144,8 +162,38 @@ def check():
         elif runner in named or runner in of_crates:
             fault = None if makes(call.rpartition("::")[2], made_in) else f"{runner} makes no call of it"
         else:
-            fault = fault_of_test(runner)
+            fault = None if runner in crates() else fault_of_test(runner)
         run.add(call)
         faults += [(RUN_BY, f"{call}: {fault}")] * bool(fault)
     faults += [(RUN_BY, f"{it}, which allocates, isn't run") for it in sorted(allocating - run)]
     return len(allocating), faults
+
+
+def check_others():
+    """How many public calls don't allocate, and each of them that nothing runs; and each first argument that a command
+    is never asked for, where only a few are possible, so that the call of each type is run: where, and the fault."""
+    others, names, faults, lines, rows = [], defaultdict(set), [], answered(), list(commands())
+    for _, it in public_calls():
+        names[it.name].add(it.path)
+        if it.body and not re.search(ALLOCATES, it.signature):
+            others.append(it)
+    shown = {call for row, calls in rows if any(is_value(answer) or answer == "-" for _, answer in lines[row.name])
+             for call in calls}
+    unshown = {call for _, calls in rows for call in calls} - shown
+    also = [call for mark in ("", "*") for calls in listed(mark).values() for call in calls]
+    shown.update(call for call in also if call not in unshown)
+    sources = (file for crate in crates() if crate not in [*libraries(), *NOT_RUN] for file in sources_of(crate))
+    code = " ".join(bare(code_of(text_of(file))) for file in sources)
+    for it in others:
+        called = rf"\b{re.escape(it.path.rpartition('::')[0])}(?:::<[^>]*>)?::{it.name}\b"
+        if len(names[it.name]) == 1:
+            called += rf"|(?<!fn )(?<!\w){it.name}(?:::<[^>]*>)?\("
+        known = {it.path, item_of(it)}
+        if not known & shown and (known & unshown or not re.search(called, code)):
+            faults.append((RUN_BY, f"{it.path} isn't run"))
+    for row, _ in rows:
+        asked = {line.split(" ")[2] for line, answer in lines[row.name]
+                 if line.count(" ") > 1 and not answer.startswith("unreadable ")}
+        left = [it for it in CHOICES.get(row.arguments.split(" ")[0], ()) if it not in asked]
+        faults += [(TRANSCRIPT, f"no line has {row.name} {', '.join(left)}")] * bool(left)
+    return len(others) + len(rows), faults

@@ -179,3 +179,37 @@ fn a_long_path(rt: HostRuntime) -> Result<(), Fail> {
     assert!(rt; counted(copy)? == (1, 500_001));
     Ok(())
 }
+
+// The set of two names.
+fn two_names(alloc: Global) -> VortexResult<FieldPathSet> {
+    let mut set = FieldPathSet::new(alloc);
+    set.insert(path(alloc, "a")?)?;
+    set.insert(path(alloc, "b")?)?;
+    Ok(set)
+}
+
+// The debug texts of a set, of its cursor and of the names below that.
+fn debug_texts(alloc: Global, set: &FieldPathSet) -> VortexResult<String> {
+    let cursor = set.cursor();
+    let names = cursor.names();
+    Ok(format!(in alloc; "{set:?}, {cursor:?}, {names:?}")?)
+}
+
+#[test]
+fn a_cursor_tells_how_many_names_are_left(rt: HostRuntime) -> Result<(), Fail> {
+    let set = two_names(rt.alloc())?;
+    let cursor = set.cursor();
+    let mut names = cursor.names();
+    assert!(rt; names.size_hint() == (2, Some(2)));
+    let _ = names.next();
+    assert!(rt; names.size_hint() == (1, Some(1)));
+    Ok(())
+}
+
+#[test]
+fn sets_and_cursors_have_debug_texts(rt: HostRuntime) -> Result<(), Fail> {
+    let set = two_names(rt.alloc())?;
+    let text = debug_texts(rt.alloc(), &set)?;
+    assert!(rt; text.as_str() == "FieldPathSet { .. }, FieldPathCursor { .. }, CursorNames { .. }");
+    Ok(())
+}

@@ -2,6 +2,7 @@
 // SPDX-FileCopyrightText: Copyright the Vortex contributors
 
 use dtype_base::{DecimalDType, MessageFault, Nullability, PType, VortexError};
+use dtype_types::FieldDType;
 use std::test::Fail;
 
 #[test]
@@ -10,6 +11,17 @@ fn decimals_that_differ_in_one_part_are_unequal(rt: HostRuntime) -> Result<(), F
     assert!(rt; decimal == DecimalDType::new(5, 2));
     assert!(rt; decimal != DecimalDType::new(5, 3) && decimal != DecimalDType::new(6, 2));
     assert!(rt; Nullability::NonNullable != Nullability::Nullable);
+    assert!(rt; FieldDType::from(PType::U8) != FieldDType::from(PType::U16));
+    Ok(())
+}
+
+#[test]
+fn a_nullability_is_joined_in_place(rt: HostRuntime) -> Result<(), Fail> {
+    let mut joined = Nullability::NonNullable;
+    joined |= Nullability::NonNullable;
+    assert!(rt; joined == Nullability::NonNullable);
+    joined |= Nullability::Nullable;
+    assert!(rt; joined == Nullability::Nullable);
     Ok(())
 }
 

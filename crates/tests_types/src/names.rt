@@ -39,3 +39,13 @@ fn names_tell_how_many_are_left(rt: HostRuntime) -> Result<(), Fail> {
     assert!(rt; owned.size_hint() == (1, Some(1)));
     Ok(())
 }
+
+#[test]
+fn names_are_ordered(rt: HostRuntime) -> Result<(), Fail> {
+    let (first, second) = (
+        FieldName::new(rt.alloc(), "a")?,
+        FieldName::new(rt.alloc(), "b")?,
+    );
+    assert!(rt; first < second && !(second < first));
+    Ok(())
+}

@@ -8,7 +8,7 @@ ghost use Rattle.vortex_dtype.specs.Session.{meaning};
 ghost use Rattle.vortex_dtype.specs.TreeOf.{extension_metadata, extension_tree, tree};
 ghost use Rattle.vortex_dtype.specs.Valid.{Valid};
 
-use vortex_dtype::{DType, DTypeSession, ExtDTypeRef, VortexResult};
+use vortex_dtype::{DType, DTypeSession, ExtDTypePlugin, ExtDTypeRef, VortexResult};
 
 /// Returns the extension `x.date` over days, without metadata, as the session keeps it.
 pub fn date(session: &DTypeSession, days: DType) -> VortexResult<ExtDTypeRef>

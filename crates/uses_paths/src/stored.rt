@@ -17,7 +17,7 @@ ghost use Rattle.vortex_dtype.specs.Session.{meaning};
 
 use std::alloc::Global;
 use vortex_dtype::{
-    DType, DTypeProto, DTypeSession, FieldName, FieldNames, FieldPathProto, Nullability, PType,
+    DType, DTypeProto, DTypeSession, ExtDTypePlugin, FieldName, FieldNames, Nullability, PType,
     StructFields, VortexResult,
 };
 

@@ -10,7 +10,7 @@ ghost use Rattle.vortex_dtype.specs.Session.{meaning};
 ghost use Rattle.vortex_dtype.specs.TreeOf.{extension_metadata, tree};
 ghost use Rattle.vortex_dtype.specs.Valid.{Valid};
 
-use vortex_dtype::{DType, DTypeSession, ExtDTypeRef, VortexResult};
+use vortex_dtype::{DType, DTypeSession, ExtDTypePlugin, ExtDTypeRef, VortexResult};
 
 /// An amount of money, in a session that knows money alone: its metadata is what the plugin writes back.
 pub fn amount(session: &DTypeSession, metadata: &[u8], storage: DType) -> VortexResult<ExtDTypeRef>

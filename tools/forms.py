@@ -9,9 +9,9 @@ from collections import namedtuple
 
 from repository import BODY, CLAUSE, HEADER, SIGNATURE_END, WHERE, code_of, end_of, shape_of
 
-# An edit: what it is called, the text of the function with it, the words of std that it imports, and what a reader has
-# to know before it is taken, or nothing.
-Form = namedtuple("Form", "name text imports warning")
+# An edit: what it is called, the text of the function with it, the words of std that it imports, what a reader has to know
+# before it is taken, or nothing, and of a loop that it writes the names that an invariant has, the loop's own first.
+Form = namedtuple("Form", "name text imports warning loop", defaults=((),))
 # `head` ends where the first clause or the body begins; a clause is its kind, its name and its text.
 Parts = namedtuple("Parts", "head clauses body")
 Written = namedtuple("Written", "kind name text")
@@ -251,6 +251,44 @@ def branches(parts, _):
         yield Form("an `if` in place of `&&` at the end", parts._replace(body=body), (), "")
 
 
+COUNTED = re.compile(r"(?P<over>[\w.()]+?)\.filter\(\|(?P<item>\w+)\| (?P<test>.*)\)\.count\(\)", re.S)
+COLLECTED = re.compile(r"(?P<over>[\w.()]+?)\.map\(\|(?P<item>\w+)\| (?P<call>.*)\)\.try_collect\((?P<alloc>\w+)\)", re.S)
+
+
+def loops(parts, _):
+    """A `for` loop in place of a chain that counts, or that collects what calls return that may fail. An invariant can be
+    written for the loop, and nothing can be said of the chain."""
+    shape = shape_of(code_of(parts.body))
+    last = last_of_block(shape, 0)
+    if not last:
+        return
+    bound = re.search(r"let (\w+) = ([^;]*)\?;\s*\Z", parts.body[:last[0]])
+    for begin, end, name in [(*last, None)] + ([(bound.start(), bound.end(), bound[1])] if bound else []):
+        chain = re.sub(r"\s*\n\s*", "", bound[2] if name else parts.body[begin:end])
+        counts, collects = COUNTED.fullmatch(chain), COLLECTED.fullmatch(chain)
+        found = None if name and counts else counts or collects
+        if not found:
+            continue
+        variable = name or ("count" if counts else "found")
+        over = re.sub(r"^(\w+)\.iter\(\)$", r"\1", found["over"]) if is_slice(parts.head, found["over"]) else found["over"]
+        if counts:
+            start, turn = "0", f"if {found['test']} {{\n            {variable} += 1;\n        }}"
+        else:
+            start, turn = f"Vec::new({found['alloc']})", f"{variable}.push({found['call']}?)?;"
+        loop = f"let mut {variable} = {start};\n    for {found['item']} in {over} {{\n        {turn}\n    }}"
+        behind = "" if name else f"\n    {variable if counts else f'Ok({variable})'}"
+        rest = f"\n    {parts.body[end:]}" if name else parts.body[end:]
+        kind = "index" if is_slice(parts.head, found["over"]) else "iterator"
+        known = (f"{found['item']}-{kind}", variable, *re.findall(r"(\w+): ", parts.head.partition("(")[2]))
+        yield Form("a `for` loop in place of a chain", parts._replace(body=parts.body[:begin] + loop + behind + rest), (), "", known)
+
+
+def is_slice(head, over):
+    """Whether a chain goes over a parameter that is a slice, or over the steps of a path."""
+    name = re.match(r"(\w+)\.(?:iter|parts)\(\)$", over)
+    return bool(name and (over.endswith(".parts()") or re.search(rf"\b{name[1]}: &(?:'\w+ )?\[", head)))
+
+
 # ---- forms of clauses
 
 def words(text, word):
@@ -408,7 +446,7 @@ def forms_of(text):
     """The forms of a function, each a single edit, and then all edits of its code, and these with those of its clauses
     that ask no more of a caller and promise no less."""
     parts = parts_of(text)
-    single = [form for make in CODE + CLAUSES for form in make(parts, returned_by(parts))]
+    single = [form for make in CODE + (loops,) + CLAUSES for form in make(parts, returned_by(parts))]
     together = []
     for makers in (CODE, CODE + CLAUSES):
         changed, names, imports = parts, [], []

@@ -9,7 +9,7 @@ import re
 from collections import namedtuple
 
 import forms
-from repository import code_of, end_of, shape_of
+from repository import code_of, shape_of
 
 COMMON = "Rattle.std.proofs.Common"
 # A loop: its variable, what a clause calls all that it goes over, what an invariant calls all of it, what of it is done
@@ -20,6 +20,8 @@ EXTRA = {"take": COMMON, "drop": COMMON, "map": COMMON, "length": COMMON, "with_
          "into_iter_items": "Rattle.std.specs.Vec.Iter", "field_names": "Rattle.vortex_dtype.specs.Lookups",
          "field_types": "Rattle.vortex_dtype.specs.Lookups", "◌++◌": COMMON, "◌+◌": COMMON, "◌<◌": COMMON,
          "◌^◌": COMMON, "◌≡◌": COMMON, "◌↔◌": COMMON}
+# A definition of a skeleton with a hole, or with what the toolchain knows of a loop by itself.
+HOLE = re.compile(r"(?m)^((?:invariant|decreases)-\S+) l =(?: \?|(?:\n {4}.*)+)$")
 OPERATORS = {"≡": "◌≡◌", "↔": "◌↔◌", "++": "◌++◌", "+": "◌+◌", "<": "◌<◌", "^": "◌^◌", "∷": "◌∷◌", "≤": "◌≤◌", "[]": "[]"}
 
 
@@ -49,6 +51,13 @@ def loop_of(text, known):
     if method == "":
         return Loop(iterator[:-9], f"{name}.items", f"{whole}.items", None, f"(into_iter_items {rest})")
     return None
+
+
+def names_in(text, name, skeleton):
+    """The same of a loop of which the check says nothing: the parameters, the variables, and the loop's own."""
+    parts = forms.parts_of(text)
+    kind = "iterator" if f"iterator-loop-{name[15:]}" in skeleton else "index"
+    return [f"{name[15:]}-{kind}", *re.findall(r"(\w+): ", parts.head.partition("(")[2]), *re.findall(r"let mut (\w+)", parts.body)]
 
 
 def names_of(lines):
@@ -146,34 +155,40 @@ def imports(statement, text, skeleton):
     has = {it.strip() for listing in re.findall(r"\{([^}]*)\}", skeleton) for it in listing.split(",")}
     words = set(re.findall(r"[^\W\d][\w'-]*", statement))
     words |= {word for sign, word in OPERATORS.items() if sign in statement.split() or sign == "[]" and "[]" in statement}
-    lines = []
+    groups = {}
     for module, listing in re.findall(r"ghost use ([\w.]+)\.\{([^}]*)\};", text):
         wanted = [it for it in (it.strip() for it in listing.split(",")) if it in words - has]
         has.update(wanted)
-        if wanted:
-            lines.append(f"use {module}.{{{', '.join(wanted)}}}")
-    for item in re.findall(r"ghost use ([\w.]+ as \w+);", text):
-        if re.search(rf"\b{item.split()[-1]}\.", statement):
-            lines.append(f"use {item}")
+        groups.setdefault(module, []).extend(wanted)
     for word, module in EXTRA.items():
         if word in words - has:
-            lines.append(f"use {module}.{{{word}}}")
-    return lines
+            groups.setdefault(module, []).append(word)
+    lines = [f"use {module}.{{{', '.join(wanted)}}}" for module, wanted in groups.items() if wanted]
+    return lines + [f"use {item}" for item in re.findall(r"ghost use ([\w.]+ as \w+);", text)
+                    if re.search(rf"\b{item.split()[-1]}\.", statement)]
 
 
 def guesses(text, file_text, skeleton, names):
     """The files of invariants to try."""
-    holes = re.findall(r"(?m)^(\S+) l = \?$", skeleton)
-    if len(holes) != 1 or not holes[0].startswith("invariant-loop") or holes[0] not in names:
+    holes = list(HOLE.finditer(skeleton))
+    if len(holes) != 1 or not holes[0][1].startswith("invariant-loop-"):
         return []
-    found = []
-    for it in statements(text, names_of(names[holes[0]])):
-        head, _, rest = skeleton.partition("\n\n")
+    name, found = holes[0][1], []
+    for it in statements(text, names_of(names[name]) if name in names else names_in(text, name, skeleton)):
+        head, _, rest = (skeleton[:holes[0].start()] + f"{name} l = ?\n").partition("\n\n")
         lines = imports(it, file_text, head)
         last = next((n for n, line in enumerate(head.split("\n")) if line.endswith(" as goal")), 0)
         head = "\n".join([*head.split("\n")[:last], *lines, *head.split("\n")[last:]])
         found.append(f"{head}\n\n{rest.replace('l = ?', 'l = ' + it)}")
     return found
+
+
+def guesses_of_form(form, file_text, crate, path):
+    """The files of invariants to try with a form that writes a loop."""
+    name = f"invariant-loop-{form.loop[0].rpartition('-')[0]}"
+    given = ".".join(["Rattle", crate, "proofs", *path.split("::"), "Given"])
+    text = f"use {COMMON}.{{◌≡◌}}\nuse {given} as goal\n\nabbrev pub {name} : goal.{name}\n{name} l = ?\n"
+    return guesses(form.text, file_text, text, {name: "| l: " + ", ".join(f".{it}" for it in form.loop)})
 
 
 def skeleton(text, names):
@@ -182,4 +197,4 @@ def skeleton(text, names):
         known = names_of(names.get(it[1], ""))
         said = f"-- what is true before each turn, by {', '.join('l.' + name for name in known)}\n" if known else ""
         return f"{said}{it[0]}"
-    return re.sub(r"(?m)^abbrev pub (\S+) :.*\n\1 l = \?$", commented, text)
+    return re.sub(r"(?m)^abbrev pub (\S+) :.*\n\1 l =", commented, text)

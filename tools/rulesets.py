@@ -185,7 +185,12 @@ def ranked(contract, body):
     return sorted(rulesets(), key=lambda path: (-score(rulesets()[path]), len(rulesets()[path].lemmas)))
 
 
-def words_to_look_up(contract, goals):
-    """The definitions by which to look for a lemma: those of the open goals, the rarest first."""
-    found = proofs().words_in(goals) or proofs().words_in(contract)
-    return sorted((it for it in found if re.match(r"\w", it)), key=lambda it: -rarity().get(it, 0))[:5]
+def nearest(contract, body, goals, count=3):
+    """The lemmas that fit best what is open of a function, each with the smallest ruleset that has it and its statement."""
+    weights = weights_of(contract, body)
+    of_goals = {it: OF_CONTRACT for it in proofs().words_in(goals or contract)}
+    smallest = {}
+    for path, it in sorted(rulesets().items(), key=lambda pair: -len(pair[1].lemmas)):
+        smallest.update((lemma, path) for lemma in it.lemmas)
+    best = sorted(smallest, key=lambda it: -fits(it, weights) - fits(it, of_goals))[:count]
+    return [(it[1], smallest[it], " ".join(proofs().statements[it].split())) for it in best]

@@ -177,6 +177,27 @@ class Invariants(unittest.TestCase):
         self.assertIn("all : l.count + count_by is_nested (map tree l.d-iterator) ≡ count_by is_nested (field_types (children l.t));",
                       invariants.statements(text, ["t", "count", "d-iterator"])[0])
 
+    def test_what_the_check_writes_of_an_iterator_is_replaced(self):
+        text = ("fn f(t: &StructFields) -> u64\n    ensures { result ≡ count_by is_nested (field_types (children t.now)) }\n{\n"
+                "    let mut count = 0;\n    for d in t.fields() {\n        count += 1;\n    }\n    count\n}")
+        skeleton = ("use Rattle.shop.proofs.f.Given as goal\n\nabbrev pub invariant-loop-d : goal.invariant-loop-d\n"
+                    "invariant-loop-d l =\n    (goal.iterator-loop-d).can_next l.d-iterator ×\n"
+                    "    (goal.iterator-loop-d).is_finite l.d-iterator\n")
+        file = invariants.guesses(text, "", skeleton, {})[0]
+        self.assertIn("invariant-loop-d l = record {\n  all : l.count + count_by is_nested (map tree l.d-iterator) ≡", file)
+        self.assertNotIn("can_next", file)
+
+    def test_a_chain_that_collects_becomes_a_loop_with_its_invariant(self):
+        text = ("fn f(alloc: Global, xs: &[A]) -> VortexResult<Vec<B>>\n"
+                "    ensures { IfOk result (λ v. map Some v.items ≡ map g xs.now) }\n{\n"
+                "    xs.iter()\n        .map(|x| B::of(alloc, x))\n        .try_collect(alloc)\n}")
+        made = next(it for it in forms.forms_of(text) if it.loop)
+        self.assertIn("    let mut found = Vec::new(alloc);\n    for x in xs {\n        found.push(B::of(alloc, x)?)?;\n    }\n"
+                      "    Ok(found)\n", made.text)
+        file = invariants.guesses_of_form(made, "", "shop", "schemas::f")[0]
+        self.assertIn("use Rattle.shop.proofs.schemas.f.Given as goal\n", file)
+        self.assertIn("invariant-loop-x l = map Some l.found.items ≡ map g (take l.x-index l.xs)\n", file)
+
 
 class Rulesets(unittest.TestCase):
     def test_each_ruleset_has_lemmas(self):

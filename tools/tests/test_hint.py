@@ -11,7 +11,7 @@ from planted import Planted
 import forms
 import invariants
 import rulesets
-from repository import libraries
+from repository import libraries, text_of
 
 CRATE = "crates/schemas"
 HEAD = """#![tactic(auto)]
@@ -209,3 +209,10 @@ class Rulesets(unittest.TestCase):
         ranked = rulesets.ranked("Valid (tree schema.now) IfSome result (λ d. Valid (tree d.now))", "path.resolve(schema)")
         self.assertIn("vortex_dtype::proofs::rulesets::types_along", ranked[:12])
         self.assertEqual(len(ranked), len(rulesets.rulesets()))
+
+    def test_the_page_has_a_row_for_each_ruleset_to_choose_from(self):
+        page = text_of("crates/vortex_dtype/CALLING.md")
+        for path in rulesets.rulesets():
+            address, _, name = path.rpartition("::")
+            with self.subTest(path):
+                self.assertIn(f"| `{name}` |" if address == rulesets.ADDRESSES[0] else f"`{name}`", page)

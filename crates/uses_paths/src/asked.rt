@@ -29,7 +29,7 @@ pub fn is_read(asked: &FieldPathSet, column: &FieldPath) -> VortexResult<bool>
 }
 
 /// Whether a query asks for something in a column.
-#[tactic(auto, using(vortex_dtype::proofs::rulesets::stepping_into))]
+#[tactic(auto, using(vortex_dtype::proofs::parts::stepping_into))]
 pub fn asks_in(asked: &FieldPathSet, column: &Field) -> bool
     ensures { IsTrue result ↔ ((q : List Field) × IsTrue (set.contains asked.now (column.now ∷ q))) }
 {
@@ -52,7 +52,7 @@ pub fn reads_whole(asked: &FieldPathSet, column: &Field) -> bool
 }
 
 /// What either of two queries asks for, of the second its least paths alone: it covers the same.
-#[tactic(auto, using(vortex_dtype::proofs::rulesets::set_unions))]
+#[tactic(auto, using(vortex_dtype::proofs::parts::set_unions))]
 pub fn both_queries(mut asked: FieldPathSet, more: FieldPathSet) -> VortexResult<FieldPathSet>
     ensures { IfOk result (λ s. SameCoverage s (set.union asked more)) }
 {
@@ -69,7 +69,7 @@ pub fn number_missing(asked: &FieldPathSet, table: &DType) -> VortexResult<usize
 }
 
 /// The columns to open: no two of them overlap.
-#[tactic(auto, using(vortex_dtype::proofs::rulesets::least_paths))]
+#[tactic(auto, using(vortex_dtype::proofs::parts::least_paths))]
 pub fn open_apart(asked: FieldPathSet) -> VortexResult<vec::IntoIter<FieldPath>>
     ensures { IfOk result (λ r. (p q : List Field) → Contains (into_iter_items r) p
         → Contains (into_iter_items r) q → Overlaps p q → p ≡ q) }

@@ -49,7 +49,7 @@ pub fn number_with(asked: FieldPathSet, path: FieldPath) -> VortexResult<usize>
 }
 
 /// The number of columns to open: at most that of the paths that are asked for.
-#[tactic(auto, using(vortex_dtype::proofs::rulesets::opened_counts))]
+#[tactic(auto, using(vortex_dtype::proofs::parts::opened_counts))]
 pub fn number_to_open(asked: FieldPathSet) -> VortexResult<usize>
     ensures { IfOk result (λ n. n ≤ set.len asked) }
 {
@@ -57,7 +57,7 @@ pub fn number_to_open(asked: FieldPathSet) -> VortexResult<usize>
 }
 
 /// The columns to open, of which no two overlap: nothing is read twice.
-#[tactic(auto, using(vortex_dtype::proofs::rulesets::opened_paths))]
+#[tactic(auto, using(vortex_dtype::proofs::parts::opened_paths))]
 pub fn opened_apart(asked: FieldPathSet) -> VortexResult<vec::IntoIter<FieldPath>>
     ensures { IfOk result (λ r. (p q : List Field) → Contains (into_iter_items r) p
         → Contains (into_iter_items r) q → Overlaps p q → p ≡ q) }
@@ -66,7 +66,7 @@ pub fn opened_apart(asked: FieldPathSet) -> VortexResult<vec::IntoIter<FieldPath
 }
 
 /// What one of two queries asks, whose scan is shared: the paths of the second are inserted one by one.
-#[tactic(auto, using(vortex_dtype::proofs::rulesets::collected_paths))]
+#[tactic(auto, using(vortex_dtype::proofs::parts::collected_paths))]
 pub fn shared_scan(first: FieldPathSet, second: &FieldPathSet) -> VortexResult<FieldPathSet>
     ensures { IfOk result (λ s. s ≡ set.union first second.now) }
 {
@@ -78,7 +78,7 @@ pub fn shared_scan(first: FieldPathSet, second: &FieldPathSet) -> VortexResult<F
 }
 
 /// The paths of two queries: whose come first doesn't matter.
-#[tactic(auto, using(vortex_dtype::proofs::rulesets::covering, vortex_dtype::proofs::rulesets::union_swap))]
+#[tactic(auto, using(vortex_dtype::proofs::rulesets::covering, vortex_dtype::proofs::parts::union_swap))]
 pub fn asked_by_both(one: &FieldPathSet, other: Vec<FieldPath>) -> VortexResult<FieldPathSet>
     ensures { IfOk result (λ s. s ≡ set.union (set_of other.items) one.now) }
 {

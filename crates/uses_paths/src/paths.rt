@@ -25,7 +25,7 @@ pub fn nullability_along(path: &FieldPath, dtype: &DType) -> Option<Nullability>
 }
 
 /// The type of a table's column by its name: the type along the path of that name, or `None` where there is none.
-#[tactic(auto, using(vortex_dtype::proofs::rulesets::one_column))]
+#[tactic(auto, using(vortex_dtype::proofs::parts::one_column))]
 pub fn column_of_struct<'a>(table: &'a DType, column: &str) -> Option<&'a DType>
     ensures { shown tree result ≡ along (tree table.now) (Field.Name column.now ∷ []) }
 {
@@ -51,7 +51,7 @@ pub fn beginning_exists(path: &FieldPath, longer: &FieldPath, dtype: &DType) -> 
 }
 
 /// The type of the elements of the list along a path: the type one step further, or none where there is none.
-#[tactic(auto, using(vortex_dtype::proofs::rulesets::one_step))]
+#[tactic(auto, using(vortex_dtype::proofs::parts::one_step))]
 pub fn element_type<'a>(path: &FieldPath, dtype: &'a DType) -> Option<&'a DType>
     ensures { shown tree result ≡ along (tree dtype.now) (path.now ++ Field.ElementType ∷ []) }
 {

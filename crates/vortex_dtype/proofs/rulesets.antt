@@ -1,10 +1,11 @@
 -- SPDX-License-Identifier: Apache-2.0
 -- SPDX-FileCopyrightText: Copyright the Vortex contributors
 
--- Every ruleset that a caller's proof can name, one name a topic, at one address. A line atop a file names those that
--- its contracts need, and `#[tactic(..)]` those of one function:
+-- The rulesets from which a caller chooses, one for each topic. A line at the top of a file names those that its contracts
+-- need, and `#[tactic(..)]` names those of one function:
 --     #![tactic(auto, using(vortex_dtype::proofs::rulesets::lookups, vortex_dtype::proofs::rulesets::structs))]
--- Each topic's lemmas are proved in the crate whose definitions they are about.
+-- Smaller parts of large rulesets, and single lemmas, are in `parts`. The lemmas of each topic are proved in the crate whose
+-- definitions they are about.
 
 -- of dtype_base: primitive and decimal types
 pub use Rattle.dtype_base.proofs.lemmas.Decimals.{decimals}
@@ -17,32 +18,22 @@ pub use Rattle.dtype_types.proofs.lemmas.Order.{order}
 pub use Rattle.dtype_types.proofs.lemmas.Validity.{validity}
 -- of dtype_paths and dtype_projection: path sets and how many paths they have, sets, paths and masks that are stepped
 -- along (one step of a type too), the paths that a type lacks, and types that are projected
-pub use Rattle.dtype_paths.proofs.lemmas.Covering.{collected_paths, count_bounds, counting, covered_paths, covering, covers_members, has_members, inserted_paths, least_paths, made_coverage, members, opened_counts, opened_paths, set_unions, united_coverage}
+pub use Rattle.dtype_paths.proofs.lemmas.Covering.{count_bounds, counting, covering, members}
 pub use Rattle.dtype_paths.proofs.lemmas.LentPaths.{lent_paths}
 pub use Rattle.dtype_paths.proofs.lemmas.MaskLists.{mask_lists}
-pub use Rattle.dtype_paths.proofs.lemmas.PathsBelow.{set_cursors, stepping_into, walked_cursors}
-pub use Rattle.dtype_paths.proofs.lemmas.Stepping.{beginnings, one_column, stepped_masks, stepping, types_along}
-pub use Rattle.dtype_paths.proofs.lemmas.Steps.{one_step}
+pub use Rattle.dtype_paths.proofs.lemmas.PathsBelow.{set_cursors, walked_cursors}
+pub use Rattle.dtype_paths.proofs.lemmas.Stepping.{beginnings, stepped_masks, stepping, types_along}
 pub use Rattle.dtype_paths.proofs.lemmas.Unresolved.{unresolved_paths}
-pub use Rattle.dtype_projection.proofs.lemmas.Descending.{descending, opened_after, opened_nowhere, opened_uncontained}
 pub use Rattle.dtype_projection.proofs.lemmas.Projecting.{projecting, projecting_one}
 -- of vortex_dtype: sessions; and what callers of the crates below need and their own proofs don't: names that are among
--- the names of fields, also each of many, fields that a contract names one after another, counts,
--- and two lists side by side
+-- the names of fields, also each of many, fields that a contract names one after another, and counts
 pub use Rattle.vortex_dtype.proofs.lemmas.Sessions.{sessions}
 pub use Rattle.vortex_dtype.proofs.lemmas.NamesAmong.{among}
 pub use Rattle.vortex_dtype.proofs.lemmas.EachAmong.{each_among}
 pub use Rattle.vortex_dtype.proofs.lemmas.FieldLists.{listed_fields}
 pub use Rattle.vortex_dtype.proofs.lemmas.Counted.{counted}
-pub use Rattle.vortex_dtype.proofs.lemmas.Zipped.{zipped}
--- lemmas of these for answers of one's own: the set of paths that a loop collects, and any number of comparisons; and a
--- union in the other order, for a function's own line, since beside `covering` a search turns it back and forth; and that
--- types each below the other are equal, for a function's own line too: beside `order` a search goes from `Sub` to `Sub`
-pub use Rattle.dtype_base.proofs.lemmas.Lookups.{few_compared}
-pub use Rattle.dtype_paths.proofs.lemmas.Covering.{of_push, union_swap}
-pub use Rattle.dtype_types.proofs.lemmas.Order.{sub_antisymmetric}
 use Rattle.dtype_base.proofs.lemmas.BinaryDigits.{digits_fewest, digits_reach}
-use Rattle.dtype_base.proofs.lemmas.Lookups.{lookups as name_lookups, absent_of_place, first_of_place, found_compared, found_first, most_compared, no_place, none_absent, place_found, place_of_first}
+use Rattle.dtype_base.proofs.lemmas.Lookups.{lookups as name_lookups, few_compared, found_compared, most_compared}
 use Rattle.dtype_messages.proofs.lemmas.Equality.{equality as message_equality, dtype_Decides}
 use Rattle.dtype_messages.proofs.lemmas.Names.{names}
 use Rattle.dtype_messages.proofs.lemmas.Numbers.{numbers}
@@ -55,12 +46,10 @@ use Rattle.dtype_types.proofs.lemmas.Nullabilities.{nullabilities as nullabiliti
 use Rattle.dtype_types.proofs.lemmas.Presence.{presence as names_present, placed_is_among}
 use Rattle.dtype_types.proofs.lemmas.Structs.{structs as fields_of_structs}
 use Rattle.dtype_types.proofs.lemmas.Tags.{tags as union_tags}
-use Rattle.dtype_types.proofs.lemmas.ValidParts.{struct_fields_valid, valid_parts, borrowed_list_element, borrowed_fixed_size_element, borrowed_any_size_element, owned_list_element, owned_fixed_size_element, owned_any_size_element, borrowed_map, owned_map, borrowed_struct, owned_struct, borrowed_union, owned_union, extension_is_valid, borrowed_extension}
-use Rattle.dtype_types.proofs.lemmas.Validity.{types_in_valid_parts, list_of_valid, fixed_size_list_of_valid, map_of_valid, struct_valid, union_valid, map_valid, extension_valid, field_valid, named_field_valid, variant_valid, named_variant_valid, struct_of_valid, removal_valid, set_valid, made_map_valid}
+use Rattle.dtype_types.proofs.lemmas.Validity.{set_valid}
 use Rattle.vortex_dtype.proofs.lemmas.AddedColumns.{named_last, projects_one, unplaced_unnamed}
 use Rattle.vortex_dtype.proofs.lemmas.Compared.{compared_up_to, compared_within}
 use Rattle.vortex_dtype.proofs.lemmas.Differences.{differences}
-use Rattle.vortex_dtype.proofs.lemmas.FieldLists.{valid_fields}
 use Rattle.vortex_dtype.proofs.lemmas.InOrder.{read_reads, reads_once, reads_read}
 use Rattle.vortex_dtype.proofs.lemmas.NamesAmong.{among_before, among_behind, distinct_removed, few_variants, removed_not_among, some_variants, tag_at_is_among, unnamed_not_among, unplaced_not_among}
 use Rattle.vortex_dtype.proofs.lemmas.PathMessages.{missing_part, no_path, path_root, path_steps, same_path_names, steps_by_names}
@@ -96,41 +85,20 @@ pub ruleset distinct_names = (among_before, among_behind, distinct_removed, remo
 -- tags: which are among those of a union, where a name has one; and how many variants a valid union has
 pub ruleset tags = (union_tags, tag_at_is_among, placed_is_among, unplaced_not_among, some_variants, few_variants)
 
--- Lookups of names, fields and variants, by name and by position, and how many names they compare. Its lemmas are two
--- questions, which a file that looks a column up and counts what that costs asks of the same call: each lemma begins with
--- a place or a number that the call gives, so few match at a goal. The questions apart are below.
+-- Lookups of names, fields and variants, by name and by position, and how many names they compare. Each lemma begins with
+-- a position or a number that the call returns, so few of them match at a goal.
 pub ruleset lookups = (name_lookups, field_lookups, compared_within, compared_up_to)
 
--- `lookups` by question: what is found, and where; how many names are compared for it
-pub ruleset found_names = (place_of_first, no_place, place_found, first_of_place, absent_of_place, found_first, none_absent, field_lookups)
-
+-- how many names a lookup compares
 pub ruleset compared_names = (few_compared, most_compared, found_compared, digits_reach, digits_fewest, compared_within, compared_up_to)
 
 -- `==` and `!=` of types, of their parts, and of messages, where a file compares several of these
 pub ruleset equality = (type_equality, message_equality, differences)
 
--- `equality` by question: `==` of types, `==` of messages, `!=` of both
-pub ruleset equal_types = (type_equality)
-
-pub ruleset equal_messages = (message_equality)
-
-pub ruleset unequal = (differences)
-
 -- messages that are read and written, the numbers of primitive types in them, and the names of a path's parts, where a file
--- reads what it writes; by question below
+-- reads what it writes
 pub ruleset messages = (reading, numbers, names)
 
--- `validity` is for files that take types apart and put them together. By question: what a valid type holds, lent and moved
--- out; the types of fields and variants; what is made of valid types
-pub ruleset valid_held = (valid_parts, borrowed_list_element, borrowed_fixed_size_element, borrowed_any_size_element, borrowed_map, borrowed_struct, borrowed_union, borrowed_extension, extension_is_valid)
-
-pub ruleset valid_moved = (owned_list_element, owned_fixed_size_element, owned_any_size_element, owned_map, owned_struct, owned_union)
-
-pub ruleset valid_columns = (types_in_valid_parts, struct_fields_valid, borrowed_struct, field_valid, named_field_valid, variant_valid, named_variant_valid)
-
-pub ruleset valid_made = (list_of_valid, fixed_size_list_of_valid, map_of_valid, struct_valid, union_valid, map_valid, extension_valid, struct_of_valid, removal_valid, set_valid, made_map_valid, valid_fields)
-
--- `messages` by question: what a message says, or which fault is in it; what is written, and read back; paths
 pub ruleset read_messages = (read_reads, reads_read, refused_faulty, fault_refused, unread_refused, fault_none, reads_once, reads_accepted, read_alike, copy_accepted)
 
 pub ruleset written_messages = (written_read, written_accepted, written_normal, written_is, same_normal, normal_again, other_nullability, dtype_Decides)

@@ -14,6 +14,7 @@ pub mod NamesAmong
 pub mod EachAmong
 pub mod AddedColumns
 pub mod Widened
+pub mod Intersected
 pub mod FieldLists
 pub mod Counted
 pub mod Registered

@@ -51,6 +51,7 @@ use Rattle.vortex_dtype.proofs.lemmas.AddedColumns.{named_last, projects_one, un
 use Rattle.vortex_dtype.proofs.lemmas.Compared.{compared_up_to, compared_within}
 use Rattle.vortex_dtype.proofs.lemmas.Differences.{differences}
 use Rattle.vortex_dtype.proofs.lemmas.InOrder.{read_reads, reads_once, reads_read}
+use Rattle.vortex_dtype.proofs.lemmas.Intersected.{given_values_of_both, values_of_both}
 use Rattle.vortex_dtype.proofs.lemmas.NamesAmong.{among_before, among_behind, distinct_removed, few_variants, removed_not_among, some_variants, tag_at_is_among, unnamed_not_among, unplaced_not_among}
 use Rattle.vortex_dtype.proofs.lemmas.PathMessages.{missing_part, no_path, path_root, path_steps, same_path_names, steps_by_names}
 use Rattle.vortex_dtype.proofs.lemmas.Reading.{reading}
@@ -73,7 +74,7 @@ pub ruleset nullabilities = (nullabilities_set, set_valid)
 -- with the one type that a call gives, of which a caller asks at once where it is given, what it is below and its values.
 pub ruleset merging = (types_merged, above, merged_nullable)
 
-pub ruleset intersecting = (types_intersected, above)
+pub ruleset intersecting = (types_intersected, above, values_of_both, given_values_of_both)
 
 -- whether a name is there, also that it isn't
 pub ruleset presence = (names_present, unplaced_not_among, unnamed_not_among)

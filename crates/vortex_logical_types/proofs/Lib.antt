@@ -2,3 +2,5 @@
 -- SPDX-FileCopyrightText: Copyright the Vortex contributors
 
 pub mod Below
+pub mod Extended
+pub mod Several

@@ -3,4 +3,5 @@
 
 pub mod Answers
 pub mod Objects
+pub mod Several
 pub mod Texts

@@ -3,29 +3,29 @@
 
 -- What slots have, and what exports over paths, sets, masks and messages return of it and leave in their slots. `code` is what
 -- the export returns: 2 if a slot has no object of the kind. `old` and `new` are what a slot or a number has before and after.
-use Rattle.std.specs.Prelude.{◌≡◌, ◌≢◌, ◌⊎◌, ◌+◌, ℕ, Bool, List, [], ◌∷◌, fold, length, map, Option, Some, None, Result, Ok, Err}
+use Rattle.std.specs.Prelude.{◌≡◌, ◌≢◌, ◌⊎◌, ◌+◌, ℕ, Bool, true, false, List, [], ◌∷◌, fold, length, map, Option, Some, None, Result, Ok, Err, slice_get, take, IsTrue}
 use Rattle.std.specs.FinSet as set
 use Rattle.std.specs.Hash.DefaultHasher as sip
 use Rattle.std.specs.List.{flat_map}
 use Rattle.std.specs.declared.alloc.Global.{Global}
 use Rattle.std.specs.declared.vec.Vec.{Vec}
 use Rattle.c_objects.specs.declared.object.Object.{Object}
-use Rattle.c_objects.specs.declared.object.Object.TheVariants.{DType, Path, Set, Paths, Mask, Message}
+use Rattle.c_objects.specs.declared.object.Object.TheVariants.{Path, Set, Paths, Mask, Message}
 use Rattle.dtype_base.specs.declared.vortex_error.VortexError.{VortexError}
 use Rattle.dtype_base.specs.Errors.{number_of}
 use Rattle.dtype_messages.specs.Message.{Message as MessageTree}
 use Rattle.dtype_messages.specs.MessageOf.{message}
 use Rattle.dtype_paths.specs.Hashes.{path_writes}
 use Rattle.dtype_paths.specs.In.{mask_tail}
-use Rattle.dtype_paths.specs.PathOrder.{PathSet}
-use Rattle.dtype_paths.specs.PathPredicates.{PathPredicate, after_steps, no_path}
+use Rattle.dtype_paths.specs.PathOrder.{PathSet, set_of}
+use Rattle.dtype_paths.specs.PathPredicates.{AreNames, PathPredicate, after_step, after_steps, no_path}
 use Rattle.dtype_paths.specs.declared.field.Field.{Field}
 use Rattle.dtype_paths.specs.declared.field.Field.TheVariants.{ElementType, Name}
 use Rattle.dtype_paths.specs.declared.field_mask.FieldMask.{FieldMask}
 use Rattle.dtype_paths.specs.declared.field_mask.FieldMask.TheVariants.{All, Exact, Prefix}
 use Rattle.dtype_projection.specs.Projected.{projected}
 use Rattle.dtype_types.specs.tree.Tree.{Tree}
-use Rattle.vortex_logical_types.specs.Answers.{Buffer, PutsIfAny, Tells, WritesBytes}
+use Rattle.vortex_logical_types.specs.Answers.{Buffer, PutsIfAny, SameBuffer, Tells, WritesBytes, WritesText}
 
 -- the object in a slot, if it is of the kind
 abbrev pub path_in : Option Object → Option (List Field)
@@ -112,6 +112,21 @@ abbrev pub WritesStepOf : {X : Type 0} → Option X → (X → Option Field) →
 WritesStepOf None f code old new = (code ≡ 2) × (new ≡ old)
 WritesStepOf (Some x) f code old new = WritesStep (f x) code old new
 
+-- A text is written, of what a slot has.
+abbrev pub WritesTextIn : {X : Type 0} → Option X → (X → Option (List ℕ)) → ℕ → Buffer → Buffer → Type 0
+WritesTextIn None f code old new = (code ≡ 2) × SameBuffer old new
+WritesTextIn (Some x) f code old new = WritesText (f x) code old new
+
+-- whether the first step of a path is into the field of a name: 5 if it is into the element
+abbrev pub StartsWith : Option Field → List ℕ → ℕ → Type 0
+StartsWith None name code = code ≡ 1
+StartsWith (Some (Name n)) name code = Tells code (n ≡ name)
+StartsWith (Some ElementType) name code = code ≡ 5
+
+abbrev pub StartsWithOf : Option (List Field) → List ℕ → ℕ → Type 0
+StartsWithOf None name code = code ≡ 2
+StartsWithOf (Some p) name code = StartsWith (slice_get p 0) name code
+
 -- a set gains paths, or stays as it was if an allocation fails
 abbrev pub Gains : ℕ → PathSet → PathSet → PathSet → Type 0
 Gains code old more new = ((code ≡ 0) × (new ≡ more)) ⊎ ((code ≡ 100) × (new ≡ old))
@@ -178,15 +193,56 @@ abbrev pub GainsPath : Option (List Field) → ℕ → PathSet → PathSet → T
 GainsPath None code old new = (code ≡ 2) × (new ≡ old)
 GainsPath (Some p) code old new = Gains code old (set.insert old p) new
 
--- Whether a path itself is asked for, among the paths w that a set asks for below it. If there is none the code is 1, and
--- nothing is written.
-abbrev pub TellsBelow : PathPredicate → ℕ → Bool → Bool → Type 0
-TellsBelow w code old new = ((code ≡ 0) × (new ≡ w []) × (w ≢ no_path)) ⊎ ((code ≡ 1) × (new ≡ old) × (w ≡ no_path))
+-- what a call writes of the paths that a set asks for below a path: whether the path itself is one, whether a path goes on with
+-- the element, and with how many names paths go on
+abbrev pub Below : Type 0
+Below = Bool × Bool × ℕ
 
-abbrev pub BelowOf : Option PathSet → Option (List Field) → ℕ → Bool → Bool → Type 0
+-- a flag tells whether the paths w go on with the element
+abbrev pub TellsElement : PathPredicate → Bool → Type 0
+TellsElement w true = (q : List Field) × IsTrue (w (ElementType ∷ q))
+TellsElement w false = after_step ElementType w ≡ no_path
+
+-- with how many names the paths w go on
+abbrev pub CountsNames : PathPredicate → ℕ → Type 0
+CountsNames w count = (ns : List (List ℕ × PathPredicate)) × AreNames w ns × (count ≡ length ns)
+
+-- That is written of the paths w that a set asks for below a path. If there is none the code is 1, and nothing is written.
+abbrev pub TellsBelow : PathPredicate → ℕ → Below → Below → Type 0
+TellsBelow w code old new =
+    ((code ≡ 0) × ((new.0 ≡ w []) × TellsElement w new.1 × CountsNames w new.2) × (w ≢ no_path)) ⊎ ((code ≡ 1) × (new ≡ old) × (w ≡ no_path))
+
+abbrev pub BelowOf : Option PathSet → Option (List Field) → ℕ → Below → Below → Type 0
 BelowOf None p code old new = (code ≡ 2) × (new ≡ old)
 BelowOf (Some s) None code old new = (code ≡ 2) × (new ≡ old)
 BelowOf (Some s) (Some p) code old new = TellsBelow (after_steps p (set.contains s)) code old new
+
+-- The names with which the paths w go on are put, as paths of one step. If there are no paths the code is 1.
+abbrev pub PutsNames : PathPredicate → ℕ → Option Object → Option Object → Type 0
+PutsNames w code old new =
+    ((code ≡ 0) × ((ns : List (List ℕ × PathPredicate)) × AreNames w ns × (paths_in new ≡ Some (map (λ e. Name e.0 ∷ []) ns))) × (w ≢ no_path))
+    ⊎ (((code ≡ 1) × (new ≡ old) × (w ≡ no_path)) ⊎ ((code ≡ 100) × (new ≡ old)))
+
+abbrev pub NamesBelowOf : Option PathSet → Option (List Field) → ℕ → Option Object → Option Object → Type 0
+NamesBelowOf None p code old new = (code ≡ 2) × (new ≡ old)
+NamesBelowOf (Some s) None code old new = (code ≡ 2) × (new ≡ old)
+NamesBelowOf (Some s) (Some p) code old new = PutsNames (after_steps p (set.contains s)) code old new
+
+-- how many paths a set has is written
+abbrev pub WritesCount : Option PathSet → ℕ → ℕ → ℕ → Type 0
+WritesCount None code old new = (code ≡ 2) × (new ≡ old)
+WritesCount (Some s) code old new = ((code ≡ 0) × (new ≡ set.len s)) ⊎ ((code ≡ 100) × (new ≡ old))
+
+-- A set gains the paths of a list. After a failed allocation it has those before some position.
+abbrev pub GainsList : List (List Field) → ℕ → PathSet → PathSet → Type 0
+GainsList ps code old new =
+    ((code ≡ 0) × (new ≡ set.union old (set_of ps))) ⊎ ((code ≡ 100) × ((k : ℕ) × (new ≡ set.union old (set_of (take k ps)))))
+
+abbrev pub GainsListIn : Option PathSet → Option (List (List Field)) → ℕ → Option Object → Option Object → Type 0
+GainsListIn None ps code old new = (code ≡ 2) × (new ≡ old)
+GainsListIn (Some s) None code old new = (code ≡ 2) × (new ≡ old)
+GainsListIn (Some s) (Some ps) code old new =
+    ((code ≡ 0) × (set_in new ≡ Some (set.union s (set_of ps)))) ⊎ ((code ≡ 100) × ((k : ℕ) × (set_in new ≡ Some (set.union s (set_of (take k ps))))))
 
 -- the hash of a path by std's hasher
 abbrev pub hash_of_path : List Field → ℕ

@@ -2,12 +2,13 @@
 // SPDX-FileCopyrightText: Copyright the Vortex contributors
 
 // Structs: other fields.
-ghost use Rattle.std.specs.Prelude.{◌≡◌, ◌⊎◌};
+ghost use Rattle.std.specs.Prelude.{◌≡◌};
 ghost use Rattle.std.specs.declared.option.Option.TheVariants.{Some};
 ghost use Rattle.c_objects.specs.declared.object.Object.{Object};
 ghost use Rattle.dtype_types.specs.tree.Tree as t;
 ghost use Rattle.dtype_types.specs.tree.TreeOf.{children, tree};
 ghost use Rattle.vortex_logical_types.specs.Answers.{JoinsFields, PutsFields, PutsThe, PutsWithout, Within, WithinBoth, WithinThe, struct_parts, type_in};
+ghost use Rattle.vortex_logical_types.specs.Several.{PutsProjection, WithNames, names_cut};
 
 use crate::errors::{CONDITION, KIND, of_library};
 use crate::names::names_of;
@@ -152,7 +153,7 @@ pub extern "C" fn vlt_struct_project(
     name_lengths: &[usize],
     out: &mut Slot,
 ) -> u32
-    ensures unchanged { (result ≡ 0) ⊎ (out.new.value ≡ out.old.value) }
+    ensures answer { WithNames (names_cut names.now name_lengths.now) result out.old.value out.new.value (λ ns. Within (type_in dtype.old.value) struct_parts (λ code. (result ≡ code) × (out.new.value ≡ out.old.value)) (λ p. PutsProjection p.0 p.1 ns result out.old.value out.new.value)) }
     ensures kept { dtype.new.value ≡ dtype.old.value }
 {
     match names_of(alloc, names, name_lengths) {
@@ -162,7 +163,7 @@ pub extern "C" fn vlt_struct_project(
 }
 
 fn project(alloc: Global, dtype: &mut Slot, names: &FieldNames, out: &mut Slot) -> u32
-    ensures unchanged { (result ≡ 0) ⊎ (out.new.value ≡ out.old.value) }
+    ensures answer { Within (type_in dtype.old.value) struct_parts (λ code. (result ≡ code) × (out.new.value ≡ out.old.value)) (λ p. PutsProjection p.0 p.1 names.now result out.old.value out.new.value) }
     ensures kept { dtype.new.value ≡ dtype.old.value }
 {
     let Some(object) = dtype.take(alloc) else {
@@ -177,7 +178,7 @@ fn project(alloc: Global, dtype: &mut Slot, names: &FieldNames, out: &mut Slot) 
 }
 
 fn projected(alloc: Global, dtype: &DType, names: &FieldNames, out: &mut Slot) -> u32
-    ensures unchanged { (result ≡ 0) ⊎ (out.new.value ≡ out.old.value) }
+    ensures { WithinThe (struct_parts (tree dtype.now)) (λ code. (result ≡ code) × (out.new.value ≡ out.old.value)) (λ p. PutsProjection p.0 p.1 names.now result out.old.value out.new.value) }
 {
     match dtype.as_struct_fields_opt() {
         Some(fields) => selected(alloc, fields, names, dtype.nullability(), out),
@@ -192,7 +193,7 @@ fn selected(
     n: Nullability,
     out: &mut Slot,
 ) -> u32
-    ensures unchanged { (result ≡ 0) ⊎ (out.new.value ≡ out.old.value) }
+    ensures { PutsProjection (children fields.now) n names.now result out.old.value out.new.value }
 {
     put_fields(alloc, out, fields.project(alloc, names.as_slice()), n)
 }

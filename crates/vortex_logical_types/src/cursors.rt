@@ -2,12 +2,14 @@
 // SPDX-FileCopyrightText: Copyright the Vortex contributors
 
 // What a set asks for below a path.
-ghost use Rattle.std.specs.Prelude.{◌≡◌, ◌≢◌};
+ghost use Rattle.std.specs.Prelude.{◌≡◌, ◌∷◌, ℕ, List, [], map};
 ghost use Rattle.std.specs.FinSet as set;
 ghost use Rattle.std.specs.declared.option.Option.TheVariants.{Some};
-ghost use Rattle.dtype_paths.specs.Cursors.{contains_below_if};
-ghost use Rattle.dtype_paths.specs.PathPredicates.{after_steps};
-ghost use Rattle.vortex_logical_types.specs.Objects.{BelowOf, TellsBelow, path_in, set_in};
+ghost use Rattle.dtype_base.specs.Errors.{Makes};
+ghost use Rattle.dtype_paths.specs.Cursors.{contains_below, contains_below_if};
+ghost use Rattle.dtype_paths.specs.PathPredicates.{AreNames, PathPredicate, after_steps};
+ghost use Rattle.dtype_paths.specs.declared.field.Field.TheVariants.{Name};
+ghost use Rattle.vortex_logical_types.specs.Objects.{BelowOf, NamesBelowOf, PutsNames, TellsBelow, path_in, set_in};
 
 use crate::errors::{KIND, NONE, OK, of_library};
 use crate::objects::put;
@@ -39,7 +41,7 @@ pub extern "C" fn vlt_set_below(
     has_element: &mut bool,
     name_count: &mut usize,
 ) -> u32
-    ensures answer { BelowOf (set_in paths.old.value) (path_in path.old.value) result is_end.old is_end.new }
+    ensures answer { BelowOf (set_in paths.old.value) (path_in path.old.value) result (is_end.old, has_element.old, name_count.old) (is_end.new, has_element.new, name_count.new) }
     ensures kept { (paths.new.value ≡ paths.old.value) × (path.new.value ≡ path.old.value) }
 {
     let Some(object) = paths.take(alloc) else {
@@ -58,7 +60,7 @@ fn below_of(
     has_element: &mut bool,
     name_count: &mut usize,
 ) -> u32
-    ensures answer { BelowOf (set_in (Some paths.now)) (path_in path.old.value) result is_end.old is_end.new }
+    ensures answer { BelowOf (set_in (Some paths.now)) (path_in path.old.value) result (is_end.old, has_element.old, name_count.old) (is_end.new, has_element.new, name_count.new) }
     ensures kept { path.new.value ≡ path.old.value }
 {
     let Some(object) = path.take(alloc) else {
@@ -81,7 +83,7 @@ fn below(
     has_element: &mut bool,
     name_count: &mut usize,
 ) -> u32
-    ensures { TellsBelow (after_steps path.now (set.contains paths.now)) result is_end.old is_end.new }
+    ensures { TellsBelow (after_steps path.now (set.contains paths.now)) result (is_end.old, has_element.old, name_count.old) (is_end.new, has_element.new, name_count.new) }
 {
     let Some(cursor) = cursor_at(paths, path) else {
         return NONE;
@@ -104,7 +106,7 @@ pub extern "C" fn vlt_set_names_below(
     path: &mut Slot,
     out: &mut Slot,
 ) -> u32
-    ensures unchanged { result ≢ 0 → out.new.value ≡ out.old.value }
+    ensures names { NamesBelowOf (set_in paths.old.value) (path_in path.old.value) result out.old.value out.new.value }
     ensures kept { (paths.new.value ≡ paths.old.value) × (path.new.value ≡ path.old.value) }
 {
     let Some(object) = paths.take(alloc) else {
@@ -116,7 +118,7 @@ pub extern "C" fn vlt_set_names_below(
 }
 
 fn names_of(alloc: Global, paths: &Object, path: &mut Slot, out: &mut Slot) -> u32
-    ensures unchanged { result ≢ 0 → out.new.value ≡ out.old.value }
+    ensures names { NamesBelowOf (set_in (Some paths.now)) (path_in path.old.value) result out.old.value out.new.value }
     ensures kept { path.new.value ≡ path.old.value }
 {
     let Some(object) = path.take(alloc) else {
@@ -131,22 +133,29 @@ fn names_of(alloc: Global, paths: &Object, path: &mut Slot, out: &mut Slot) -> u
 }
 
 fn names(alloc: Global, paths: &FieldPathSet, path: &FieldPath, out: &mut Slot) -> u32
-    ensures unchanged { result ≢ 0 → out.new.value ≡ out.old.value }
+    ensures { PutsNames (after_steps path.now (set.contains paths.now)) result out.old.value out.new.value }
 {
     let Some(cursor) = cursor_at(paths, path) else {
         return NONE;
     };
+    if cursor.is_empty() {
+        return NONE;
+    }
     match names_at(alloc, cursor) {
         Ok(names) => put(alloc, out, Object::Paths(names)),
         Err(error) => of_library(error),
     }
 }
 
-fn names_at(alloc: Global, cursor: FieldPathCursor<'_>) -> VortexResult<Vec<FieldPath>> {
-    let mut names = Vec::with_capacity(alloc, cursor.names().len())?;
-    for (name, _below) in cursor.names() {
+// Returns a path of one step for each name with which paths of the cursor go on.
+fn names_at(alloc: Global, cursor: FieldPathCursor<'_>) -> VortexResult<Vec<FieldPath>>
+    ensures { Makes result (λ ps. (ns : List (List ℕ × PathPredicate)) × AreNames (contains_below cursor.entry) ns × (ps.items ≡ map (λ e. Name e.0 ∷ []) ns)) }
+{
+    let names = cursor.names();
+    let mut paths = Vec::with_capacity(alloc, names.len())?;
+    for (name, _below) in names {
         let step = Field::Name(name.try_clone(alloc)?);
-        names.push(FieldPath::from_field(alloc, step)?)?;
+        paths.push(FieldPath::from_field(alloc, step)?)?;
     }
-    Ok(names)
+    Ok(paths)
 }

@@ -2,14 +2,18 @@
 // SPDX-FileCopyrightText: Copyright the Vortex contributors
 
 // Types: constructors of what has several names and types.
-ghost use Rattle.std.specs.Prelude.{◌≡◌, ◌⊎◌};
+ghost use Rattle.std.specs.Prelude.{◌≡◌, MatchResult, Some, map};
+ghost use Rattle.dtype_base.specs.Nullability.{nullability_of};
+ghost use Rattle.dtype_types.specs.tree.TreeOf.{tree};
+ghost use Rattle.vortex_logical_types.specs.Answers.{type_in};
+ghost use Rattle.vortex_logical_types.specs.Several.{PutsConsecutive, PutsMadeOf, PutsStruct, PutsUnion, RefusesParts, each_in, names_cut, objects_in};
 
 use crate::constructors::put_new;
-use crate::errors::{RANGE, TOO_DEEP, of_library};
+use crate::errors::{LIBRARY, RANGE, TOO_DEEP, of_library};
 use crate::levels::{MAX_LEVELS, fits};
 use crate::names::{names_of, types_of};
 use c_objects::Slot;
-use dtype_base::{FieldNames, Nullability, VortexResult};
+use dtype_base::{FieldNames, Nullability};
 use dtype_types::{DType, StructFields, UnionVariants};
 use std::alloc::Global;
 
@@ -25,7 +29,8 @@ pub extern "C" fn vlt_dtype_struct(
     nullable: bool,
     out: &mut Slot,
 ) -> u32
-    ensures unchanged { (result ≡ 0) ⊎ (out.new.value ≡ out.old.value) }
+    ensures made { PutsMadeOf (names_cut names.now name_lengths.now) (each_in type_in (objects_in dtypes.old)) (PutsStruct (nullability_of nullable)) result out.old.value out.new.value }
+    ensures kept { objects_in dtypes.new ≡ objects_in dtypes.old }
 {
     match parts_of(alloc, names, name_lengths, dtypes) {
         Ok((names, dtypes)) => put_struct(alloc, names, dtypes, Nullability::from(nullable), out),
@@ -33,6 +38,7 @@ pub extern "C" fn vlt_dtype_struct(
     }
 }
 
+#[tactic(auto, using(dtype_types::proofs::lemmas::TreeLaws::tree_struct))]
 fn put_struct(
     alloc: Global,
     names: FieldNames,
@@ -40,14 +46,14 @@ fn put_struct(
     n: Nullability,
     out: &mut Slot,
 ) -> u32
-    ensures unchanged { (result ≡ 0) ⊎ (out.new.value ≡ out.old.value) }
+    ensures { PutsStruct n names (map tree dtypes.items) result out.old.value out.new.value }
 {
     if names.len() != dtypes.len() {
         return RANGE;
     }
     match StructFields::new(alloc, names, dtypes) {
         Ok(fields) => put_new(alloc, out, DType::Struct(fields, n)),
-        Err(error) => of_library(error),
+        Err(_) => LIBRARY,
     }
 }
 
@@ -62,7 +68,8 @@ pub extern "C" fn vlt_dtype_union(
     nullable: bool,
     out: &mut Slot,
 ) -> u32
-    ensures unchanged { (result ≡ 0) ⊎ (out.new.value ≡ out.old.value) }
+    ensures made { PutsMadeOf (names_cut names.now name_lengths.now) (each_in type_in (objects_in dtypes.old)) (PutsUnion tags.now (nullability_of nullable)) result out.old.value out.new.value }
+    ensures kept { objects_in dtypes.new ≡ objects_in dtypes.old }
 {
     match parts_of(alloc, names, name_lengths, dtypes) {
         Ok((names, dtypes)) => {
@@ -80,23 +87,29 @@ fn put_union(
     n: Nullability,
     out: &mut Slot,
 ) -> u32
-    ensures unchanged { (result ≡ 0) ⊎ (out.new.value ≡ out.old.value) }
+    ensures { PutsUnion tags.now n names (map tree dtypes.items) result out.old.value out.new.value }
 {
-    match union_of(alloc, names, dtypes, tags) {
-        Ok(variants) => put_new(alloc, out, DType::Union(variants, n)),
-        Err(error) => of_library(error),
+    match Vec::from_slice(alloc, tags) {
+        Ok(type_ids) => put_variants(alloc, names, dtypes, type_ids, n, out),
+        Err(_) => LIBRARY,
     }
 }
 
-fn union_of(
+#[tactic(auto, using(dtype_types::proofs::lemmas::TreeLaws::tree_union))]
+fn put_variants(
     alloc: Global,
     names: FieldNames,
     dtypes: Vec<DType>,
-    tags: &[u8],
-) -> VortexResult<UnionVariants> {
-    let mut type_ids = Vec::new(alloc);
-    type_ids.extend_from_slice(tags)?;
-    UnionVariants::try_new(alloc, names, dtypes, type_ids)
+    type_ids: Vec<u8>,
+    n: Nullability,
+    out: &mut Slot,
+) -> u32
+    ensures { PutsUnion type_ids.items n names (map tree dtypes.items) result out.old.value out.new.value }
+{
+    match UnionVariants::try_new(alloc, names, dtypes, type_ids) {
+        Ok(variants) => put_new(alloc, out, DType::Union(variants, n)),
+        Err(error) => of_library(error),
+    }
 }
 
 /// Puts a union of these names and types with the tags 0, 1, 2 and so on, as `vlt_dtype_struct` takes names.
@@ -109,7 +122,8 @@ pub extern "C" fn vlt_dtype_union_consecutive(
     nullable: bool,
     out: &mut Slot,
 ) -> u32
-    ensures unchanged { (result ≡ 0) ⊎ (out.new.value ≡ out.old.value) }
+    ensures made { PutsMadeOf (names_cut names.now name_lengths.now) (each_in type_in (objects_in dtypes.old)) (PutsConsecutive (nullability_of nullable)) result out.old.value out.new.value }
+    ensures kept { objects_in dtypes.new ≡ objects_in dtypes.old }
 {
     match parts_of(alloc, names, name_lengths, dtypes) {
         Ok((names, dtypes)) => {
@@ -119,6 +133,7 @@ pub extern "C" fn vlt_dtype_union_consecutive(
     }
 }
 
+#[tactic(auto, using(dtype_types::proofs::lemmas::TreeLaws::tree_union))]
 fn put_consecutive(
     alloc: Global,
     names: FieldNames,
@@ -126,7 +141,7 @@ fn put_consecutive(
     n: Nullability,
     out: &mut Slot,
 ) -> u32
-    ensures unchanged { (result ≡ 0) ⊎ (out.new.value ≡ out.old.value) }
+    ensures { PutsConsecutive n names (map tree dtypes.items) result out.old.value out.new.value }
 {
     match UnionVariants::new(alloc, names, dtypes) {
         Ok(variants) => put_new(alloc, out, DType::Union(variants, n)),
@@ -140,7 +155,12 @@ fn parts_of(
     names: &[u8],
     name_lengths: &[usize],
     dtypes: &mut [Slot],
-) -> Result<(FieldNames, Vec<DType>), u32> {
+) -> Result<(FieldNames, Vec<DType>), u32>
+    ensures parts { MatchResult result
+        (λ r. (names_cut names.now name_lengths.now ≡ Some r.0) × (each_in type_in (objects_in dtypes.old) ≡ Some (map tree r.1.items)))
+        (λ code. RefusesParts (names_cut names.now name_lengths.now) (each_in type_in (objects_in dtypes.old)) code) }
+    ensures kept { objects_in dtypes.new ≡ objects_in dtypes.old }
+{
     let names = names_of(alloc, names, name_lengths)?;
     let dtypes = types_of(alloc, dtypes)?;
     if dtypes.iter().all(|dtype| fits(dtype, MAX_LEVELS - 1)) {

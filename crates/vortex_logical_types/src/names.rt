@@ -2,22 +2,30 @@
 // SPDX-FileCopyrightText: Copyright the Vortex contributors
 
 // Several names, and several types, of one call.
-use crate::errors::{KIND, NOT_UTF8, RANGE, of_library};
+ghost use Rattle.std.specs.Prelude.{◌≡◌, ◌⊎◌, ◌++◌, ◌∷◌, ◌<◌, ◌≤◌, [], drop, length, map, take, MatchResult, None, Some};
+ghost use Rattle.c_objects.specs.declared.object.Object.{Object};
+ghost use Rattle.dtype_types.specs.tree.TreeOf.{tree};
+ghost use Rattle.vortex_logical_types.specs.Answers.{type_in};
+ghost use Rattle.vortex_logical_types.specs.Several.{Adds, RefusesNames, each_in, names_cut, objects_in};
+
+use crate::errors::{KIND, LIBRARY, NOT_UTF8, RANGE};
 use c_objects::{Object, Slot};
-use dtype_base::{FieldName, FieldNames, VortexResult};
+use dtype_base::{FieldName, FieldNames};
 use dtype_types::DType;
 use std::alloc::Global;
 use std::str;
 
 /// Returns the names whose bytes lie one after the other, each of its length, or what the export returns instead.
-pub fn names_of(alloc: Global, names: &[u8], lengths: &[usize]) -> Result<FieldNames, u32> {
+pub fn names_of(alloc: Global, names: &[u8], lengths: &[usize]) -> Result<FieldNames, u32>
+    ensures { MatchResult result
+        (λ ns. names_cut names.now lengths.now ≡ Some ns)
+        (λ code. RefusesNames (names_cut names.now lengths.now) code) }
+{
     let mut all = Vec::new(alloc);
     let mut rest = names;
     for length in lengths {
         let (name, others) = split(rest, *length)?;
-        if let Err(error) = push_name(alloc, &mut all, name) {
-            return Err(of_library(error));
-        }
+        push_name(alloc, &mut all, name)?;
         rest = others;
     }
     if rest.is_empty() {
@@ -28,8 +36,12 @@ pub fn names_of(alloc: Global, names: &[u8], lengths: &[usize]) -> Result<FieldN
 }
 
 // Returns the text of this length at the front, and what follows it.
-fn split(bytes: &[u8], length: usize) -> Result<(&str, &[u8]), u32> {
-    let Some((name, others)) = bytes.split_at_checked(length) else {
+fn split(bytes: &[u8], wanted: usize) -> Result<(&str, &[u8]), u32>
+    ensures { MatchResult result
+        (λ r. (wanted ≤ length bytes.now) × (r.0.now ≡ take wanted bytes.now) × (r.1.now ≡ drop wanted bytes.now))
+        (λ code. (code ≡ 3) ⊎ ((code ≡ 9) × (length bytes.now < wanted))) }
+{
+    let Some((name, others)) = bytes.split_at_checked(wanted) else {
         return Err(RANGE);
     };
     match str::from_utf8(name) {
@@ -38,21 +50,42 @@ fn split(bytes: &[u8], length: usize) -> Result<(&str, &[u8]), u32> {
     }
 }
 
-fn push_name(alloc: Global, all: &mut Vec<FieldName>, name: &str) -> VortexResult<()> {
-    let name = FieldName::new(alloc, name)?;
-    Ok(all.push(name)?)
+// Adds a name.
+fn push_name(alloc: Global, all: &mut Vec<FieldName>, name: &str) -> Result<(), u32>
+    ensures { MatchResult result
+        (λ _. all.new.items ≡ all.old.items ++ (name.now ∷ []))
+        (λ code. code ≡ 100) }
+{
+    let Ok(name) = FieldName::new(alloc, name) else {
+        return Err(LIBRARY);
+    };
+    match all.push(name) {
+        Ok(()) => Ok(()),
+        Err(_) => Err(LIBRARY),
+    }
 }
 
 /// Returns copies of the types in these slots, or what the export returns instead. The slots keep them.
-pub fn types_of(alloc: Global, slots: &mut [Slot]) -> Result<Vec<DType>, u32> {
+pub fn types_of(alloc: Global, slots: &mut [Slot]) -> Result<Vec<DType>, u32>
+    ensures copies { MatchResult result
+        (λ v. each_in type_in (objects_in slots.old) ≡ Some (map tree v.items))
+        (λ code. (code ≡ 100) ⊎ ((code ≡ 2) × (each_in type_in (objects_in slots.old) ≡ None))) }
+    ensures kept { objects_in slots.new ≡ objects_in slots.old }
+{
     let mut all = Vec::new(alloc);
-    for slot in slots {
+    for slot in slots.iter_mut() {
         push_type(alloc, &mut all, slot)?;
     }
     Ok(all)
 }
 
-fn push_type(alloc: Global, all: &mut Vec<DType>, slot: &mut Slot) -> Result<(), u32> {
+// Adds a copy of the type in a slot, which keeps it.
+fn push_type(alloc: Global, all: &mut Vec<DType>, slot: &mut Slot) -> Result<(), u32>
+    ensures copy { MatchResult result
+        (λ _. Adds (type_in slot.old.value) (map tree all.old.items) (map tree all.new.items))
+        (λ code. (code ≡ 100) ⊎ ((code ≡ 2) × (type_in slot.old.value ≡ None))) }
+    ensures kept { slot.new.value ≡ slot.old.value }
+{
     let Some(object) = slot.take(alloc) else {
         return Err(KIND);
     };
@@ -64,13 +97,17 @@ fn push_type(alloc: Global, all: &mut Vec<DType>, slot: &mut Slot) -> Result<(),
     answer
 }
 
-fn push_copy(alloc: Global, all: &mut Vec<DType>, dtype: &DType) -> Result<(), u32> {
-    match pushed(alloc, all, dtype) {
+// Adds a copy of a type.
+fn push_copy(alloc: Global, all: &mut Vec<DType>, dtype: &DType) -> Result<(), u32>
+    ensures { MatchResult result
+        (λ _. map tree all.new.items ≡ map tree all.old.items ++ (tree dtype.now ∷ []))
+        (λ code. code ≡ 100) }
+{
+    let Ok(copy) = dtype.try_clone(alloc) else {
+        return Err(LIBRARY);
+    };
+    match all.push(copy) {
         Ok(()) => Ok(()),
-        Err(error) => Err(of_library(error)),
+        Err(_) => Err(LIBRARY),
     }
-}
-
-fn pushed(alloc: Global, all: &mut Vec<DType>, dtype: &DType) -> VortexResult<()> {
-    Ok(all.push(dtype.try_clone(alloc)?)?)
 }

@@ -2,19 +2,20 @@
 // SPDX-FileCopyrightText: Copyright the Vortex contributors
 
 // Paths.
-ghost use Rattle.std.specs.Prelude.{◌≡◌, ◌≢◌, ◌++◌, ◌∷◌, [], length, option_map, slice_get};
+ghost use Rattle.std.specs.Prelude.{◌≡◌, ◌≢◌, ◌++◌, ◌∷◌, [], length, option_map, slice_get, string_bytes};
 ghost use Rattle.std.specs.declared.option.Option.TheVariants.{Some};
 ghost use Rattle.dtype_base.specs.Errors.{Makes};
 ghost use Rattle.dtype_paths.specs.Along.{along};
 ghost use Rattle.dtype_paths.specs.At.{ExistsIn};
 ghost use Rattle.dtype_paths.specs.Overlaps.{Overlaps};
+ghost use Rattle.dtype_paths.specs.Texts.{path_text};
 ghost use Rattle.dtype_paths.specs.declared.field.Field.TheVariants.{ElementType, Name};
 ghost use Rattle.dtype_types.specs.tree.TreeOf.{tree};
-ghost use Rattle.vortex_logical_types.specs.Answers.{Tells, type_in};
-ghost use Rattle.vortex_logical_types.specs.Objects.{AsksBoth, Gives, GivesIf, GivesIfOf, GivesOf, GivesOfBoth, PutsPath, WritesOf, WritesStep, WritesStepOf, hash_of_path, path_in, tail_of};
+ghost use Rattle.vortex_logical_types.specs.Answers.{Tells, WritesText, type_in};
+ghost use Rattle.vortex_logical_types.specs.Objects.{AsksBoth, Gives, GivesIf, GivesIfOf, GivesOf, GivesOfBoth, PutsPath, StartsWith, StartsWithOf, WritesOf, WritesStep, WritesStepOf, WritesTextIn, hash_of_path, path_in, tail_of};
 
 use crate::buffers::write_bytes;
-use crate::errors::{CONDITION, KIND, LIBRARY, NONE, NOT_UTF8, OK, of_library};
+use crate::errors::{CONDITION, KIND, NONE, NOT_UTF8, OK, of_library};
 use crate::objects::{put, put_copy};
 use c_objects::{Object, Slot};
 use dtype_base::{FieldName, VortexResult};
@@ -394,6 +395,7 @@ pub extern "C" fn vlt_path_display(
     buffer: &mut [u8],
     length: &mut usize,
 ) -> u32
+    ensures writes { WritesTextIn (path_in path.old.value) (λ p. Some (path_text p)) result (buffer.old, length.old) (buffer.new, length.new) }
     ensures kept { path.new.value ≡ path.old.value }
 {
     let Some(object) = path.take(alloc) else {
@@ -407,16 +409,27 @@ pub extern "C" fn vlt_path_display(
     answer
 }
 
-fn display(alloc: Global, path: &FieldPath, buffer: &mut [u8], length: &mut usize) -> u32 {
-    match format!(in alloc; "{path}") {
+fn display(alloc: Global, path: &FieldPath, buffer: &mut [u8], length: &mut usize) -> u32
+    ensures { WritesText (Some (path_text path.now)) result (buffer.old, length.old) (buffer.new, length.new) }
+{
+    match displayed(alloc, path) {
         Ok(text) => write_bytes(text.as_bytes(), buffer, length),
-        Err(_) => LIBRARY,
+        Err(error) => of_library(error),
     }
+}
+
+fn displayed(alloc: Global, path: &FieldPath) -> VortexResult<String>
+    ensures { Makes result (λ s. string_bytes s ≡ path_text path.now) }
+{
+    let mut text = String::new(alloc);
+    write!(text, "{path}")?;
+    Ok(text)
 }
 
 /// Returns 0 if the first step is into the field of this name, and 5 if it is into the element.
 #[unsafe(no_mangle)]
 pub extern "C" fn vlt_path_starts_with_name(alloc: Global, path: &mut Slot, name: &[u8]) -> u32
+    ensures answer { StartsWithOf (path_in path.old.value) name.now result }
     ensures kept { path.new.value ≡ path.old.value }
 {
     let Some(object) = path.take(alloc) else {
@@ -430,12 +443,20 @@ pub extern "C" fn vlt_path_starts_with_name(alloc: Global, path: &mut Slot, name
     answer
 }
 
-fn starts_with(path: &FieldPath, name: &[u8]) -> u32 {
+fn starts_with(path: &FieldPath, name: &[u8]) -> u32
+    ensures { StartsWith (slice_get path.now 0) name.now result }
+{
     match path.parts().first() {
-        Some(Field::Name(first)) if first.as_str().as_bytes() == name => OK,
+        Some(Field::Name(first)) => same_bytes(first.as_str().as_bytes(), name),
         Some(Field::ElementType) => CONDITION,
-        _ => NONE,
+        None => NONE,
     }
+}
+
+fn same_bytes(one: &[u8], other: &[u8]) -> u32
+    ensures { Tells result (one.now ≡ other.now) }
+{
+    if one == other { OK } else { NONE }
 }
 
 /// Writes a hash of the path, which is the same for equal paths. It may differ from version to version.

@@ -2,7 +2,7 @@
 // SPDX-FileCopyrightText: Copyright the Vortex contributors
 
 // Sets of paths and lists of paths.
-ghost use Rattle.std.specs.Prelude.{◌≡◌, ◌≢◌, IsTrue, length, map, slice_get};
+ghost use Rattle.std.specs.Prelude.{◌≡◌, IsTrue, length, map, slice_get, take};
 ghost use Rattle.std.specs.FinSet as set;
 ghost use Rattle.std.specs.declared.option.Option.TheVariants.{Some};
 ghost use Rattle.std.specs.Vec.Iter.{into_iter_items};
@@ -13,7 +13,8 @@ ghost use Rattle.dtype_paths.specs.PathOrder.{set_of};
 ghost use Rattle.dtype_paths.specs.Unresolved.{unresolved};
 ghost use Rattle.dtype_types.specs.tree.TreeOf.{tree};
 ghost use Rattle.vortex_logical_types.specs.Answers.{Tells, type_in};
-ghost use Rattle.vortex_logical_types.specs.Objects.{AsksBoth, Gains, GainsOf, Gives, GivesList, GivesListOf, GivesListOfBoth, GivesOf, WritesOf, path_in, paths_in, set_in, PutsList, GainsPath};
+ghost use Rattle.vortex_logical_types.specs.Objects.{AsksBoth, Gains, GainsOf, Gives, GivesList, GivesListOf, GivesListOfBoth, GainsList, GainsListIn, GivesOf, WritesCount, WritesOf, path_in, paths_in, set_in, PutsList, GainsPath};
+ghost use Rattle.vortex_logical_types.specs.Several.{EndsAt, GainsFirst, GainsSlots, each_in, objects_in};
 
 use crate::errors::{KIND, NONE, OK, of_library};
 use crate::objects::put;
@@ -269,7 +270,7 @@ fn copies_of(alloc: Global, paths: vec::IntoIter<&FieldPath>) -> VortexResult<Ve
 /// Writes how many paths are in the set.
 #[unsafe(no_mangle)]
 pub extern "C" fn vlt_set_len(alloc: Global, paths: &mut Slot, count: &mut usize) -> u32
-    ensures kept_count { result ≢ 0 → count.new ≡ count.old }
+    ensures count { WritesCount (set_in paths.old.value) result count.old count.new }
     ensures kept { paths.new.value ≡ paths.old.value }
 {
     let Some(object) = paths.take(alloc) else {
@@ -283,8 +284,9 @@ pub extern "C" fn vlt_set_len(alloc: Global, paths: &mut Slot, count: &mut usize
     answer
 }
 
+#[tactic(auto, using(dtype_paths::proofs::lemmas::Covering::counting))]
 fn len(paths: &FieldPathSet, count: &mut usize) -> u32
-    ensures { result ≢ 0 → count.new ≡ count.old }
+    ensures { WritesCount (Some paths.now) result count.old count.new }
 {
     match paths.iter() {
         Ok(members) => {
@@ -358,7 +360,10 @@ pub extern "C" fn vlt_set_extend(
     set: &mut Slot,
     paths: &mut [Slot],
     inserted: &mut usize,
-) -> u32 {
+) -> u32
+    ensures gains { GainsSlots (set_in set.old.value) (objects_in paths.old) result inserted.old inserted.new set.old.value set.new.value }
+    ensures kept { objects_in paths.new ≡ objects_in paths.old }
+{
     let Some(mut object) = set.take(alloc) else {
         return KIND;
     };
@@ -375,9 +380,13 @@ fn insert_all(
     members: &mut FieldPathSet,
     paths: &mut [Slot],
     inserted: &mut usize,
-) -> u32 {
+) -> u32
+    ensures gains { GainsFirst (each_in path_in (take inserted.new (objects_in paths.old))) members.old members.new }
+    ensures ended { EndsAt (objects_in paths.old) result inserted.new }
+    ensures kept { objects_in paths.new ≡ objects_in paths.old }
+{
     *inserted = 0;
-    for slot in paths {
+    for slot in paths.iter_mut() {
         let answer = insert_slot(alloc, members, slot);
         if answer != OK {
             return answer;
@@ -405,6 +414,7 @@ fn insert_slot(alloc: Global, members: &mut FieldPathSet, slot: &mut Slot) -> u3
 /// Inserts copies of the paths of the list, in their order. After an error those before it are in.
 #[unsafe(no_mangle)]
 pub extern "C" fn vlt_set_extend_from_list(alloc: Global, paths: &mut Slot, list: &mut Slot) -> u32
+    ensures gains { GainsListIn (set_in paths.old.value) (paths_in list.old.value) result paths.old.value paths.new.value }
     ensures kept { list.new.value ≡ list.old.value }
 {
     let Some(mut object) = paths.take(alloc) else {
@@ -416,6 +426,7 @@ pub extern "C" fn vlt_set_extend_from_list(alloc: Global, paths: &mut Slot, list
 }
 
 fn extend_of(alloc: Global, paths: &mut Object, list: &mut Slot) -> u32
+    ensures gains { GainsListIn (set_in (Some paths.old)) (paths_in list.old.value) result (Some paths.old) (Some paths.new) }
     ensures kept { list.new.value ≡ list.old.value }
 {
     let Some(object) = list.take(alloc) else {
@@ -429,7 +440,9 @@ fn extend_of(alloc: Global, paths: &mut Object, list: &mut Slot) -> u32
     answer
 }
 
-fn extend(paths: &mut FieldPathSet, list: &[FieldPath]) -> u32 {
+fn extend(paths: &mut FieldPathSet, list: &[FieldPath]) -> u32
+    ensures { GainsList list.now result paths.old paths.new }
+{
     for path in list {
         let answer = insert(paths, path);
         if answer != OK {

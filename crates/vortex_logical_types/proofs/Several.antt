@@ -1,0 +1,79 @@
+-- SPDX-License-Identifier: Apache-2.0
+-- SPDX-FileCopyrightText: Copyright the Vortex contributors
+
+-- Reading several names, and what several slots have, one by one.
+use Rattle.std.proofs.Common.{◌≡◌, ◌+◌, ◌<◌, ◌≤◌, ◌++◌, ◌∷◌, ℕ, zero, suc, List, [], Option, Some, None, if◌then◌else◌, drop, get_or, length, option_map, set, take, refl, ap, sym, subst, ◌∙◌, arith}
+use Rattle.std.proofs.lemmas.Bool.{le-leb, lt-leb}
+use Rattle.std.proofs.lemmas.List.{append_assoc, drop_more, length-map}
+use Rattle.c_objects.specs.declared.object.Object.{Object}
+use Rattle.c_objects.specs.declared.slot.Slot.{Slot}
+use Rattle.vortex_logical_types.specs.Several.{Adds, each_in, in_front, names_cut, objects_in}
+
+-- an item before what is left, behind what was read
+pub behind : {X : Type 0} (all : List X) (x : X) (o : Option (List X)) → option_map (λ r. all ++ r) (option_map (λ r. x ∷ r) o) ≡ option_map (λ r. (all ++ x ∷ []) ++ r) o
+behind all x None = refl
+behind all x (Some r) = ap Some (sym (append_assoc all (x ∷ []) r))
+
+-- a name that fits is cut, and one that doesn't leaves none
+pub cut_more : (bytes ls : List ℕ) (l : ℕ) → l ≤ length bytes → names_cut bytes (l ∷ ls) ≡ option_map (λ ns. take l bytes ∷ ns) (names_cut (drop l bytes) ls)
+cut_more bytes ls l h = ap (λ b. if b then option_map (λ ns. take l bytes ∷ ns) (names_cut (drop l bytes) ls) else None) (le-leb l (length bytes) h)
+
+pub cut_short : (bytes ls : List ℕ) (l : ℕ) → length bytes < l → names_cut bytes (l ∷ ls) ≡ None
+cut_short bytes ls l h = ap (λ b. if b then option_map (λ ns. take l bytes ∷ ns) (names_cut (drop l bytes) ls) else None) (lt-leb l (length bytes) h)
+
+-- the next name
+pub names_step : (all new : List (List ℕ)) (bytes others name lengths : List ℕ) (i : ℕ) → i < length lengths → get_or lengths i 0 ≤ length bytes
+    → name ≡ take (get_or lengths i 0) bytes → others ≡ drop (get_or lengths i 0) bytes → new ≡ all ++ (name ∷ [])
+    → option_map (λ r. all ++ r) (names_cut bytes (drop i lengths)) ≡ option_map (λ r. new ++ r) (names_cut others (drop (i + 1) lengths))
+names_step all new bytes others name lengths i lt fits name_is others_is new_is =
+    ap (λ ls. option_map (λ r. all ++ r) (names_cut bytes ls)) (drop_more lengths i 0 lt)
+    ∙ ap (option_map (λ r. all ++ r)) (cut_more bytes (drop (i + 1) lengths) (get_or lengths i 0) fits)
+    ∙ behind all (take (get_or lengths i 0) bytes) (names_cut (drop (get_or lengths i 0) bytes) (drop (i + 1) lengths))
+    ∙ ap (λ n. option_map (λ r. (all ++ n ∷ []) ++ r) (names_cut (drop (get_or lengths i 0) bytes) (drop (i + 1) lengths))) (sym name_is)
+    ∙ ap (λ n. option_map (λ r. n ++ r) (names_cut (drop (get_or lengths i 0) bytes) (drop (i + 1) lengths))) (sym new_is)
+    ∙ ap (λ b. option_map (λ r. new ++ r) (names_cut b (drop (i + 1) lengths))) (sym others_is)
+
+pub names_fail : (all : List (List ℕ)) (bytes lengths : List ℕ) (i : ℕ) → i < length lengths → length bytes < get_or lengths i 0
+    → option_map (λ r. all ++ r) (names_cut bytes (drop i lengths)) ≡ None
+names_fail all bytes lengths i lt short =
+    ap (λ ls. option_map (λ r. all ++ r) (names_cut bytes ls)) (drop_more lengths i 0 lt)
+    ∙ ap (option_map (λ r. all ++ r)) (cut_short bytes (drop (i + 1) lengths) (get_or lengths i 0) short)
+
+-- the objects in slots, where one of them was taken and put back
+pub kept_at : (slots : List Slot) (i : ℕ) (d new : Slot) → i < length slots → new.value ≡ (get_or slots i d).value → objects_in (set slots i new) ≡ objects_in slots
+kept_at [] i d new lt e = absurd (omega arith)
+kept_at (s ∷ ss) zero d new lt e = ap (λ o. o ∷ objects_in ss) e
+kept_at (s ∷ ss) (suc i) d new lt e = ap (λ os. s.value ∷ os) (kept_at ss i d new (omega arith) e)
+
+-- the object in a slot
+pub object_in : (slots : List Slot) (i : ℕ) (d : Slot) → i < length slots → get_or (objects_in slots) i None ≡ (get_or slots i d).value
+object_in [] i d lt = absurd (omega arith)
+object_in (s ∷ ss) zero d lt = refl
+object_in (s ∷ ss) (suc i) d lt = object_in ss i d (omega arith)
+
+pub below_objects : (slots : List Slot) (i : ℕ) → i < length slots → i < length (objects_in slots)
+below_objects slots i lt = omega (arith, lt, length-map slots (λ (s : Slot). s.value))
+
+-- the objects from a slot on
+objects_next : (slots : List Slot) (i : ℕ) (d : Slot) → i < length slots → drop i (objects_in slots) ≡ (get_or slots i d).value ∷ drop (i + 1) (objects_in slots)
+objects_next slots i d lt = drop_more (objects_in slots) i None (below_objects slots i lt) ∙ ap (λ o. o ∷ drop (i + 1) (objects_in slots)) (object_in slots i d lt)
+
+module _ {X : Type 0} (see : Option Object → Option X) where
+  -- the next object
+  step_at : (all new : List X) (o : Option X) (rest : Option (List X)) → Adds o all new → option_map (λ r. all ++ r) (in_front o rest) ≡ option_map (λ r. new ++ r) rest
+  step_at all new None rest added = absurd added
+  step_at all new (Some x) rest added = behind all x rest ∙ ap (λ n. option_map (λ r. n ++ r) rest) (sym added)
+
+  pub slots_step : (all new : List X) (slots : List Slot) (start : List (Option Object)) (i : ℕ) (d : Slot) → i < length slots → objects_in slots ≡ start → Adds (see (get_or slots i d).value) all new
+      → option_map (λ r. all ++ r) (each_in see (drop i start)) ≡ option_map (λ r. new ++ r) (each_in see (drop (i + 1) start))
+  slots_step all new slots start i d lt same added =
+      subst (λ os. option_map (λ r. all ++ r) (each_in see (drop i os)) ≡ option_map (λ r. new ++ r) (each_in see (drop (i + 1) os))) same
+      (ap (λ os. option_map (λ r. all ++ r) (each_in see os)) (objects_next slots i d lt)
+      ∙ step_at all new (see (get_or slots i d).value) (each_in see (drop (i + 1) (objects_in slots))) added)
+
+  pub slots_fail : (all : List X) (slots : List Slot) (start : List (Option Object)) (i : ℕ) (d : Slot) → i < length slots → objects_in slots ≡ start → see (get_or slots i d).value ≡ None
+      → option_map (λ r. all ++ r) (each_in see (drop i start)) ≡ None
+  slots_fail all slots start i d lt same none =
+      subst (λ os. option_map (λ r. all ++ r) (each_in see (drop i os)) ≡ None) same
+      (ap (λ os. option_map (λ r. all ++ r) (each_in see os)) (objects_next slots i d lt)
+      ∙ ap (λ o. option_map (λ r. all ++ r) (in_front o (each_in see (drop (i + 1) (objects_in slots))))) none)

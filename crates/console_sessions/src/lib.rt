@@ -16,4 +16,7 @@ pub mod typed;
 mod unknown_numbers;
 mod writer;
 
+pub use path_messages::read_path_message;
+pub use reader::Message;
 pub use sessions::Sessions;
+pub use writer::write_message;

@@ -31,10 +31,15 @@ fn copy(call: &mut Call<'_>) -> ConsoleResult<()> {
     call.end_list()
 }
 
-// Reads the parts up to the line's end, and returns their message.
+// Reads the blanks before a message, and then the message.
 fn read_argument(call: &mut Call<'_>) -> ConsoleResult<pb::FieldPath> {
-    let mut path = Vec::new(call.alloc);
     call.line.separate()?;
+    read_path_message(call)
+}
+
+/// Reads the parts up to the line's end, and returns their message.
+pub fn read_path_message(call: &mut Call<'_>) -> ConsoleResult<pb::FieldPath> {
+    let mut path = Vec::new(call.alloc);
     for _ in 0..call.line.max_items() {
         if call.line.is_at_end() {
             break;

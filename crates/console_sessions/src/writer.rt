@@ -13,9 +13,14 @@ pub fn say_message_result(call: &mut Call<'_>, made: VortexResult<pb::DType>) ->
 
 fn say_message(call: &mut Call<'_>, message: &pb::DType) -> ConsoleResult<()> {
     call.write_separator()?;
+    Ok(write_message(&mut call.answer, message)?)
+}
+
+/// Writes a message: a kind, or `{}`.
+pub fn write_message(out: &mut String, message: &pb::DType) -> VortexResult<()> {
     match &message.dtype_type {
-        Some(kind) => Ok(write_kind(&mut call.answer, kind, MAX_WRITTEN_LEVELS)?),
-        None => Ok(put(&mut call.answer, "{}")?),
+        Some(kind) => write_kind(out, kind, MAX_WRITTEN_LEVELS),
+        None => put(out, "{}"),
     }
 }
 

@@ -3,4 +3,5 @@
 
 pub mod Below
 pub mod Extended
+pub mod PathParts
 pub mod Several

@@ -2,6 +2,7 @@
 -- SPDX-FileCopyrightText: Copyright the Vortex contributors
 
 pub mod Answers
+pub mod Messages
 pub mod Objects
 pub mod Several
 pub mod Texts

@@ -7,11 +7,13 @@
 //! 100 and the number of the library's error. A slot that an export only reads keeps its object. A slot `out` has a new
 //! object exactly if the export returns 0, and what it had before is dropped then.
 //!
-//! What is proved of each export is what its contract says of the values of its slots (`specs/Answers`): which code it
-//! returns in each case, and what it leaves. No export requires anything of its caller, except what C has to meet for the
-//! types of the parameters: valid pointers, slots that are distinct, and one thread at a time.
+//! What is proved of each export is what its contract says of the values of its slots (`specs/`): which code it returns in
+//! each case, and what it leaves. Of the texts in the form of the console, and of the answers of `vlt_answer`, it is proved
+//! that nothing else is written, but not what they are. No export requires anything of its caller, except what C has to meet
+//! for the types of the parameters: valid pointers, slots that are distinct, and one thread at a time.
 #![tactic(auto)]
 
+mod answers;
 mod buffers;
 mod changes;
 mod constructors;
@@ -22,10 +24,14 @@ mod general;
 mod holders;
 mod levels;
 mod masks;
+mod message_texts;
+mod messages;
 mod names;
+mod nodes;
 mod nullability;
 mod objects;
 mod parts;
+mod path_messages;
 mod path_texts;
 mod paths;
 mod projections;

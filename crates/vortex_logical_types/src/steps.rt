@@ -3,7 +3,7 @@
 
 // Several names that come in as one text, and the length of each. The length `ELEMENT` stands for the step into the element,
 // and has no bytes.
-ghost use Rattle.std.specs.Prelude.{◌≡◌, ◌++◌, ◌≢◌, map, IfOk, length};
+ghost use Rattle.std.specs.Prelude.{◌≡◌, ◌++◌, ◌≢◌, ◌⊎◌, map, IfOk, length};
 ghost use Rattle.std.specs.List.{flat_map};
 ghost use Rattle.vortex_logical_types.specs.Objects.{HasSteps, path_in, step_bytes, step_length};
 
@@ -16,14 +16,14 @@ use dtype_paths::{Field, FieldPath};
 use std::alloc::{AllocError, AllocFailed, Global};
 use std::str;
 
-// Why steps can't be read.
+/// Why steps can't be read.
 #[derive(Clone, Copy, Debug, PartialEq, Eq)]
-enum StepFault {
-    // An allocation failed.
+pub enum StepFault {
+    /// An allocation failed.
     OutOfMemory,
-    // A name isn't UTF-8.
+    /// A name isn't UTF-8.
     NotUtf8,
-    // The lengths don't add up to the length of the text.
+    /// The lengths don't add up to the length of the text.
     Lengths,
 }
 
@@ -45,10 +45,10 @@ impl<T: Drop> From<AllocFailed<T>> for StepFault {
     }
 }
 
-// The names that haven't been read.
+/// The names that haven't been read.
 #[derive(Drop)]
-struct Names<'a> {
-    rest: &'a [u8],
+pub struct Names<'a> {
+    pub rest: &'a [u8],
 }
 
 impl<'a> Names<'a> {
@@ -60,13 +60,21 @@ impl<'a> Names<'a> {
         if length == ELEMENT {
             return Ok(Field::ElementType);
         }
-        if length > self.rest.len() {
+        Ok(Field::Name(FieldName::new(alloc, self.name(length)?)?))
+    }
+
+    /// Takes the next name, which has this length.
+    pub fn name(&mut self, wanted: usize) -> Result<&'a str, StepFault>
+        ensures bytes { IfOk result (λ n. self.old.rest.now ≡ n.now ++ self.new.rest.now) }
+        ensures size { IfOk result (λ n. length n.now ≡ wanted) }
+    {
+        if wanted > self.rest.len() {
             return Err(StepFault::Lengths);
         }
-        let (name, rest) = self.rest.split_at(length);
+        let (name, rest) = self.rest.split_at(wanted);
         self.rest = rest;
         match str::from_utf8(name) {
-            Ok(name) => Ok(Field::Name(FieldName::new(alloc, name)?)),
+            Ok(name) => Ok(name),
             Err(_) => Err(StepFault::NotUtf8),
         }
     }
@@ -89,8 +97,9 @@ fn steps_of(alloc: Global, names: &[u8], lengths: &[usize]) -> Result<Vec<Field>
     }
 }
 
-fn code_of(fault: StepFault) -> u32
-    ensures { result ≢ 0 }
+/// Returns what an export returns of steps that can't be read.
+pub fn code_of(fault: StepFault) -> u32
+    ensures { (result ≡ 3) ⊎ ((result ≡ 9) ⊎ (result ≡ 100)) }
 {
     match fault {
         StepFault::OutOfMemory => LIBRARY,

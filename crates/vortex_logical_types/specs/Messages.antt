@@ -1,0 +1,101 @@
+-- SPDX-License-Identifier: Apache-2.0
+-- SPDX-FileCopyrightText: Copyright the Vortex contributors
+
+-- What exports over messages return of their slots and leave in them. `code` is what the export returns, `old` and `new` are
+-- what a slot has before and after.
+use Rattle.std.specs.Prelude.{◌≡◌, ◌⊎◌, ◌+◌, ◌++◌, ℕ, Bool, true, false, List, [], drop, length, map, Option, Some, None, Result, Ok, Err}
+use Rattle.std.specs.List.{flat_map}
+use Rattle.c_nodes.specs.Flat.{flat_nodes, flat_texts}
+use Rattle.c_nodes.specs.declared.node.Node.{Node}
+use Rattle.c_objects.specs.declared.object.Object.{Object}
+use Rattle.c_objects.specs.declared.object.Object.TheVariants.{Message as Held}
+use Rattle.dtype_base.specs.declared.vortex_error.VortexError.{VortexError}
+use Rattle.dtype_base.specs.Errors.{number_of}
+use Rattle.dtype_messages.specs.Message.{Message}
+use Rattle.dtype_messages.specs.MessageOf.{message}
+use Rattle.dtype_messages.specs.declared.pb.DType.{DType}
+use Rattle.dtype_paths.specs.declared.field.Field.{Field}
+use Rattle.dtype_paths.specs.declared.field.Field.TheVariants.{Name}
+use Rattle.dtype_types.specs.tree.Tree.{Tree}
+use Rattle.vortex_dtype.specs.Meaning.{Meaning, allow_unknown_in, empty_meaning}
+use Rattle.vortex_dtype.specs.ReadInOrder.{read}
+use Rattle.vortex_dtype.specs.Written.{written}
+use Rattle.vortex_logical_types.specs.Answers.{Buffer, SameBuffer}
+use Rattle.vortex_logical_types.specs.Objects.{step_bytes, step_length}
+
+-- the session under which an export reads a message: no plugin is registered, and the flag tells whether unknown ids are kept
+abbrev pub session_of : Bool → Meaning
+session_of true = allow_unknown_in empty_meaning
+session_of false = empty_meaning
+
+-- the type that a message describes under that session, or the first fault of the message
+abbrev pub type_of_message : Bool → Message → Result Tree VortexError
+type_of_message unknown m = read (session_of unknown) m
+
+-- the message of a type that was read, or the fault
+abbrev pub written_of : Result Tree VortexError → Result Message VortexError
+written_of (Ok t) = Ok (written t)
+written_of (Err e) = Err e
+
+-- the normal form of a message, or the first fault of the message
+abbrev pub normal_of : Bool → Message → Result Message VortexError
+normal_of unknown m = written_of (type_of_message unknown m)
+
+-- What was read is put into a slot, where `see` sees it, or its fault is returned; 100 means that an allocation failed. Except
+-- on 0 the slot keeps what it had.
+abbrev pub PutsRead : {X : Type 0} → (Option Object → Option X) → Result X VortexError → ℕ → Option Object → Option Object → Type 0
+PutsRead see (Ok x) code old new = ((code ≡ 0) × (see new ≡ Some x)) ⊎ ((code ≡ 100) × (new ≡ old))
+PutsRead see (Err e) code old new = ((code ≡ 100 + number_of e) ⊎ (code ≡ 100)) × (new ≡ old)
+
+-- the same of what a slot has
+abbrev pub PutsReadOf : {X Y : Type 0} → Option X → (Option Object → Option Y) → (X → Result Y VortexError) → ℕ → Option Object → Option Object → Type 0
+PutsReadOf None see f code old new = (code ≡ 2) × (new ≡ old)
+PutsReadOf (Some x) see f code old new = PutsRead see (f x) code old new
+
+-- a message that a call of the library made
+abbrev pub PutsMessage : Result DType VortexError → ℕ → Option Object → Option Object → Type 0
+PutsMessage (Ok m) code old new = ((code ≡ 0) × (new ≡ Some (Held m))) ⊎ ((code ≡ 100) × (new ≡ old))
+PutsMessage (Err e) code old new = (code ≡ 100 + number_of e) × (new ≡ old)
+
+-- a slot has a message with these nodes and these texts
+abbrev pub IsFlat : List Node → List ℕ → Option Message → Type 0
+IsFlat nodes texts None = ⊥
+IsFlat nodes texts (Some m) = (flat_nodes m ≡ nodes) × (flat_texts m ≡ texts)
+
+-- what two buffers and the numbers beside them have
+abbrev pub Buffers : Type 0
+Buffers = (List Node × ℕ) × Buffer
+
+-- nothing is written to either
+abbrev pub SameBuffers : Buffers → Buffers → Type 0
+SameBuffers old new = ((new.0.0 ≡ old.0.0) × (new.0.1 ≡ old.0.1)) × SameBuffer old.1 new.1
+
+-- the numbers of nodes and of bytes are written
+abbrev pub HasSizes : Message → Buffers → Type 0
+HasSizes m new = (new.0.1 ≡ length (flat_nodes m)) × (new.1.1 ≡ length (flat_texts m))
+
+-- Nodes and texts are written to the fronts of two buffers, and their numbers beside them; if they don't fit, the numbers
+-- alone, and the code is 7. If the code is another, nothing is written.
+abbrev pub WritesFlat : Message → ℕ → Buffers → Buffers → Type 0
+WritesFlat m code old new =
+    ((code ≡ 0) × (HasSizes m new × ((new.0.0 ≡ flat_nodes m ++ drop (length (flat_nodes m)) old.0.0) × (new.1.0 ≡ flat_texts m ++ drop (length (flat_texts m)) old.1.0))))
+    ⊎ (((code ≡ 7) × (HasSizes m new × ((new.0.0 ≡ old.0.0) × (new.1.0 ≡ old.1.0)))) ⊎ (((code ≡ 6) ⊎ ((code ≡ 9) ⊎ (code ≡ 100))) × SameBuffers old new))
+
+abbrev pub WritesFlatOf : Option Message → ℕ → Buffers → Buffers → Type 0
+WritesFlatOf None code old new = (code ≡ 2) × SameBuffers old new
+WritesFlatOf (Some m) code old new = WritesFlat m code old new
+
+-- the bytes of a part of a path's message, and the length that comes with them: the greatest of a part without a kind
+abbrev pub part_bytes : Option (List ℕ) → List ℕ
+part_bytes None = []
+part_bytes (Some n) = n
+
+abbrev pub part_length : Option (List ℕ) → ℕ
+part_length None = 18446744073709551615
+part_length (Some n) = length n
+
+-- a path whose steps are names with these bytes and these lengths
+abbrev pub HasParts : List ℕ → List ℕ → Option (List Field) → Type 0
+HasParts bytes lengths None = ⊥
+HasParts bytes lengths (Some p) =
+    (flat_map step_bytes p ≡ bytes) × (map step_length p ≡ lengths) × (map (λ f. Name (step_bytes f)) p ≡ p)

@@ -1,0 +1,92 @@
+// SPDX-License-Identifier: Apache-2.0
+// SPDX-FileCopyrightText: Copyright the Vortex contributors
+
+// Messages of types in the form of the console.
+ghost use Rattle.std.specs.Prelude.{◌≡◌, ◌⊎◌, IsSome, IsUtf8};
+ghost use Rattle.vortex_logical_types.specs.Answers.{WritesSome};
+ghost use Rattle.vortex_logical_types.specs.Objects.{message_in};
+
+use crate::buffers::write_bytes;
+use crate::errors::{KIND, NOT_UTF8, of_console, of_library};
+use crate::objects::put;
+use c_objects::{Object, Slot};
+use console_core::{Argument, ConsoleResult, Line};
+use console_sessions::{Message, write_message};
+use dtype_base::VortexResult;
+use dtype_messages::pb;
+use std::alloc::Global;
+use std::str;
+
+/// Reads the message of a type from its text in the form of the console, protobuf's text format, for example
+/// `list { element_type { primitive { type: I32 } } }`, and puts it.
+///
+/// If the text can't be read, `position` is the first byte that doesn't fit, counted from 1.
+#[unsafe(no_mangle)]
+pub extern "C" fn vlt_message_from_text(
+    alloc: Global,
+    text: &[u8],
+    out: &mut Slot,
+    position: &mut usize,
+) -> u32
+    ensures put { result ≡ 0 → IsSome (message_in out.new.value) }
+    ensures utf8 { (result ≡ 3) ⊎ IsUtf8 text.now }
+    ensures unchanged { (result ≡ 0) ⊎ (out.new.value ≡ out.old.value) }
+{
+    match str::from_utf8(text) {
+        Ok(text) => read(alloc, text, out, position),
+        Err(_) => NOT_UTF8,
+    }
+}
+
+fn read(alloc: Global, text: &str, out: &mut Slot, position: &mut usize) -> u32
+    ensures put { result ≡ 0 → IsSome (message_in out.new.value) }
+    ensures unchanged { (result ≡ 0) ⊎ (out.new.value ≡ out.old.value) }
+{
+    match read_message(alloc, text) {
+        Ok(message) => put(alloc, out, Object::Message(message)),
+        Err(error) => of_console(&error, position),
+    }
+}
+
+fn read_message(alloc: Global, text: &str) -> ConsoleResult<pb::DType> {
+    let mut line = Line::new(alloc, text);
+    let Message(message) = Message::read(alloc, &mut line)?;
+    line.then_end(message)
+}
+
+/// Writes a message in the form of the console, which reads back as the same message.
+#[unsafe(no_mangle)]
+pub extern "C" fn vlt_message_to_text(
+    alloc: Global,
+    message: &mut Slot,
+    buffer: &mut [u8],
+    length: &mut usize,
+) -> u32
+    ensures writes { WritesSome result (buffer.old, length.old) (buffer.new, length.new) }
+    ensures kept { message.new.value ≡ message.old.value }
+{
+    let Some(object) = message.take(alloc) else {
+        return KIND;
+    };
+    let answer = match &*object {
+        Object::Message(message) => write(alloc, message, buffer, length),
+        _ => KIND,
+    };
+    message.put(object);
+    answer
+}
+
+fn write(alloc: Global, message: &pb::DType, buffer: &mut [u8], length: &mut usize) -> u32
+    ensures { WritesSome result (buffer.old, length.old) (buffer.new, length.new) }
+{
+    match written(alloc, message) {
+        Ok(written) => write_bytes(written.as_bytes(), buffer, length),
+        Err(error) => of_library(error),
+    }
+}
+
+fn written(alloc: Global, message: &pb::DType) -> VortexResult<String> {
+    let mut written = String::new(alloc);
+    write_message(&mut written, message)?;
+    Ok(written)
+}

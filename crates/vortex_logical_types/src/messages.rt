@@ -1,0 +1,218 @@
+// SPDX-License-Identifier: Apache-2.0
+// SPDX-FileCopyrightText: Copyright the Vortex contributors
+
+// Messages of types: copies, equality, the types that they describe, and normal forms.
+ghost use Rattle.std.specs.Prelude.{◌≡◌, ◌⊎◌, Ok, Err, MatchResult, false, true};
+ghost use Rattle.std.specs.declared.option.Option.TheVariants.{Some};
+ghost use Rattle.c_objects.specs.declared.object.Object.{Object};
+ghost use Rattle.dtype_base.specs.declared.vortex_error.VortexError.TheVariants.{OutOfMemory};
+ghost use Rattle.dtype_messages.specs.MessageOf.{message};
+ghost use Rattle.dtype_types.specs.tree.TreeOf.{tree};
+ghost use Rattle.vortex_dtype.specs.Written.{written};
+ghost use Rattle.vortex_logical_types.specs.Answers.{Tells, type_in};
+ghost use Rattle.vortex_logical_types.specs.Messages.{PutsMessage, PutsRead, PutsReadOf, normal_of, type_of_message};
+ghost use Rattle.vortex_logical_types.specs.Objects.{AsksBoth, Gives, GivesOf, message_in};
+
+use crate::errors::{KIND, NONE, OK, of_library};
+use crate::objects::{put, put_made};
+use c_objects::{Object, Slot};
+use dtype_base::VortexResult;
+use dtype_messages::pb;
+use dtype_types::DType;
+use std::alloc::Global;
+use vortex_dtype::{DTypeProto, DTypeSession};
+
+/// Puts a message that a call of the library made, or returns its error.
+fn put_message(alloc: Global, out: &mut Slot, made: VortexResult<pb::DType>) -> u32
+    ensures { PutsMessage made result out.old.value out.new.value }
+{
+    match made {
+        Ok(made) => put(alloc, out, Object::Message(made)),
+        Err(error) => of_library(error),
+    }
+}
+
+/// Puts a copy of the message.
+#[unsafe(no_mangle)]
+pub extern "C" fn vlt_message_copy(alloc: Global, message: &mut Slot, out: &mut Slot) -> u32
+    ensures made { GivesOf (message_in message.old.value) message_in Some result out.old.value out.new.value }
+    ensures kept { message.new.value ≡ message.old.value }
+{
+    let Some(object) = message.take(alloc) else {
+        return KIND;
+    };
+    let answer = match &*object {
+        Object::Message(proto) => copy(alloc, proto, out),
+        _ => KIND,
+    };
+    message.put(object);
+    answer
+}
+
+fn copy(alloc: Global, proto: &pb::DType, out: &mut Slot) -> u32
+    ensures { Gives message_in (Some (message proto.now)) result out.old.value out.new.value }
+{
+    put_message(alloc, out, proto.try_clone(alloc))
+}
+
+/// Returns 0 if the messages are equal.
+#[unsafe(no_mangle)]
+pub extern "C" fn vlt_message_eq(alloc: Global, one: &mut Slot, other: &mut Slot) -> u32
+    ensures answer { AsksBoth (message_in one.old.value) (message_in other.old.value) (λ m n. m ≡ n) result }
+    ensures kept { (one.new.value ≡ one.old.value) × (other.new.value ≡ other.old.value) }
+{
+    let Some(object) = one.take(alloc) else {
+        return KIND;
+    };
+    let answer = eq_of(alloc, &object, other);
+    one.put(object);
+    answer
+}
+
+fn eq_of(alloc: Global, one: &Object, other: &mut Slot) -> u32
+    ensures answer { AsksBoth (message_in (Some one.now)) (message_in other.old.value) (λ m n. m ≡ n) result }
+    ensures kept { other.new.value ≡ other.old.value }
+{
+    let Some(object) = other.take(alloc) else {
+        return KIND;
+    };
+    let answer = match (one, &*object) {
+        (Object::Message(one), Object::Message(other)) => eq(one, other),
+        _ => KIND,
+    };
+    other.put(object);
+    answer
+}
+
+#[tactic(auto, using(dtype_messages::proofs::lemmas::Equality::equality))]
+fn eq(one: &pb::DType, other: &pb::DType) -> u32
+    ensures { Tells result (message one.now ≡ message other.now) }
+{
+    if *one == *other { OK } else { NONE }
+}
+
+/// Puts the type that the message describes, under a session without plugins. If `allow_unknown` is false, it returns 135
+/// for an extension, because no id is known. If it is true, the extension keeps its metadata. A message that describes no
+/// type returns the number of its first fault, for example 124 for a message without a kind.
+#[unsafe(no_mangle)]
+pub extern "C" fn vlt_message_to_dtype(
+    alloc: Global,
+    message: &mut Slot,
+    allow_unknown: bool,
+    out: &mut Slot,
+) -> u32
+    ensures read { PutsReadOf (message_in message.old.value) type_in (type_of_message allow_unknown) result out.old.value out.new.value }
+    ensures kept { message.new.value ≡ message.old.value }
+{
+    let Some(object) = message.take(alloc) else {
+        return KIND;
+    };
+    let answer = match &*object {
+        Object::Message(proto) => read(alloc, proto, allow_unknown, out),
+        _ => KIND,
+    };
+    message.put(object);
+    answer
+}
+
+fn read(alloc: Global, proto: &pb::DType, allow_unknown: bool, out: &mut Slot) -> u32
+    ensures { PutsRead type_in (type_of_message allow_unknown (message proto.now)) result out.old.value out.new.value }
+{
+    put_made(alloc, out, dtype_of(alloc, proto, allow_unknown))
+}
+
+// Returns the type that the message describes, under a session without plugins.
+fn dtype_of(alloc: Global, proto: &pb::DType, allow_unknown: bool) -> VortexResult<DType>
+    ensures { MatchResult result
+        (λ d. type_of_message allow_unknown (message proto.now) ≡ Ok (tree d))
+        (λ e. (e ≡ OutOfMemory) ⊎ (type_of_message allow_unknown (message proto.now) ≡ Err e)) }
+{
+    if allow_unknown {
+        read_allowing(alloc, proto)
+    } else {
+        read_strictly(alloc, proto)
+    }
+}
+
+// Returns the type that the message describes, where extensions of unknown ids are kept.
+fn read_allowing(alloc: Global, proto: &pb::DType) -> VortexResult<DType>
+    ensures { MatchResult result
+        (λ d. type_of_message true (message proto.now) ≡ Ok (tree d))
+        (λ e. (e ≡ OutOfMemory) ⊎ (type_of_message true (message proto.now) ≡ Err e)) }
+{
+    let mut session = DTypeSession::new(alloc);
+    session.allow_unknown();
+    DType::from_proto(alloc, proto, &session)
+}
+
+// Returns the type that the message describes, where no id is known.
+fn read_strictly(alloc: Global, proto: &pb::DType) -> VortexResult<DType>
+    ensures { MatchResult result
+        (λ d. type_of_message false (message proto.now) ≡ Ok (tree d))
+        (λ e. (e ≡ OutOfMemory) ⊎ (type_of_message false (message proto.now) ≡ Err e)) }
+{
+    let session = DTypeSession::new(alloc);
+    DType::from_proto(alloc, proto, &session)
+}
+
+/// Puts the normal form of the message: the message of the type that it describes, with every child, flag and number, and
+/// with the metadata of each extension, even if that is empty. `allow_unknown` and the errors are those of
+/// `vlt_message_to_dtype`.
+#[unsafe(no_mangle)]
+pub extern "C" fn vlt_message_normal(
+    alloc: Global,
+    message: &mut Slot,
+    allow_unknown: bool,
+    out: &mut Slot,
+) -> u32
+    ensures read { PutsReadOf (message_in message.old.value) message_in (normal_of allow_unknown) result out.old.value out.new.value }
+    ensures kept { message.new.value ≡ message.old.value }
+{
+    let Some(object) = message.take(alloc) else {
+        return KIND;
+    };
+    let answer = match &*object {
+        Object::Message(proto) => normal(alloc, proto, allow_unknown, out),
+        _ => KIND,
+    };
+    message.put(object);
+    answer
+}
+
+fn normal(alloc: Global, proto: &pb::DType, allow_unknown: bool, out: &mut Slot) -> u32
+    ensures { PutsRead message_in (normal_of allow_unknown (message proto.now)) result out.old.value out.new.value }
+{
+    put_message(alloc, out, normal_form(alloc, proto, allow_unknown))
+}
+
+fn normal_form(alloc: Global, proto: &pb::DType, allow_unknown: bool) -> VortexResult<pb::DType>
+    ensures { MatchResult result
+        (λ m. normal_of allow_unknown (message proto.now) ≡ Ok (message m))
+        (λ e. (e ≡ OutOfMemory) ⊎ (normal_of allow_unknown (message proto.now) ≡ Err e)) }
+{
+    let dtype = dtype_of(alloc, proto, allow_unknown)?;
+    Ok(dtype.to_proto(alloc)?)
+}
+
+/// Puts the message that describes the type.
+#[unsafe(no_mangle)]
+pub extern "C" fn vlt_dtype_to_message(alloc: Global, dtype: &mut Slot, out: &mut Slot) -> u32
+    ensures made { GivesOf (type_in dtype.old.value) message_in (λ t. Some (written t)) result out.old.value out.new.value }
+    ensures kept { dtype.new.value ≡ dtype.old.value }
+{
+    let Some(object) = dtype.take(alloc) else {
+        return KIND;
+    };
+    let answer = match &*object {
+        Object::DType(dtype) => write(alloc, dtype, out),
+        _ => KIND,
+    };
+    dtype.put(object);
+    answer
+}
+
+fn write(alloc: Global, dtype: &DType, out: &mut Slot) -> u32
+    ensures { Gives message_in (Some (written (tree dtype.now))) result out.old.value out.new.value }
+{
+    put_message(alloc, out, dtype.to_proto(alloc))
+}

@@ -1,0 +1,109 @@
+// SPDX-License-Identifier: Apache-2.0
+// SPDX-FileCopyrightText: Copyright the Vortex contributors
+
+// Messages of paths. No slot has one: they are read from names or from a text, and put as the paths that they describe.
+ghost use Rattle.std.specs.Prelude.{◌≡◌, ◌≢◌, ◌⊎◌, ◌++◌, IfOk, IsSome, IsUtf8, map};
+ghost use Rattle.std.specs.List.{Contains, flat_map};
+ghost use Rattle.dtype_messages.specs.PathNames.{part_name, part_names};
+ghost use Rattle.vortex_logical_types.specs.Messages.{HasParts, part_bytes, part_length};
+ghost use Rattle.vortex_logical_types.specs.Objects.{path_in};
+
+use crate::errors::{NOT_UTF8, of_console};
+use crate::objects::put;
+use crate::paths::{ELEMENT, put_path};
+use crate::steps::{Names, StepFault, code_of};
+use c_objects::{Object, Slot};
+use console_core::{Call, ConsoleResult};
+use console_sessions::read_path_message;
+use dtype_messages::pb;
+use dtype_paths::FieldPath;
+use std::alloc::Global;
+use std::str;
+use std::string::String;
+use vortex_dtype::FieldPathProto;
+
+/// Puts the path that the message of a path describes, whose parts have these names, as `vlt_path_from_steps` takes names.
+/// The length `ELEMENT` (the greatest `usize`) stands for a part without a kind, for which it returns 136.
+#[unsafe(no_mangle)]
+pub extern "C" fn vlt_path_from_message(
+    alloc: Global,
+    names: &[u8],
+    name_lengths: &[usize],
+    out: &mut Slot,
+) -> u32
+    ensures made { result ≡ 0 → HasParts names.now name_lengths.now (path_in out.new.value) }
+    ensures missing { result ≡ 136 → Contains name_lengths.now 18446744073709551615 }
+    ensures unchanged { result ≢ 0 → out.new.value ≡ out.old.value }
+{
+    match message_of(alloc, names, name_lengths) {
+        Ok(message) => put_path(alloc, out, FieldPath::from_proto(alloc, &message)),
+        Err(fault) => code_of(fault),
+    }
+}
+
+// Returns the message of parts that these names and lengths are.
+fn message_of(alloc: Global, names: &[u8], lengths: &[usize]) -> Result<pb::FieldPath, StepFault>
+    ensures bytes { IfOk result (λ m. flat_map part_bytes (part_names m) ≡ names.now) }
+    ensures sizes { IfOk result (λ m. map part_length (part_names m) ≡ lengths.now) }
+{
+    let mut names = Names { rest: names };
+    let mut path = Vec::with_capacity(alloc, lengths.len())?;
+    for length in lengths {
+        path.push(part(alloc, &mut names, *length)?)?;
+    }
+    if names.rest.is_empty() {
+        Ok(pb::FieldPath { path })
+    } else {
+        Err(StepFault::Lengths)
+    }
+}
+
+// Takes the next part, which has a name of this length, or no kind.
+fn part(alloc: Global, names: &mut Names<'_>, length: usize) -> Result<pb::Field, StepFault>
+    ensures bytes { IfOk result (λ f. names.old.rest.now ≡ part_bytes (part_name f) ++ names.new.rest.now) }
+    ensures size { IfOk result (λ f. part_length (part_name f) ≡ length) }
+{
+    if length == ELEMENT {
+        return Ok(pb::Field { field_type: None });
+    }
+    let name = String::from_str(alloc, names.name(length)?)?;
+    Ok(pb::Field {
+        field_type: Some(pb::FieldType::Name(name)),
+    })
+}
+
+/// Reads the message of a path from its text in the form of the console, for example
+/// `path { name: "a" } path { name: "b" }`, and puts the path that it describes. For a part without a kind it returns 136.
+///
+/// If the text can't be read, `position` is the first byte that doesn't fit, counted from 1.
+#[unsafe(no_mangle)]
+pub extern "C" fn vlt_path_from_message_text(
+    alloc: Global,
+    text: &[u8],
+    out: &mut Slot,
+    position: &mut usize,
+) -> u32
+    ensures put { result ≡ 0 → IsSome (path_in out.new.value) }
+    ensures utf8 { (result ≡ 3) ⊎ IsUtf8 text.now }
+    ensures unchanged { (result ≡ 0) ⊎ (out.new.value ≡ out.old.value) }
+{
+    match str::from_utf8(text) {
+        Ok(text) => read(alloc, text, out, position),
+        Err(_) => NOT_UTF8,
+    }
+}
+
+fn read(alloc: Global, text: &str, out: &mut Slot, position: &mut usize) -> u32
+    ensures put { result ≡ 0 → IsSome (path_in out.new.value) }
+    ensures unchanged { (result ≡ 0) ⊎ (out.new.value ≡ out.old.value) }
+{
+    match read_path(alloc, text) {
+        Ok(path) => put(alloc, out, Object::Path(path)),
+        Err(error) => of_console(&error, position),
+    }
+}
+
+fn read_path(alloc: Global, text: &str) -> ConsoleResult<FieldPath> {
+    let message = read_path_message(&mut Call::new(alloc, text))?;
+    Ok(FieldPath::from_proto(alloc, &message)?)
+}

@@ -22,10 +22,15 @@
  * length of each, `name_lengths`. In the steps of a path a length of VLT_ELEMENT stands for the step into the element
  * of a list, and has no bytes in `names`. A step that goes out as VLT_ELEMENT in `*length` has written no bytes.
  *
+ * Messages. A program that decodes protobuf by itself writes what it decoded as an array of vlt_node and the bytes of the
+ * texts, one behind the other; vlt_message_from_nodes reads them. Where the nodes go out, both buffers have to be large
+ * enough, and on VLT_SMALL `*node_count` and `*text_length` are the sizes that are needed.
+ *
  * What the caller owes, and no call can test: pointers are valid for their lengths; a pointer to a slot or to an
  * out-parameter isn't null, and neither it nor a buffer overlaps another argument of the call; a slot is empty or was
  * filled by the library; and an object, with all that was copied from it, stays on the thread that made it, because
- * types share their parts and count them without a lock. To take a type to another thread, send its text. */
+ * types share their parts and count them without a lock. To take a type to another thread, send its text, or the nodes
+ * and texts of its message. */
 #ifndef VORTEX_LOGICAL_TYPES_H
 #define VORTEX_LOGICAL_TYPES_H
 
@@ -84,8 +89,39 @@ static inline bool vlt_is_among(const vlt_slot *slot, const vlt_slot *slots, siz
 /* The library's error 0, out of memory. Its error n, up to 36, is this number and n. */
 #define VLT_LIBRARY 100u
 
+/* A message, a text or a tag in the flat form. A message is followed by its texts, its tags and then its parts, each
+ * with what follows it. Fields that a kind doesn't use are 0. */
+typedef struct {
+    /* 0 of a message without a kind; 1 null, 2 bool, 3 primitive, 4 decimal, 5 utf8, 6 binary, 7 list, 8 fixed-size list,
+     * 9 map, 10 struct, 11 union, 12 variant, 13 extension; 14 of a text, 15 of a tag. */
+    uint32_t kind;
+    /* 1 if values may be null, else 0. */
+    uint8_t nullable;
+    /* 1 if a map's keys are declared to be sorted, else 0. */
+    uint8_t keys_sorted;
+    /* 1 if a list's element, a map's key or an extension's storage follows, else 0. */
+    uint8_t has_first;
+    /* 1 if a map's value or the text of an extension's metadata follows, else 0. */
+    uint8_t has_second;
+    /* How many names follow a struct or a union. */
+    uint32_t names;
+    /* How many tags follow a union. */
+    uint32_t tags;
+    /* How many types follow a struct or a union. */
+    uint32_t types;
+    /* A decimal's precision, a fixed-size list's size, or how many bytes a text has. */
+    uint32_t number;
+    /* A primitive type's number, a decimal's scale, or a tag. */
+    int32_t value;
+} vlt_node;
+
 
 /* == All objects == */
+
+/* Writes the answer of the console to a line, which is given without its newline. A line that is blank or a comment, and
+ * one that ends the console, has no answer, and the call returns 1. Each call begins with no named set and no named
+ * session. An answer may have several lines. An error is an answer too: `unreadable at 3: expected ..` returns 0. */
+uint32_t vlt_answer(const uint8_t *line, size_t line_len, uint8_t *buffer, size_t buffer_len, size_t *length);
 
 /* Writes what a result means in a few words. If no export returns this number, it returns 9. */
 uint32_t vlt_error_text(uint32_t code, uint8_t *buffer, size_t buffer_len, size_t *length);
@@ -148,6 +184,9 @@ uint32_t vlt_dtype_union(
 uint32_t vlt_dtype_union_consecutive(
         const uint8_t *names, size_t names_len, const size_t *name_lengths, size_t name_lengths_len, vlt_slot *dtypes,
         size_t dtypes_len, bool nullable, vlt_slot *out);
+
+/* Puts the message that describes the type. */
+uint32_t vlt_dtype_to_message(vlt_slot *dtype, vlt_slot *out);
 
 /* Puts the type with this outer nullability; for an extension it is that of its storage. If the type can't be
  * non-nullable, it returns 5. */
@@ -317,6 +356,17 @@ uint32_t vlt_union_is_consecutive(vlt_slot *dtype);
 
 /* == Paths == */
 
+/* Puts the path that the message of a path describes, whose parts have these names, as `vlt_path_from_steps` takes names.
+ * The length `ELEMENT` (the greatest `usize`) stands for a part without a kind, for which it returns 136. */
+uint32_t vlt_path_from_message(
+        const uint8_t *names, size_t names_len, const size_t *name_lengths, size_t name_lengths_len, vlt_slot *out);
+
+/* Reads the message of a path from its text in the form of the console, for example
+ * `path { name: "a" } path { name: "b" }`, and puts the path that it describes. For a part without a kind it returns 136.
+ *
+ * If the text can't be read, `position` is the first byte that doesn't fit, counted from 1. */
+uint32_t vlt_path_from_message_text(const uint8_t *text, size_t text_len, vlt_slot *out, size_t *position);
+
 /* Reads a path from its text in the form of the console, for example `a.[].b`, or `.` for the root, and puts it.
  *
  * If the text can't be read, `position` is the first byte that doesn't fit, counted from 1. */
@@ -464,10 +514,62 @@ uint32_t vlt_mask_matches_root(vlt_slot *mask);
 /* Returns 0 if the masks are equal. */
 uint32_t vlt_mask_eq(vlt_slot *one, vlt_slot *other);
 
+
+/* == Messages of types == */
+
+/* Reads the message of a type from its text in the form of the console, protobuf's text format, for example
+ * `list { element_type { primitive { type: I32 } } }`, and puts it.
+ *
+ * If the text can't be read, `position` is the first byte that doesn't fit, counted from 1. */
+uint32_t vlt_message_from_text(const uint8_t *text, size_t text_len, vlt_slot *out, size_t *position);
+
+/* Writes a message in the form of the console, which reads back as the same message. */
+uint32_t vlt_message_to_text(vlt_slot *message, uint8_t *buffer, size_t buffer_len, size_t *length);
+
+/* Puts a copy of the message. */
+uint32_t vlt_message_copy(vlt_slot *message, vlt_slot *out);
+
+/* Returns 0 if the messages are equal. */
+uint32_t vlt_message_eq(vlt_slot *one, vlt_slot *other);
+
+/* Puts the type that the message describes, under a session without plugins. If `allow_unknown` is false, it returns 135
+ * for an extension, because no id is known. If it is true, the extension keeps its metadata. A message that describes no
+ * type returns the number of its first fault, for example 124 for a message without a kind. */
+uint32_t vlt_message_to_dtype(vlt_slot *message, bool allow_unknown, vlt_slot *out);
+
+/* Puts the normal form of the message: the message of the type that it describes, with every child, flag and number, and
+ * with the metadata of each extension, even if that is empty. `allow_unknown` and the errors are those of
+ * `vlt_message_to_dtype`. */
+uint32_t vlt_message_normal(vlt_slot *message, bool allow_unknown, vlt_slot *out);
+
+/* Puts the message that the nodes and the bytes of the texts describe. If they are not the nodes and the texts of one
+ * message, it returns 9, and if a message is nested in more than 128 others, it returns 6. */
+uint32_t vlt_message_from_nodes(
+        const vlt_node *nodes, size_t nodes_len, const uint8_t *texts, size_t texts_len, vlt_slot *out);
+
+/* Writes the nodes of the message and the bytes of its texts to the front of the two buffers, and the numbers of both
+ * beside them. If one of the buffers is too small, it writes the two numbers alone. If the message has more names, tags,
+ * types or bytes of a text than 32 bits can count, it returns 9.
+ *
+ * Nodes and texts are plain bytes, so another thread can read them. */
+uint32_t vlt_message_to_nodes(
+        vlt_slot *message, vlt_node *nodes, size_t nodes_len, size_t *node_count, uint8_t *texts, size_t texts_len,
+        size_t *text_length);
+
 /* A call of a function above that takes two slots, or a pointer and a length, is a call of the inline
  * function below: it returns VLT_SAME_SLOT if two of the slots are one, because the proofs of the exports suppose
  * that they differ. It returns VLT_RANGE for a null pointer with a length above 0, and passes a pointer
  * that isn't null if the length is 0. */
+
+static inline uint32_t vlt_checked_answer(
+        const uint8_t *line, size_t line_len, uint8_t *buffer, size_t buffer_len, size_t *length) {
+    if ((!line && line_len) || (!buffer && buffer_len))
+        return VLT_RANGE;
+    return vlt_answer(
+            line ? line : (const uint8_t *)vlt_no_items(), line_len, buffer ? buffer : (uint8_t *)vlt_no_items(),
+            buffer_len, length);
+}
+#define vlt_answer vlt_checked_answer
 
 static inline uint32_t vlt_checked_error_text(uint32_t code, uint8_t *buffer, size_t buffer_len, size_t *length) {
     if (!buffer && buffer_len)
@@ -533,6 +635,13 @@ static inline uint32_t vlt_checked_dtype_union_consecutive(
             dtypes ? dtypes : (vlt_slot *)vlt_no_items(), dtypes_len, nullable, out);
 }
 #define vlt_dtype_union_consecutive vlt_checked_dtype_union_consecutive
+
+static inline uint32_t vlt_checked_dtype_to_message(vlt_slot *dtype, vlt_slot *out) {
+    if (dtype == out)
+        return VLT_SAME_SLOT;
+    return vlt_dtype_to_message(dtype, out);
+}
+#define vlt_dtype_to_message vlt_checked_dtype_to_message
 
 static inline uint32_t vlt_checked_dtype_with_nullability(vlt_slot *dtype, bool nullable, vlt_slot *out) {
     if (dtype == out)
@@ -786,6 +895,24 @@ static inline uint32_t vlt_checked_union_variant_name(
 }
 #define vlt_union_variant_name vlt_checked_union_variant_name
 
+static inline uint32_t vlt_checked_path_from_message(
+        const uint8_t *names, size_t names_len, const size_t *name_lengths, size_t name_lengths_len, vlt_slot *out) {
+    if ((!names && names_len) || (!name_lengths && name_lengths_len))
+        return VLT_RANGE;
+    return vlt_path_from_message(
+            names ? names : (const uint8_t *)vlt_no_items(), names_len,
+            name_lengths ? name_lengths : (const size_t *)vlt_no_items(), name_lengths_len, out);
+}
+#define vlt_path_from_message vlt_checked_path_from_message
+
+static inline uint32_t vlt_checked_path_from_message_text(
+        const uint8_t *text, size_t text_len, vlt_slot *out, size_t *position) {
+    if (!text && text_len)
+        return VLT_RANGE;
+    return vlt_path_from_message_text(text ? text : (const uint8_t *)vlt_no_items(), text_len, out, position);
+}
+#define vlt_path_from_message_text vlt_checked_path_from_message_text
+
 static inline uint32_t vlt_checked_path_from_text(
         const uint8_t *text, size_t text_len, vlt_slot *out, size_t *position) {
     if (!text && text_len)
@@ -1027,6 +1154,71 @@ static inline uint32_t vlt_checked_mask_eq(vlt_slot *one, vlt_slot *other) {
     return vlt_mask_eq(one, other);
 }
 #define vlt_mask_eq vlt_checked_mask_eq
+
+static inline uint32_t vlt_checked_message_from_text(
+        const uint8_t *text, size_t text_len, vlt_slot *out, size_t *position) {
+    if (!text && text_len)
+        return VLT_RANGE;
+    return vlt_message_from_text(text ? text : (const uint8_t *)vlt_no_items(), text_len, out, position);
+}
+#define vlt_message_from_text vlt_checked_message_from_text
+
+static inline uint32_t vlt_checked_message_to_text(
+        vlt_slot *message, uint8_t *buffer, size_t buffer_len, size_t *length) {
+    if (!buffer && buffer_len)
+        return VLT_RANGE;
+    return vlt_message_to_text(message, buffer ? buffer : (uint8_t *)vlt_no_items(), buffer_len, length);
+}
+#define vlt_message_to_text vlt_checked_message_to_text
+
+static inline uint32_t vlt_checked_message_copy(vlt_slot *message, vlt_slot *out) {
+    if (message == out)
+        return VLT_SAME_SLOT;
+    return vlt_message_copy(message, out);
+}
+#define vlt_message_copy vlt_checked_message_copy
+
+static inline uint32_t vlt_checked_message_eq(vlt_slot *one, vlt_slot *other) {
+    if (one == other)
+        return VLT_SAME_SLOT;
+    return vlt_message_eq(one, other);
+}
+#define vlt_message_eq vlt_checked_message_eq
+
+static inline uint32_t vlt_checked_message_to_dtype(vlt_slot *message, bool allow_unknown, vlt_slot *out) {
+    if (message == out)
+        return VLT_SAME_SLOT;
+    return vlt_message_to_dtype(message, allow_unknown, out);
+}
+#define vlt_message_to_dtype vlt_checked_message_to_dtype
+
+static inline uint32_t vlt_checked_message_normal(vlt_slot *message, bool allow_unknown, vlt_slot *out) {
+    if (message == out)
+        return VLT_SAME_SLOT;
+    return vlt_message_normal(message, allow_unknown, out);
+}
+#define vlt_message_normal vlt_checked_message_normal
+
+static inline uint32_t vlt_checked_message_from_nodes(
+        const vlt_node *nodes, size_t nodes_len, const uint8_t *texts, size_t texts_len, vlt_slot *out) {
+    if ((!nodes && nodes_len) || (!texts && texts_len))
+        return VLT_RANGE;
+    return vlt_message_from_nodes(
+            nodes ? nodes : (const vlt_node *)vlt_no_items(), nodes_len,
+            texts ? texts : (const uint8_t *)vlt_no_items(), texts_len, out);
+}
+#define vlt_message_from_nodes vlt_checked_message_from_nodes
+
+static inline uint32_t vlt_checked_message_to_nodes(
+        vlt_slot *message, vlt_node *nodes, size_t nodes_len, size_t *node_count, uint8_t *texts, size_t texts_len,
+        size_t *text_length) {
+    if ((!nodes && nodes_len) || (!texts && texts_len))
+        return VLT_RANGE;
+    return vlt_message_to_nodes(
+            message, nodes ? nodes : (vlt_node *)vlt_no_items(), nodes_len, node_count,
+            texts ? texts : (uint8_t *)vlt_no_items(), texts_len, text_length);
+}
+#define vlt_message_to_nodes vlt_checked_message_to_nodes
 /* end of what tools/bindings writes */
 
 #ifdef __cplusplus

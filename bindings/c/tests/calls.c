@@ -574,6 +574,159 @@ static void sets(void) {
     free_all(p, 3);
 }
 
+/* Whether the slot has a message of this text. */
+static void is_message(vlt_slot *slot, const char *wanted, int line) {
+    uint8_t buffer[256];
+    size_t length = 0;
+    IS_AT(line, VLT_DONE, vlt_message_to_text(slot, buffer, sizeof buffer, &length));
+    check(length == strlen(wanted) && memcmp(buffer, wanted, length) == 0, line, wanted, length);
+}
+#define IS_MESSAGE(slot, wanted) is_message(slot, wanted, __LINE__)
+
+static void message_of(vlt_slot *slot, const char *text) {
+    size_t position = 77;
+    DONE(vlt_message_from_text(TEXT(text), slot, &position));
+}
+
+static void messages(void) {
+    vlt_slot s[4] = {{0}, {0}, {0}, {0}};
+    const char *text = "struct { names: \"a\" dtypes { list { element_type { primitive { type: I32 } } nullable: true } } }";
+    const char *unknown = "extension { id: \"x.tag\" storage_dtype { utf8 {} } }";
+    size_t position = 77, length = 0;
+    message_of(&s[0], text);
+    HOLDS(vlt_kind(&s[0]) == 6);
+    IS_MESSAGE(&s[0], text);
+    IS(VLT_SMALL, vlt_message_to_text(&s[0], NULL, 0, &length));
+    HOLDS(length == strlen(text));
+    DONE(vlt_message_to_dtype(&s[0], false, &s[1]));
+    HAS(&s[1], "{a=list(i32)?}");
+    DONE(vlt_dtype_to_message(&s[1], &s[2]));
+    DONE(vlt_message_eq(&s[0], &s[2]));
+    DONE(vlt_message_copy(&s[0], &s[3]));
+    DONE(vlt_message_eq(&s[0], &s[3]));
+    IS(VLT_UNREADABLE, vlt_message_from_text(TEXT("list { element }"), &s[3], &position));
+    HOLDS(position == 8);
+    IS(VLT_UTF8, vlt_message_from_text(TEXT("\xff"), &s[3], &position));
+    IS(VLT_RANGE, vlt_message_from_text(NULL, 1, &s[3], &position));
+    message_of(&s[2], unknown);
+    NONE(vlt_message_eq(&s[0], &s[2]));
+    IS(135, vlt_message_to_dtype(&s[2], false, &s[1]));
+    IS(135, vlt_message_normal(&s[2], false, &s[1]));
+    HAS(&s[1], "{a=list(i32)?}");
+    DONE(vlt_message_to_dtype(&s[2], true, &s[1]));
+    HAS(&s[1], "x.tag[0x](utf8)");
+    DONE(vlt_message_normal(&s[2], true, &s[3]));
+    IS_MESSAGE(&s[3], "extension { id: \"x.tag\" storage_dtype { utf8 {} } metadata: \"\" }");
+    message_of(&s[2], "{}");
+    IS(124, vlt_message_to_dtype(&s[2], true, &s[1]));
+    message_of(&s[2], "struct { names: \"a\" }");
+    IS(132, vlt_message_normal(&s[2], true, &s[1]));
+    IS(VLT_SAME_SLOT, vlt_message_eq(&s[2], &s[2]));
+    IS(VLT_SAME_SLOT, vlt_message_to_dtype(&s[2], true, &s[2]));
+    IS(VLT_KIND, vlt_message_to_dtype(&s[1], true, &s[2]));
+    IS(VLT_KIND, vlt_dtype_to_message(&s[2], &s[1]));
+    free_all(s, 4);
+}
+
+/* The flat form of a message, into buffers of every length, and nodes that are those of no message. */
+static void nodes(void) {
+    vlt_slot s[2] = {{0}, {0}};
+    const vlt_node wanted[4] = {{11, 1, 0, 0, 0, 1, 1, 1, 0, 0},
+                                {14, 0, 0, 0, 0, 0, 0, 0, 2, 0},
+                                {15, 0, 0, 0, 0, 0, 0, 0, 0, 7},
+                                {4, 0, 0, 0, 0, 0, 0, 0, 10, -2}};
+    const char *text = "union(id@7=decimal(10,-2))?";
+    vlt_node found[5];
+    uint8_t texts[3];
+    size_t count, length, room, text_room;
+    type_of(&s[0], text);
+    DONE(vlt_dtype_to_message(&s[0], &s[1]));
+    for (room = 0; room <= 5; room++)
+        for (text_room = 0; text_room <= 3; text_room++) {
+            int fits = room >= 4 && text_room >= 2;
+            memset(found, 'x', sizeof found);
+            memset(texts, 'x', sizeof texts);
+            count = length = 99;
+            IS(fits ? VLT_DONE : VLT_SMALL,
+               vlt_message_to_nodes(&s[1], room ? found : NULL, room, &count, text_room ? texts : NULL, text_room, &length));
+            HOLDS(count == 4 && length == 2);
+            HOLDS(fits ? memcmp(found, wanted, sizeof wanted) == 0 : found[0].nullable == 'x');
+            HOLDS(fits ? memcmp(texts, "idx", 3) == 0 : texts[0] == 'x');
+            HOLDS(found[4].nullable == 'x' && texts[2] == 'x');
+        }
+    DONE(vlt_message_from_nodes(wanted, 4, TEXT("id"), &s[0]));
+    DONE(vlt_message_eq(&s[0], &s[1]));
+    DONE(vlt_message_to_dtype(&s[0], false, &s[1]));
+    HAS(&s[1], text);
+    IS(VLT_RANGE, vlt_message_from_nodes(wanted, 3, TEXT("id"), &s[1]));
+    IS(VLT_RANGE, vlt_message_from_nodes(wanted + 1, 3, TEXT("id"), &s[1]));
+    IS(VLT_RANGE, vlt_message_from_nodes(wanted, 4, TEXT("ids"), &s[1]));
+    IS(VLT_RANGE, vlt_message_from_nodes(wanted, 4, TEXT("i"), &s[1]));
+    IS(VLT_RANGE, vlt_message_from_nodes(NULL, 0, NULL, 0, &s[1]));
+    IS(VLT_RANGE, vlt_message_from_nodes(NULL, 1, NULL, 0, &s[1]));
+    IS(VLT_UTF8, vlt_message_from_nodes(wanted, 4, TEXT("i\xff"), &s[1]));
+    HAS(&s[1], text);
+    /* (one message of no kind) */
+    memset(found, 0, sizeof found);
+    DONE(vlt_message_from_nodes(found, 1, NULL, 0, &s[0]));
+    IS_MESSAGE(&s[0], "{}");
+    IS(VLT_KIND, vlt_message_to_nodes(&s[1], found, 5, &count, texts, 3, &length));
+    free_all(s, 2);
+}
+
+/* Messages that are nested in 128 others, and in 129. */
+static void nested_messages(void) {
+    vlt_slot s[2] = {{0}, {0}};
+    vlt_node lists[130];
+    size_t at;
+    memset(lists, 0, sizeof lists);
+    for (at = 0; at < 129; at++) {
+        lists[at].kind = 7;
+        lists[at].has_first = 1;
+    }
+    lists[129].kind = 2;
+    IS(VLT_DEEP, vlt_message_from_nodes(lists, 130, NULL, 0, &s[0]));
+    DONE(vlt_message_from_nodes(lists + 1, 129, NULL, 0, &s[0]));
+    DONE(vlt_message_to_dtype(&s[0], false, &s[1]));
+    IS(VLT_DEEP, vlt_dtype_list(&s[1], false, &s[0]));
+    free_all(s, 2);
+}
+
+static void path_messages(void) {
+    vlt_slot s = {0};
+    const size_t lengths[2] = {1, 2}, without_kind[2] = {1, VLT_ELEMENT};
+    size_t position = 77;
+    DONE(vlt_path_from_message(TEXT("abc"), lengths, 2, &s));
+    IS_PATH(&s, "a.bc");
+    IS(136, vlt_path_from_message(TEXT("a"), without_kind, 2, &s));
+    IS(VLT_RANGE, vlt_path_from_message(TEXT("ab"), lengths, 2, &s));
+    IS(VLT_UTF8, vlt_path_from_message(TEXT("a\xff" "b"), lengths, 2, &s));
+    IS_PATH(&s, "a.bc");
+    DONE(vlt_path_from_message(NULL, 0, NULL, 0, &s));
+    IS_PATH(&s, ".");
+    DONE(vlt_path_from_message_text(TEXT("path { name: \"a\" } path { name: \"b\" }"), &s, &position));
+    IS_PATH(&s, "a.b");
+    IS(136, vlt_path_from_message_text(TEXT("path {}"), &s, &position));
+    IS(VLT_UNREADABLE, vlt_path_from_message_text(TEXT("path { name }"), &s, &position));
+    HOLDS(position == 13);
+    IS_PATH(&s, "a.b");
+    free_all(&s, 1);
+}
+
+static void answers(void) {
+    uint8_t buffer[100];
+    size_t length = 77;
+    DONE(vlt_answer(TEXT("resolve a.[] {a=list(i32?)}"), buffer, sizeof buffer, &length));
+    HOLDS(length == 4 && memcmp(buffer, "i32?", 4) == 0);
+    IS(VLT_SMALL, vlt_answer(TEXT("resolve a.[] {a=list(i32?)}"), buffer, 3, &length));
+    HOLDS(length == 4);
+    NONE(vlt_answer(NULL, 0, buffer, sizeof buffer, &length));
+    NONE(vlt_answer(TEXT("# a comment"), buffer, sizeof buffer, &length));
+    NONE(vlt_answer(TEXT("exit"), buffer, sizeof buffer, &length));
+    DONE(vlt_answer(TEXT("map_try_new true i32? i32"), buffer, sizeof buffer, &length));
+    HOLDS(length > 10 && memcmp(buffer, "refused 9:", 10) == 0);
+}
+
 static void all(void) {
     general();
     texts();
@@ -585,6 +738,12 @@ static void all(void) {
     paths();
     masks();
     sets();
+    messages();
+    nodes();
+    if (heap_refused == 0)
+        nested_messages();
+    path_messages();
+    answers();
     HOLDS(heap_blocks == 0);
 }
 

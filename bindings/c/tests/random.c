@@ -21,7 +21,13 @@ typedef struct {
     size_t length;
 } bytes;
 
+typedef struct {
+    const vlt_node *at;
+    size_t length;
+} counted_nodes;
+
 static vlt_slot slots[SLOTS];
+static vlt_node nodes_buffer[512];
 static uint8_t buffer[ROOM], names[256];
 static size_t lengths[8], lengths_count, failed;
 static uint64_t state;
@@ -47,6 +53,9 @@ static bytes any_text(void) {
         "fixed_size_list(u8)[3]", "map(utf8, i32?, keys_sorted=true)", "union(a@5=i64, b@9=utf8)?", "union(a=i32, b={c=i8})",
         "x.tag[0x6162](utf8)", "{\"a b\"=f64, a={b={c=list(i16)}}}", "decimal(0,0)", "{a=i33}", "list(",
         ".", "a", "b", "c", "a.b", "a.[].b", "[]", "[].[]", "a.b.c", "\"a b\".[]", "a..b",
+        "bool { nullable: true }", "list { element_type { primitive { type: I32 } } }", "list {}", "{}",
+        "struct { names: \"a\" dtypes { utf8 {} } }", "extension { id: \"x\" storage_dtype { utf8 {} } }",
+        "path { name: \"a\" }", "path {}", "eq i32 i32", "cover a a.b", "# no answer",
         "\xff", "a\xc0", "", "x.tag",
     };
     size_t at = any(sizeof texts / sizeof *texts + 1);
@@ -56,6 +65,19 @@ static bytes any_text(void) {
         text.length = strlen(texts[at]);
     }
     return text;
+}
+
+/* The nodes of a message, of which one may be missing. Of most messages the texts are empty. */
+static counted_nodes any_nodes(void) {
+    static const vlt_node primitive[] = {{3, 1, 0, 0, 0, 0, 0, 0, 0, 6}}, unknown[] = {{16, 0, 0, 0, 0, 0, 0, 0, 0, 0}},
+                          list[] = {{7, 0, 0, 1, 0, 0, 0, 0, 0, 0}, {2, 0, 0, 0, 0, 0, 0, 0, 0, 0}},
+                          fields[] = {{10, 0, 0, 0, 0, 1, 0, 1, 0, 0}, {14, 0, 0, 0, 0, 0, 0, 0, 1, 0}, {5, 0, 0, 0, 0, 0, 0, 0, 0, 0}},
+                          map[] = {{9, 0, 1, 1, 1, 0, 0, 0, 0, 0}, {5, 0, 0, 0, 0, 0, 0, 0, 0, 0}, {0, 0, 0, 0, 0, 0, 0, 0, 0, 0}};
+    const counted_nodes all[] = {{primitive, 1}, {unknown, 1}, {list, 2}, {fields, 3}, {map, 3}, {NULL, 0}};
+    counted_nodes nodes = all[any(sizeof all / sizeof *all)];
+    if (any(16) == 0)
+        nodes.length -= nodes.length != 0;
+    return nodes;
 }
 
 /* Names as one text, and their lengths, which mostly add up to it. */
@@ -101,6 +123,9 @@ static void trim(vlt_slot *slot) {
     case 4:
         vlt_paths_len(slot, &size);
         size *= 64;
+        break;
+    case 6:
+        vlt_message_to_text(slot, NULL, 0, &size);
         break;
     default:
         break;

@@ -10,8 +10,8 @@ import threading
 import unittest
 
 import vortex_logical_types
-from vortex_logical_types import (ELEMENT, Below, DType, FieldMask, FieldPath, FieldPathSet, Kind, LibraryError, PType,
-                                  Unreadable, VortexError, WrongThread, _native)
+from vortex_logical_types import (ELEMENT, Below, DType, FieldMask, FieldPath, FieldPathSet, FlatMessage, Kind, LibraryError,
+                                  Message, Node, PType, Unreadable, VortexError, WrongThread, _native, answer)
 
 
 def on_another_thread(call):
@@ -156,6 +156,56 @@ class Calls(unittest.TestCase):
         self.assertTrue(mask == mask.copy() and mask != FieldMask.all() and FieldMask.all().matches_all)
         self.refused(120, FieldMask.exact(".").step_into)
         self.refused(121, FieldMask.all().starting_field)
+
+    def test_has_messages(self):
+        text = 'struct { names: "a" dtypes { list { element_type { primitive { type: I32 } } nullable: true } } }'
+        message, whole = Message(text), DType("{a=list(i32)?}")
+        self.assertEqual((DType.from_proto(message), whole.to_proto()), (whole, message))
+        self.assertEqual((message.copy(), pickle.loads(pickle.dumps(message)), Message(message.to_source())), (message,) * 3)
+        self.assertEqual(repr(Message("{}")), "Message('{}')")
+        self.assertNotEqual(message, Message("{}"))
+        self.assertEqual(self.refused(4, Message, "list { element }").position, 8)
+        self.refused(124, DType.from_proto, Message("{}"))
+        self.refused(128, DType.from_proto, Message("list {}"))
+        unknown = Message('extension { id: "x.tag" storage_dtype { utf8 {} } }')
+        self.refused(135, DType.from_proto, unknown)
+        self.refused(135, unknown.normal)
+        self.assertEqual(DType.from_proto(unknown, allow_unknown=True), DType("x.tag[0x](utf8)"))
+        self.assertEqual(unknown.normal(allow_unknown=True), DType("x.tag[0x](utf8)").to_proto())
+        self.assertNotEqual(unknown.normal(allow_unknown=True), unknown)
+
+    def test_has_flat_messages(self):
+        whole = DType("{a=list(i32)?, b=union(x@3=utf8, y@1=decimal(10,-2)), c=x.tag[0x00ff](map(u8, bool?, keys_sorted=true))}")
+        flat = whole.to_proto().to_flat()
+        self.assertEqual(Message.from_flat(flat), whole.to_proto())
+        self.assertEqual(on_another_thread(
+            lambda: DType.from_proto(Message.from_flat(flat), allow_unknown=True).names), ["a", "b", "c"])
+        self.assertEqual(pickle.loads(pickle.dumps(flat)), flat)
+        nodes = [Node(kind=10, names=1, types=1, nullable=1), Node(kind=14, number=2), Node(kind=3, value=3)]
+        self.assertEqual(DType.from_proto(Message.from_nodes(nodes, b"id")), DType("{id=u64}?"))
+        self.assertEqual(DType("{id=u64}?").to_proto().to_flat(), FlatMessage(b"".join(map(bytes, nodes)), b"id"))
+        self.assertEqual(Message("{}").to_flat(), FlatMessage(bytes(Node()), b""))
+        for wrong in (nodes[:-1], nodes + nodes[-1:], [], [Node(kind=14)], [Node(kind=16)], [Node(kind=1, nullable=1)]):
+            self.refused(9, Message.from_nodes, wrong, b"id")
+        self.refused(9, Message.from_nodes, nodes, b"ids")
+        self.refused(3, Message.from_nodes, nodes, b"\xff\xff")
+        self.refused(9, Message.from_flat, FlatMessage(b"\0", b""))
+        self.refused(6, Message.from_nodes, [Node(kind=7, has_first=1)] * 129 + [Node(kind=2)], b"")
+
+    def test_has_messages_of_paths(self):
+        self.assertEqual(FieldPath.from_proto(["a", "b c"]), FieldPath('a."b c"'))
+        self.assertEqual(FieldPath.from_proto([]), FieldPath.root())
+        self.refused(136, FieldPath.from_proto, ["a", None])
+        self.assertEqual(FieldPath.from_proto_source('path { name: "a" } path { name: "b" }'), FieldPath("a.b"))
+        self.refused(136, FieldPath.from_proto_source, "path {}")
+        self.refused(4, FieldPath.from_proto_source, "path")
+
+    def test_answers_lines(self):
+        self.assertEqual((answer("find b {a=i32, b=u8}"), answer(b"find c {a=i32}")), ("1", "none"))
+        self.assertEqual((answer(""), answer(" # a comment")), (None, None))
+        self.assertTrue((answer("find") or "").startswith("unreadable at "))
+        self.assertTrue((answer(b"\xff") or "").startswith("unreadable"))
+
     def test_keeps_to_its_thread(self):
         whole, path = DType("{a=i8}"), FieldPath("a")
         for call in (whole.copy, lambda: path.resolve(whole), lambda: whole == DType("i8"), lambda: hash(path)):

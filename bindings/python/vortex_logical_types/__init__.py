@@ -14,7 +14,11 @@ DType('{id=u64, lines=list({sku=utf8})}')
 
 A text in quotes here is the form of the library's console, which reads back as the same value; `str` of a type or a path
 is the text that the library displays. An object belongs to the thread that made it, and a call from another raises
-`WrongThread`: send its text.
+`WrongThread`: send its text, or the flat form of its message.
+
+>>> sent = orders.to_proto().to_flat()  # bytes
+>>> DType.from_proto(Message.from_flat(sent)) == orders
+True
 """
 
 from __future__ import annotations
@@ -44,6 +48,7 @@ from ._native import (
     text,
     text_found,
 )
+from ._table import Node
 
 __all__ = [
     "DType",
@@ -53,13 +58,17 @@ __all__ = [
     "FieldPath",
     "FieldPathSet",
     "Below",
+    "FlatMessage",
     "Kind",
     "LibraryError",
+    "Message",
+    "Node",
     "OutOfMemory",
     "PType",
     "Unreadable",
     "VortexError",
     "WrongThread",
+    "answer",
 ]
 
 
@@ -378,6 +387,16 @@ class DType(Object):
         """The type as far as the paths lead, or None if none leads to a type."""
         return found(DType, native.vlt_project_paths, self._own, paths._own)
 
+    @staticmethod
+    def from_proto(message: Message, allow_unknown: bool = False) -> DType:
+        """The type that a message describes. Raises `LibraryError` 124 to 135 by the message's first fault; 135 is an
+        extension, which `allow_unknown` keeps with its metadata."""
+        return made(DType, native.vlt_message_to_dtype, message._own, allow_unknown)
+
+    def to_proto(self) -> Message:
+        """The message that describes the type."""
+        return made(Message, native.vlt_dtype_to_message, self._own)
+
     def to_source(self) -> str:
         """The console's text, which reads back as the same type."""
         return text(native.vlt_dtype_to_text, self._own)
@@ -414,6 +433,19 @@ class FieldPath(Object):
     @staticmethod
     def from_steps(steps: Iterable[Step]) -> FieldPath:
         return made(FieldPath, native.vlt_path_from_steps, *names(None if it is ELEMENT else it for it in steps))
+
+    @staticmethod
+    def from_proto(parts: Iterable[Optional[str]]) -> FieldPath:
+        """The path that the message of a path describes, whose parts have these names. None stands for a part that has no
+        kind, for which it raises `LibraryError` 136."""
+        return made(FieldPath, native.vlt_path_from_message, *names(parts))
+
+    @staticmethod
+    def from_proto_source(source: str) -> FieldPath:
+        """The same of protobuf's text format, such as `path { name: "a" } path { name: "b" }`."""
+        it = FieldPath.__new__(FieldPath)
+        read(it, native.vlt_path_from_message_text, source)
+        return it
 
     def __len__(self) -> int:
         return number(ctypes.c_size_t, native.vlt_path_len, self._own) or 0
@@ -626,3 +658,95 @@ class FieldMask(Object):
     def __repr__(self) -> str:
         path = self.path
         return f"FieldMask.{self.kind}({'' if path is None else repr(path.to_source())})"
+
+
+class FlatMessage(NamedTuple):
+    """A message in the flat form, as bytes that another thread or process can read."""
+
+    nodes: bytes
+    """The nodes in pre-order, as an array of `Node`."""
+    texts: bytes
+    """The bytes of the texts, in the order of their nodes."""
+
+
+class Message(Object):
+    """The message of a type. `Message("list { element_type { utf8 {} } }")` reads protobuf's text format."""
+
+    __slots__ = ()
+
+    def __init__(self, source: str) -> None:
+        read(self, native.vlt_message_from_text, source)
+
+    @staticmethod
+    def from_nodes(nodes: Iterable[Node], texts: bytes) -> Message:
+        """The message of nodes and the bytes of their texts, for programs that have decoded its bytes. Raises
+        `LibraryError` 9 if they aren't those of one message, 6 if a message is nested in more than 128 others, and 3 if a
+        name isn't UTF-8.
+
+        >>> message = Message.from_nodes([Node(kind=10, names=1, types=1), Node(kind=14, number=2), Node(kind=3, value=3)], b"id")
+        >>> DType.from_proto(message)
+        DType('{id=u64}')
+        """
+        given = [*nodes]
+        return Message._of_array((Node * len(given))(*given), texts)
+
+    @staticmethod
+    def from_flat(flat: FlatMessage) -> Message:
+        """The message of this flat form. Raises as `from_nodes` does."""
+        count, rest = divmod(len(flat.nodes), ctypes.sizeof(Node))
+        if rest:
+            raise error_of(_table.RANGE)
+        return Message._of_array((Node * count).from_buffer_copy(flat.nodes), flat.texts)
+
+    @staticmethod
+    def _of_array(nodes: ctypes.Array[Node], texts: bytes) -> Message:
+        return made(Message, native.vlt_message_from_nodes, nodes, len(nodes), bytes(texts), len(texts))
+
+    def to_flat(self) -> FlatMessage:
+        """The flat form."""
+        nodes, texts = (Node * 0)(), ctypes.create_string_buffer(0)
+        count, length = ctypes.c_size_t(), ctypes.c_size_t()
+        while True:
+            code = native.vlt_message_to_nodes(self._own, nodes, len(nodes), count, texts, len(texts), length)
+            if code != _table.SMALL:
+                break
+            nodes, texts = (Node * count.value)(), ctypes.create_string_buffer(length.value)
+        if not is_done(code):
+            raise error_of(code)
+        return FlatMessage(bytes(nodes), texts.raw)
+
+    def normal(self, allow_unknown: bool = False) -> Message:
+        """The message of the type that this one describes: with every child, flag and number, and with the metadata of each
+        extension. Raises as `DType.from_proto` does."""
+        return made(Message, native.vlt_message_normal, self._own, allow_unknown)
+
+    def copy(self) -> Message:
+        return made(Message, native.vlt_message_copy, self._own)
+
+    def __eq__(self, other: object) -> bool:
+        if not isinstance(other, Message):
+            return NotImplemented
+        return self is other or is_done(native.vlt_message_eq(self._own, other._own))
+
+    __hash__ = None  # type: ignore[assignment]
+
+    def to_source(self) -> str:
+        """Protobuf's text format, which reads back as the same message."""
+        return text(native.vlt_message_to_text, self._own)
+
+    def __repr__(self) -> str:
+        return f"Message({self.to_source()!r})"
+
+    def __reduce__(self) -> tuple[type, tuple[str]]:
+        return Message, (self.to_source(),)
+
+
+def answer(line: Union[str, bytes]) -> Optional[str]:
+    """The answer of the library's console to a line, which has a command for each call, or None if it has none: to a line
+    that is blank or a comment, and to one that ends the console. Each call begins with no named set and no named session.
+
+    >>> answer("resolve a.[] {a=list(i32?)}")
+    'i32?'
+    """
+    given = line.encode() if isinstance(line, str) else bytes(line)
+    return text_found(native.vlt_answer, given, len(given))

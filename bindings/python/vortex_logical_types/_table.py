@@ -43,7 +43,32 @@ RANGE = 9
 LIBRARY = 100
 
 
+class Node(ctypes.Structure):
+    """A message, a text or a tag in the flat form. A message is followed by its texts, its tags and then its parts, each
+    with what follows it. Fields that a kind doesn't use are 0."""
+
+    _fields_ = [
+        ("kind", ctypes.c_uint32),
+        ("nullable", ctypes.c_uint8),
+        ("keys_sorted", ctypes.c_uint8),
+        ("has_first", ctypes.c_uint8),
+        ("has_second", ctypes.c_uint8),
+        ("names", ctypes.c_uint32),
+        ("tags", ctypes.c_uint32),
+        ("types", ctypes.c_uint32),
+        ("number", ctypes.c_uint32),
+        ("value", ctypes.c_int32),
+    ]
+
+
 FUNCTIONS = {
+    "vlt_answer": (ctypes.c_uint32, [
+        ctypes.c_char_p,
+        ctypes.c_size_t,
+        ctypes.c_void_p,
+        ctypes.c_size_t,
+        ctypes.POINTER(ctypes.c_size_t),
+    ]),
     "vlt_error_text": (ctypes.c_uint32, [
         ctypes.c_uint32,
         ctypes.c_void_p,
@@ -99,6 +124,7 @@ FUNCTIONS = {
         ctypes.c_bool,
         ctypes.POINTER(Slot),
     ]),
+    "vlt_dtype_to_message": (ctypes.c_uint32, [ctypes.POINTER(Slot), ctypes.POINTER(Slot)]),
     "vlt_dtype_with_nullability": (ctypes.c_uint32, [ctypes.POINTER(Slot), ctypes.c_bool, ctypes.POINTER(Slot)]),
     "vlt_dtype_union_nullability": (ctypes.c_uint32, [ctypes.POINTER(Slot), ctypes.c_bool, ctypes.POINTER(Slot)]),
     "vlt_dtype_hash": (ctypes.c_uint32, [ctypes.POINTER(Slot), ctypes.POINTER(ctypes.c_uint64)]),
@@ -249,6 +275,19 @@ FUNCTIONS = {
         ctypes.POINTER(ctypes.c_size_t),
     ]),
     "vlt_union_is_consecutive": (ctypes.c_uint32, [ctypes.POINTER(Slot)]),
+    "vlt_path_from_message": (ctypes.c_uint32, [
+        ctypes.c_char_p,
+        ctypes.c_size_t,
+        ctypes.POINTER(ctypes.c_size_t),
+        ctypes.c_size_t,
+        ctypes.POINTER(Slot),
+    ]),
+    "vlt_path_from_message_text": (ctypes.c_uint32, [
+        ctypes.c_char_p,
+        ctypes.c_size_t,
+        ctypes.POINTER(Slot),
+        ctypes.POINTER(ctypes.c_size_t),
+    ]),
     "vlt_path_from_text": (ctypes.c_uint32, [
         ctypes.c_char_p,
         ctypes.c_size_t,
@@ -340,5 +379,37 @@ FUNCTIONS = {
     "vlt_mask_matches_all": (ctypes.c_uint32, [ctypes.POINTER(Slot)]),
     "vlt_mask_matches_root": (ctypes.c_uint32, [ctypes.POINTER(Slot)]),
     "vlt_mask_eq": (ctypes.c_uint32, [ctypes.POINTER(Slot), ctypes.POINTER(Slot)]),
+    "vlt_message_from_text": (ctypes.c_uint32, [
+        ctypes.c_char_p,
+        ctypes.c_size_t,
+        ctypes.POINTER(Slot),
+        ctypes.POINTER(ctypes.c_size_t),
+    ]),
+    "vlt_message_to_text": (ctypes.c_uint32, [
+        ctypes.POINTER(Slot),
+        ctypes.c_void_p,
+        ctypes.c_size_t,
+        ctypes.POINTER(ctypes.c_size_t),
+    ]),
+    "vlt_message_copy": (ctypes.c_uint32, [ctypes.POINTER(Slot), ctypes.POINTER(Slot)]),
+    "vlt_message_eq": (ctypes.c_uint32, [ctypes.POINTER(Slot), ctypes.POINTER(Slot)]),
+    "vlt_message_to_dtype": (ctypes.c_uint32, [ctypes.POINTER(Slot), ctypes.c_bool, ctypes.POINTER(Slot)]),
+    "vlt_message_normal": (ctypes.c_uint32, [ctypes.POINTER(Slot), ctypes.c_bool, ctypes.POINTER(Slot)]),
+    "vlt_message_from_nodes": (ctypes.c_uint32, [
+        ctypes.POINTER(Node),
+        ctypes.c_size_t,
+        ctypes.c_char_p,
+        ctypes.c_size_t,
+        ctypes.POINTER(Slot),
+    ]),
+    "vlt_message_to_nodes": (ctypes.c_uint32, [
+        ctypes.POINTER(Slot),
+        ctypes.POINTER(Node),
+        ctypes.c_size_t,
+        ctypes.POINTER(ctypes.c_size_t),
+        ctypes.c_void_p,
+        ctypes.c_size_t,
+        ctypes.POINTER(ctypes.c_size_t),
+    ]),
 }
 # end of what tools/bindings writes

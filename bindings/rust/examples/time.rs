@@ -4,7 +4,7 @@
 //! How long calls take: the least of nine runs, in nanoseconds a call.
 use std::hint::black_box;
 use std::time::Instant;
-use vortex_logical_types::{DType, Field, FieldPath, FieldPathSet, Nullability::NonNullable};
+use vortex_logical_types::{DType, Field, FieldPath, FieldPathSet, Message, Nullability::NonNullable, UnknownIds};
 
 fn time(name: &str, calls: u32, mut call: impl FnMut()) {
     let least = (0..9).map(|_| {
@@ -66,5 +66,31 @@ fn main() {
     });
     time("to_source", 100_000, || {
         black_box(whole.to_source());
+    });
+    messages(&wide);
+}
+
+/// A struct of 1,000 columns as a message. `to_proto` makes the same message as `from_nodes`, in the library alone.
+fn messages(wide: &DType) {
+    let message = wide.to_proto();
+    let (flat, text) = (message.to_flat().unwrap(), wide.to_source());
+    time("1,000 columns, to_proto", 200, || {
+        black_box(wide.to_proto());
+    });
+    time("1,000 columns, from_proto", 200, || {
+        black_box(DType::from_proto(&message, UnknownIds::Refuse).unwrap());
+    });
+    time("1,000 columns, from_nodes", 200, || {
+        black_box(Message::from_nodes(&flat.nodes, &flat.texts).unwrap());
+    });
+    time("1,000 columns, from_nodes and from_proto", 200, || {
+        let message = Message::from_nodes(&flat.nodes, &flat.texts).unwrap();
+        black_box(DType::from_proto(&message, UnknownIds::Refuse).unwrap());
+    });
+    time("1,000 columns, to_flat", 200, || {
+        black_box(message.to_flat().unwrap());
+    });
+    time("1,000 columns, parse", 200, || {
+        black_box(text.parse::<DType>().unwrap());
     });
 }

@@ -91,7 +91,36 @@ pub(crate) const RANGE: u32 = 9;
 /// The library's error 0, out of memory. Its error n, up to 36, is this number and n.
 pub(crate) const LIBRARY: u32 = 100;
 
+/// A message, a text or a tag in the flat form. A message is followed by its texts, its tags and then its parts, each
+/// with what follows it. Fields that a kind doesn't use are 0.
+#[repr(C)]
+#[derive(Debug, Clone, Copy, PartialEq, Eq, Default)]
+pub struct Node {
+    /// 0 of a message without a kind; 1 null, 2 bool, 3 primitive, 4 decimal, 5 utf8, 6 binary, 7 list, 8 fixed-size list,
+    /// 9 map, 10 struct, 11 union, 12 variant, 13 extension; 14 of a text, 15 of a tag.
+    pub kind: u32,
+    /// 1 if values may be null, else 0.
+    pub nullable: u8,
+    /// 1 if a map's keys are declared to be sorted, else 0.
+    pub keys_sorted: u8,
+    /// 1 if a list's element, a map's key or an extension's storage follows, else 0.
+    pub has_first: u8,
+    /// 1 if a map's value or the text of an extension's metadata follows, else 0.
+    pub has_second: u8,
+    /// How many names follow a struct or a union.
+    pub names: u32,
+    /// How many tags follow a union.
+    pub tags: u32,
+    /// How many types follow a struct or a union.
+    pub types: u32,
+    /// A decimal's precision, a fixed-size list's size, or how many bytes a text has.
+    pub number: u32,
+    /// A primitive type's number, a decimal's scale, or a tag.
+    pub value: i32,
+}
+
 unsafe extern "C" {
+    fn vlt_answer(line: *const u8, line_len: usize, buffer: *mut u8, buffer_len: usize, length: *mut usize) -> u32;
     fn vlt_error_text(code: u32, buffer: *mut u8, buffer_len: usize, length: *mut usize) -> u32;
     fn vlt_abi_version() -> u32;
     fn vlt_free(slot: *mut Lent);
@@ -137,6 +166,7 @@ unsafe extern "C" {
         nullable: bool,
         out: *mut Slot,
     ) -> u32;
+    fn vlt_dtype_to_message(dtype: *mut Lent, out: *mut Slot) -> u32;
     fn vlt_dtype_with_nullability(dtype: *mut Lent, nullable: bool, out: *mut Slot) -> u32;
     fn vlt_dtype_union_nullability(dtype: *mut Lent, nullable: bool, out: *mut Slot) -> u32;
     fn vlt_dtype_hash(dtype: *mut Lent, hash: *mut u64) -> u32;
@@ -211,6 +241,14 @@ unsafe extern "C" {
         length: *mut usize,
     ) -> u32;
     fn vlt_union_is_consecutive(dtype: *mut Lent) -> u32;
+    fn vlt_path_from_message(
+        names: *const u8,
+        names_len: usize,
+        name_lengths: *const usize,
+        name_lengths_len: usize,
+        out: *mut Slot,
+    ) -> u32;
+    fn vlt_path_from_message_text(text: *const u8, text_len: usize, out: *mut Slot, position: *mut usize) -> u32;
     fn vlt_path_from_text(text: *const u8, text_len: usize, out: *mut Slot, position: *mut usize) -> u32;
     fn vlt_path_to_text(path: *mut Lent, buffer: *mut u8, buffer_len: usize, length: *mut usize) -> u32;
     fn vlt_path_root(out: *mut Slot) -> u32;
@@ -266,6 +304,36 @@ unsafe extern "C" {
     fn vlt_mask_matches_all(mask: *mut Lent) -> u32;
     fn vlt_mask_matches_root(mask: *mut Lent) -> u32;
     fn vlt_mask_eq(one: *mut Lent, other: *mut Lent) -> u32;
+    fn vlt_message_from_text(text: *const u8, text_len: usize, out: *mut Slot, position: *mut usize) -> u32;
+    fn vlt_message_to_text(message: *mut Lent, buffer: *mut u8, buffer_len: usize, length: *mut usize) -> u32;
+    fn vlt_message_copy(message: *mut Lent, out: *mut Slot) -> u32;
+    fn vlt_message_eq(one: *mut Lent, other: *mut Lent) -> u32;
+    fn vlt_message_to_dtype(message: *mut Lent, allow_unknown: bool, out: *mut Slot) -> u32;
+    fn vlt_message_normal(message: *mut Lent, allow_unknown: bool, out: *mut Slot) -> u32;
+    fn vlt_message_from_nodes(
+        nodes: *const Node,
+        nodes_len: usize,
+        texts: *const u8,
+        texts_len: usize,
+        out: *mut Slot,
+    ) -> u32;
+    fn vlt_message_to_nodes(
+        message: *mut Lent,
+        nodes: *mut Node,
+        nodes_len: usize,
+        node_count: *mut usize,
+        texts: *mut u8,
+        texts_len: usize,
+        text_length: *mut usize,
+    ) -> u32;
+}
+
+/// Writes the answer of the console to a line, which is given without its newline. A line that is blank or a comment, and
+/// one that ends the console, has no answer, and the call returns 1. Each call begins with no named set and no named
+/// session. An answer may have several lines. An error is an answer too: `unreadable at 3: expected ..` returns 0.
+pub(crate) fn answer(line: &[u8], buffer: &mut [u8], length: &mut usize) -> u32 {
+    // SAFETY: see the head of this file.
+    unsafe { vlt_answer(line.as_ptr(), line.len(), buffer.as_mut_ptr(), buffer.len(), length) }
 }
 
 /// Writes what a result means in a few words. If no export returns this number, it returns 9.
@@ -424,6 +492,15 @@ pub(crate) fn dtype_union_consecutive(
             out,
         )
     }
+}
+
+/// Puts the message that describes the type.
+pub(crate) fn dtype_to_message(dtype: &Slot, out: &mut Slot) -> u32 {
+    let mut lent_dtype = dtype.lent();
+    // SAFETY: see the head of this file.
+    let result = unsafe { vlt_dtype_to_message(&mut lent_dtype, out) };
+    dtype.keeps(lent_dtype);
+    result
 }
 
 /// Puts the type with this outer nullability; for an extension it is that of its storage. If the type can't be
@@ -910,6 +987,22 @@ pub(crate) fn union_is_consecutive(dtype: &Slot) -> u32 {
     result
 }
 
+/// Puts the path that the message of a path describes, whose parts have these names, as `vlt_path_from_steps` takes names.
+/// The length `ELEMENT` (the greatest `usize`) stands for a part without a kind, for which it returns 136.
+pub(crate) fn path_from_message(names: &[u8], name_lengths: &[usize], out: &mut Slot) -> u32 {
+    // SAFETY: see the head of this file.
+    unsafe { vlt_path_from_message(names.as_ptr(), names.len(), name_lengths.as_ptr(), name_lengths.len(), out) }
+}
+
+/// Reads the message of a path from its text in the form of the console, for example
+/// `path { name: "a" } path { name: "b" }`, and puts the path that it describes. For a part without a kind it returns 136.
+///
+/// If the text can't be read, `position` is the first byte that doesn't fit, counted from 1.
+pub(crate) fn path_from_message_text(text: &[u8], out: &mut Slot, position: &mut usize) -> u32 {
+    // SAFETY: see the head of this file.
+    unsafe { vlt_path_from_message_text(text.as_ptr(), text.len(), out, position) }
+}
+
 /// Reads a path from its text in the form of the console, for example `a.[].b`, or `.` for the root, and puts it.
 ///
 /// If the text can't be read, `position` is the first byte that doesn't fit, counted from 1.
@@ -1350,6 +1443,105 @@ pub(crate) fn mask_eq(one: &Slot, other: &Slot) -> u32 {
     let result = unsafe { vlt_mask_eq(&mut lent_one, &mut lent_other) };
     one.keeps(lent_one);
     other.keeps(lent_other);
+    result
+}
+
+/// Reads the message of a type from its text in the form of the console, protobuf's text format, for example
+/// `list { element_type { primitive { type: I32 } } }`, and puts it.
+///
+/// If the text can't be read, `position` is the first byte that doesn't fit, counted from 1.
+pub(crate) fn message_from_text(text: &[u8], out: &mut Slot, position: &mut usize) -> u32 {
+    // SAFETY: see the head of this file.
+    unsafe { vlt_message_from_text(text.as_ptr(), text.len(), out, position) }
+}
+
+/// Writes a message in the form of the console, which reads back as the same message.
+pub(crate) fn message_to_text(message: &Slot, buffer: &mut [u8], length: &mut usize) -> u32 {
+    let mut lent_message = message.lent();
+    // SAFETY: see the head of this file.
+    let result = unsafe { vlt_message_to_text(&mut lent_message, buffer.as_mut_ptr(), buffer.len(), length) };
+    message.keeps(lent_message);
+    result
+}
+
+/// Puts a copy of the message.
+pub(crate) fn message_copy(message: &Slot, out: &mut Slot) -> u32 {
+    let mut lent_message = message.lent();
+    // SAFETY: see the head of this file.
+    let result = unsafe { vlt_message_copy(&mut lent_message, out) };
+    message.keeps(lent_message);
+    result
+}
+
+/// Returns 0 if the messages are equal.
+pub(crate) fn message_eq(one: &Slot, other: &Slot) -> u32 {
+    if one.is(other) {
+        return SAME_SLOT;
+    }
+    let mut lent_one = one.lent();
+    let mut lent_other = other.lent();
+    // SAFETY: see the head of this file.
+    let result = unsafe { vlt_message_eq(&mut lent_one, &mut lent_other) };
+    one.keeps(lent_one);
+    other.keeps(lent_other);
+    result
+}
+
+/// Puts the type that the message describes, under a session without plugins. If `allow_unknown` is false, it returns 135
+/// for an extension, because no id is known. If it is true, the extension keeps its metadata. A message that describes no
+/// type returns the number of its first fault, for example 124 for a message without a kind.
+pub(crate) fn message_to_dtype(message: &Slot, allow_unknown: bool, out: &mut Slot) -> u32 {
+    let mut lent_message = message.lent();
+    // SAFETY: see the head of this file.
+    let result = unsafe { vlt_message_to_dtype(&mut lent_message, allow_unknown, out) };
+    message.keeps(lent_message);
+    result
+}
+
+/// Puts the normal form of the message: the message of the type that it describes, with every child, flag and number, and
+/// with the metadata of each extension, even if that is empty. `allow_unknown` and the errors are those of
+/// `vlt_message_to_dtype`.
+pub(crate) fn message_normal(message: &Slot, allow_unknown: bool, out: &mut Slot) -> u32 {
+    let mut lent_message = message.lent();
+    // SAFETY: see the head of this file.
+    let result = unsafe { vlt_message_normal(&mut lent_message, allow_unknown, out) };
+    message.keeps(lent_message);
+    result
+}
+
+/// Puts the message that the nodes and the bytes of the texts describe. If they are not the nodes and the texts of one
+/// message, it returns 9, and if a message is nested in more than 128 others, it returns 6.
+pub(crate) fn message_from_nodes(nodes: &[Node], texts: &[u8], out: &mut Slot) -> u32 {
+    // SAFETY: see the head of this file.
+    unsafe { vlt_message_from_nodes(nodes.as_ptr(), nodes.len(), texts.as_ptr(), texts.len(), out) }
+}
+
+/// Writes the nodes of the message and the bytes of its texts to the front of the two buffers, and the numbers of both
+/// beside them. If one of the buffers is too small, it writes the two numbers alone. If the message has more names, tags,
+/// types or bytes of a text than 32 bits can count, it returns 9.
+///
+/// Nodes and texts are plain bytes, so another thread can read them.
+pub(crate) fn message_to_nodes(
+    message: &Slot,
+    nodes: &mut [Node],
+    node_count: &mut usize,
+    texts: &mut [u8],
+    text_length: &mut usize,
+) -> u32 {
+    let mut lent_message = message.lent();
+    // SAFETY: see the head of this file.
+    let result = unsafe {
+        vlt_message_to_nodes(
+            &mut lent_message,
+            nodes.as_mut_ptr(),
+            nodes.len(),
+            node_count,
+            texts.as_mut_ptr(),
+            texts.len(),
+            text_length,
+        )
+    };
+    message.keeps(lent_message);
     result
 }
 // end of what tools/bindings writes

@@ -67,17 +67,29 @@
 //! assert_eq!(width.join().unwrap()?, Some(2));
 //! # Ok::<(), vortex_logical_types::Error>(())
 //! ```
+//!
+//! The flat form of its message can be sent too: see [`FlatMessage`].
+//!
+//! # Messages
+//!
+//! [`Message`] is the protobuf message of a type, without the bytes of protobuf: a program that decodes these writes what
+//! it decoded into [`Node`]s, and the library reads the type from them and says what is wrong with a message that
+//! describes none.
 #![deny(unsafe_code, missing_docs, missing_debug_implementations)]
 
+pub use console::answer;
 pub use dtype::DType;
 pub use error::{Error, LibraryError};
+pub use ffi::Node;
 pub use masks::{FieldMask, MaskKind};
+pub use messages::{FlatMessage, Message, UnknownIds};
 pub use parts::{ExtDTypeRef, MapDType, StructFields, UnionVariants};
 pub use paths::{Field, FieldPath};
 pub use scalars::{DecimalDType, Kind, Nullability, PType};
 pub use sets::{Below, FieldPathSet, Paths};
 
 mod calls;
+mod console;
 mod dtype;
 mod error;
 #[allow(unsafe_code, dead_code)]
@@ -86,6 +98,7 @@ mod ffi;
 mod masks;
 #[cfg(test)]
 mod memory;
+mod messages;
 mod parts;
 mod paths;
 mod scalars;

@@ -3,7 +3,9 @@
 
 //! Tests of what calls do when memory runs out: each allocation of the library is refused in turn.
 use crate::ffi::heap::refusing::BEFORE;
-use crate::{DType, Error, FieldMask, FieldPath, FieldPathSet, Nullability::Nullable, PType};
+use crate::{
+    DType, Error, FieldMask, FieldPath, FieldPathSet, Message, Nullability::Nullable, PType, UnknownIds, answer,
+};
 
 /// What a call returns, which if it says that memory ran out is made once more.
 fn again<T>(lacked: &mut usize, call: impl Fn() -> Result<T, Error>) -> T {
@@ -56,6 +58,13 @@ fn calls() -> usize {
     assert!(again(n, || whole.try_merge_nullability(&other)).is_some_and(|it| it.eq_ignore_nullability(&other)));
     assert_eq!(again(n, || whole.try_to_source()), source);
     again(n, || FieldMask::try_prefix(&path)?.step_into());
+    let message = again(n, || whole.try_to_proto());
+    let flat = again(n, || message.to_flat());
+    assert_eq!(again(n, || DType::from_proto(&Message::from_flat(&flat)?, UnknownIds::Refuse)), whole);
+    assert_eq!(again(n, || message.try_to_source()?.parse::<Message>()), message);
+    assert_eq!(again(n, || message.normal(UnknownIds::Refuse)), message);
+    assert_eq!(again(n, || FieldPath::from_proto([Some("a"), Some("b")])).len(), 2);
+    assert_eq!(again(n, || answer("overlap a a.b")).as_deref(), Some("true"));
     lacked
 }
 

@@ -227,6 +227,73 @@ fn masks() {
     assert_eq!(format!("{:?} {:?}", FieldMask::all(), mask), "All Prefix(a.[])");
 }
 
+fn message(text: &str) -> Message {
+    text.parse().unwrap()
+}
+
+#[test]
+fn messages() {
+    let text = r#"struct { names: "a" dtypes { list { element_type { primitive { type: I32 } } nullable: true } } }"#;
+    let (it, whole) = (message(text), dtype("{a=list(i32)?}"));
+    assert_eq!((it.to_source().as_str(), whole.to_proto(), Message::from(&whole)), (text, it.clone(), it.clone()));
+    assert_eq!(DType::from_proto(&it, UnknownIds::Refuse), Ok(whole));
+    assert_eq!((format!("{:?}", message("{}")), it == message("{}")), ("Message({})".into(), false));
+    assert_eq!("list { element }".parse::<Message>(), Err(Error::Unreadable { position: 8 }));
+    assert_eq!(number(DType::from_proto(&message("{}"), UnknownIds::Allow).unwrap_err()), 24);
+    let unknown = message(r#"extension { id: "x.tag" storage_dtype { utf8 {} } }"#);
+    assert_eq!(number(DType::from_proto(&unknown, UnknownIds::default()).unwrap_err()), 35);
+    assert_eq!(number(unknown.normal(UnknownIds::Refuse).unwrap_err()), 35);
+    let kept = dtype("x.tag[0x](utf8)");
+    assert_eq!(unknown.normal(UnknownIds::Allow), Ok(kept.to_proto()));
+    assert_eq!(DType::from_proto(&unknown, UnknownIds::Allow), Ok(kept));
+    assert_eq!(FieldPath::from_proto([Some("a"), Some("b c")]), Ok(path("a.\"b c\"")));
+    assert_eq!(number(FieldPath::from_proto([Some("a"), None]).unwrap_err()), 36);
+    assert_eq!(FieldPath::from_proto_source(r#"path { name: "a" }"#), Ok(path("a")));
+}
+
+#[test]
+fn flat_messages() {
+    let text =
+        "{a=list(i32)?, b=union(x@3=utf8, y@1=decimal(10,-2)), c=x.tag[0x00ff](map(u8, bool?, keys_sorted=true))}";
+    let flat = dtype(text).to_proto().to_flat().unwrap();
+    assert_eq!((flat.nodes.len(), &*flat.texts), (19, &b"abcxyx.tag\0\xff"[..]));
+    let read = |flat: &FlatMessage| DType::from_proto(&Message::try_from(flat)?, UnknownIds::Allow);
+    assert_eq!(read(&flat), Ok(dtype(text)));
+    let sent = std::thread::spawn(move || read(&flat).map(|it| it.to_source()));
+    assert_eq!(sent.join().unwrap(), Ok(text.to_owned()));
+    let list = Node { kind: 7, has_first: 1, ..Node::default() };
+    let bool = Node { kind: 2, nullable: 1, ..Node::default() };
+    assert_eq!(Message::from_nodes(&[list, bool], b""), Ok(dtype("list(bool?)").to_proto()));
+    for (nodes, texts) in [
+        (&[list][..], &b""[..]),
+        (&[bool, bool], b""),
+        (&[], b""),
+        (&[bool], b"a"),
+        (&[Node { value: 1, ..bool }], b""),
+    ] {
+        assert_eq!(Message::from_nodes(nodes, texts), Err(Error::OutOfRange));
+    }
+    let name = Node { kind: 14, number: 1, ..Node::default() };
+    let fields = Node { kind: 10, names: 1, types: 1, ..Node::default() };
+    assert_eq!(Message::from_nodes(&[fields, name, bool], b"\xff"), Err(Error::NotUtf8));
+    let deep = [vec![list; 129], vec![bool]].concat();
+    assert_eq!(Message::from_nodes(&deep, b""), Err(Error::TooDeep));
+    assert_eq!(Message::from_nodes(&deep[1..], b"").map(|it| it.to_flat().unwrap().nodes.len()), Ok(129));
+    let columns = (0..1000).map(|at| (format!("column_{at}"), dtype("i64?")));
+    let wide = DType::struct_(columns, NonNullable).unwrap();
+    assert_eq!(read(&wide.to_proto().to_flat().unwrap()), Ok(wide));
+}
+
+#[test]
+fn answers() {
+    assert_eq!(answer("find b {a=i32, b=u8}"), Ok(Some("1".into())));
+    assert_eq!(answer(b"find c {a=i32}"), Ok(Some("none".into())));
+    assert_eq!((answer(""), answer("exit")), (Ok(None), Ok(None)));
+    assert!(answer([0xff]).unwrap().is_some_and(|it| it.starts_with("unreadable")));
+    let long = format!("{{{}=i8}}", "x".repeat(1000));
+    assert_eq!(answer(format!("type {long}")), Ok(Some(long)));
+}
+
 #[test]
 fn errors_have_texts_and_numbers() {
     let error = "{a=i33}".parse::<DType>().unwrap_err();

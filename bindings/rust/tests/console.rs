@@ -98,6 +98,36 @@ fn paths_of(texts: &[String]) -> Result<FieldPathSet, Left> {
     Ok(paths.into_iter().collect())
 }
 
+fn message_of(text: &str) -> Result<Message, Left> {
+    Ok(text.parse::<Message>()?)
+}
+
+/// The messages that stand in these words, of which each but `{}` begins with its kind.
+fn messages_of(words: &[String]) -> Vec<String> {
+    let (mut found, mut words) = (Vec::new(), words.iter());
+    while let Some(word) = words.next() {
+        let rest = if word.starts_with('{') { None } else { words.next() };
+        found.push(rest.map_or(word.clone(), |rest| format!("{word} {rest}")));
+    }
+    found
+}
+
+/// What a session does that isn't a named one and has no plugins.
+fn unknown_of(session: &str) -> Result<UnknownIds, Left> {
+    match session {
+        "strict" => Ok(UnknownIds::Refuse),
+        "unknown" => Ok(UnknownIds::Allow),
+        _ => Err(Left::NoCounterpart),
+    }
+}
+
+/// The message through the flat form.
+fn flat(message: Message) -> Result<Message, Left> {
+    let made = Message::from_flat(&message.to_flat()?)?;
+    assert_eq!(made, message);
+    Ok(made)
+}
+
 /// A name that is written bare; others are left out.
 fn name_of(text: &str) -> Result<&str, Left> {
     if text.contains('"') { Err(Left::NoCounterpart) } else { Ok(text) }
@@ -292,6 +322,25 @@ fn answer(words: &[String]) -> Answer {
                 _ => extension.metadata_bytes().iter().fold("0x".to_owned(), |text, it| format!("{text}{it:02x}")),
             }
         }
+        ("write", [t]) => type_of(t)?.try_to_proto()?.to_source(),
+        ("round_trip", [session, t]) => DType::from_proto(&type_of(t)?.to_proto(), unknown_of(session)?)?.to_source(),
+        ("message" | "message_eq" | "read_path", _) => match (command, &messages_of(rest)[..]) {
+            ("message", [m]) => message_of(m)?.try_clone()?.to_source(),
+            ("message_eq", [m, n]) => (message_of(m)? == message_of(n)?).to_string(),
+            ("read_path", parts) => FieldPath::from_proto_source(&parts.join(" "))?.to_source(),
+            _ => return Err(Left::NoCounterpart),
+        },
+        ("read" | "normal" | "read_eq", [session, ..]) => {
+            let unknown = unknown_of(session)?;
+            match (command, &messages_of(&rest[1..])[..]) {
+                ("read", [m]) => DType::from_proto(&flat(message_of(m)?)?, unknown)?.to_source(),
+                ("normal", [m]) => message_of(m)?.normal(unknown)?.to_source(),
+                ("read_eq", [m, n]) => (DType::from_proto(&message_of(m)?, unknown)?
+                    == DType::from_proto(&message_of(n)?, unknown)?)
+                .to_string(),
+                _ => return Err(Left::NoCounterpart),
+            }
+        }
         ("path" | "path_copy", [p]) => path_of(p)?.try_clone()?.to_source(),
         ("path_text", [p]) => shown(&path_of(p)?.to_string()),
         ("parts", [p]) => listed(path_of(p)?.parts().iter().map(step_text)),
@@ -318,7 +367,26 @@ fn answer(words: &[String]) -> Answer {
 
 /// Whether the line needs a set or a session that an earlier line made.
 fn needs_another(words: &[String]) -> bool {
-    matches!(words[0].as_str(), "set" | "session") || words.iter().skip(1).any(|it| it.starts_with('@'))
+    matches!(words[0].as_str(), "set" | "sets" | "session" | "sessions")
+        || words.iter().skip(1).any(|it| it.starts_with('@'))
+}
+
+/// Each line by the call that answers lines.
+#[test]
+fn each_line() {
+    let (mut asked, mut faults) = (0, Vec::new());
+    for (line, wanted) in golden() {
+        if needs_another(&arguments(&line)) {
+            continue;
+        }
+        let found = vortex_logical_types::answer(&line).unwrap().unwrap_or_default();
+        asked += 1;
+        if found != wanted {
+            faults.push(format!("{line}: {found:?}, not {wanted:?}"));
+        }
+    }
+    println!("console: {asked} lines by `answer`");
+    assert!(faults.is_empty(), "{} of {asked}:\n{}", faults.len(), faults.join("\n"));
 }
 
 #[test]

@@ -1,0 +1,27 @@
+// SPDX-License-Identifier: Apache-2.0
+// SPDX-FileCopyrightText: Copyright the Vortex contributors
+
+//! The console of the library, which has a command for each call.
+use crate::calls;
+use crate::error::Error;
+use crate::ffi;
+
+/// Returns the answer of the library's console to a line, or `None` if it has none: to a line that is blank or a comment,
+/// and to one that ends the console. What can't be read or is refused is an answer too.
+///
+/// Each call begins with no named set and no named session, so a line can't use those of an earlier one.
+///
+/// ```
+/// use vortex_logical_types::answer;
+///
+/// assert_eq!(answer("resolve a.[] {a=list(i32?)}")?.as_deref(), Some("i32?"));
+/// assert_eq!(answer("decimal_new 0 0")?.map(|it| it.starts_with("condition")), Some(true));
+/// assert_eq!(answer("# a comment")?, None);
+/// # Ok::<(), vortex_logical_types::Error>(())
+/// ```
+///
+/// # Errors
+/// [`Error::OutOfMemory`].
+pub fn answer(line: impl AsRef<[u8]>) -> Result<Option<String>, Error> {
+    calls::text_found(|buffer, length| ffi::answer(line.as_ref(), buffer, length))
+}

@@ -7,6 +7,7 @@
 
 mod fields;
 mod generate;
+mod messages;
 mod paths;
 mod processes;
 mod random;
@@ -100,6 +101,9 @@ fn make(round: &mut Round) {
     paths::of_masks(round, &p, &q);
     texts::of_path(round, &p);
     sets::of_type(round, &a);
+    messages::of_type(round, &a);
+    messages::of_any(round);
+    messages::of_path(round);
 }
 
 /// The calls on a type of each kind that has parts.

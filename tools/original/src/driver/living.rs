@@ -208,6 +208,10 @@ impl Plugin {
 pub struct Session(Vec<&'static str>);
 
 impl Session {
+    pub fn of(words: Vec<&'static str>) -> Self {
+        Self(words)
+    }
+
     pub fn allows_unknown(&self) -> bool {
         self.0.contains(&"unknown")
     }

@@ -210,9 +210,6 @@ fn union_of_any(round: &mut Round) {
 
 /// What is nested more than 128 levels deep, which the original has no limit for, is an error.
 fn too_deep(round: &mut Round) {
-    if !round.random.one_in(8) {
-        return;
-    }
     let shape = generate::shape(&mut round.random);
     let lists = 129 - shape.levels();
     let lists = if round.random.bool() { lists } else { lists - 1 };

@@ -103,7 +103,7 @@ pub fn requested_path(alloc: Global, request: &pb::FieldPath) -> Result<FieldPat
     Ok(FieldPath::from_proto(alloc, request)?)
 }
 
-// stays open
+// proves with an edit
 #[tactic(auto, using(vortex_dtype::proofs::rulesets::path_messages))]
 pub fn requested_paths(alloc: Global, requests: &[pb::FieldPath]) -> VortexResult<Vec<FieldPath>>
     ensures { IfOk result (λ v. map Some v.items ≡ map (λ r. path_of (part_names r)) requests.now) }

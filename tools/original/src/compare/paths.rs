@@ -17,11 +17,12 @@ pub fn of_one(round: &mut Round, path: &Paths) {
     let name = step.clone().unwrap_or_else(|| generate::name(&mut round.random));
     let (x, s) = (&path.ours, &path.theirs);
     let first = if round.random.bool() { path.steps.first().cloned().flatten().unwrap_or(name) } else { name };
+    let (given, known) = if round.is_spoiled { (Some("x".to_owned()), "x") } else { (step.clone(), first.as_str()) };
     same! { round, format!("{} with {step:?} and {first:?}", path.text());
         "FieldPath::from_name": steps_of_ours(&ours::FieldPath::from_name(&first)),
-            steps_of_theirs(&theirs::FieldPath::from_name(first.as_str()));
+            steps_of_theirs(&theirs::FieldPath::from_name(known));
         "FieldPath::from_field": steps_of_ours(&ours::FieldPath::from_field(ours_step(&step))),
-            steps_of_theirs(&theirs::FieldPath::from(theirs_step(&step)));
+            steps_of_theirs(&theirs::FieldPath::from(theirs_step(&given)));
         "parts": steps_of_ours(x), steps_of_theirs(s);
         "FieldPath::len": x.len(), s.parts().len();
         "is_root": x.is_root(), s.is_root();
@@ -79,20 +80,26 @@ fn theirs_form(mask: &FieldMask) -> Form {
     }
 }
 
-/// A mask of the path on both sides, and the name of the call that makes it.
-fn mask(round: &mut Round, path: &Paths) -> (&'static str, ours::FieldMask, FieldMask) {
+/// The masks of the path on both sides, of which one is returned.
+fn mask(round: &mut Round, path: &Paths) -> (ours::FieldMask, FieldMask) {
+    let all = (ours::FieldMask::all(), FieldMask::All);
+    let prefix = (ours::FieldMask::prefix(&path.ours), FieldMask::Prefix(path.theirs.clone()));
+    let exact = (ours::FieldMask::exact(&path.ours), FieldMask::Exact(path.theirs.clone()));
+    same! { round, path.text();
+        "FieldMask::all": ours_form(&all.0), theirs_form(&all.1);
+        "FieldMask::prefix": ours_form(&prefix.0), theirs_form(&prefix.1);
+        "FieldMask::exact": ours_form(&exact.0), theirs_form(&exact.1);
+    }
     match round.random.below(5) {
-        0 => ("FieldMask::all", ours::FieldMask::all(), FieldMask::All),
-        1 | 2 => ("FieldMask::prefix", ours::FieldMask::prefix(&path.ours), FieldMask::Prefix(path.theirs.clone())),
-        _ => ("FieldMask::exact", ours::FieldMask::exact(&path.ours), FieldMask::Exact(path.theirs.clone())),
+        0 => all,
+        1 | 2 => prefix,
+        _ => exact,
     }
 }
 
 /// The calls on the masks of two paths.
 pub fn of_masks(round: &mut Round, path: &Paths, other: &Paths) {
-    let ((call, x, s), (_, y, t)) = (mask(round, path), mask(round, other));
-    let about = || format!("{x:?}");
-    round.report.same(call, ours_form(&x), theirs_form(&s), about);
+    let ((x, s), (y, t)) = (mask(round, path), mask(round, other));
     same! { round, format!("{x:?} and {y:?}");
         "FieldMask::eq": x == y, s == t;
         "FieldMask::clone": ours_form(&x.clone()), theirs_form(&s.clone());

@@ -62,7 +62,7 @@ pub fn of_type(round: &mut Round, it: &Pair) {
 
 /// The set by each of the ways to make one.
 fn made(round: &mut Round, given: Vec<Paths>) -> Sets {
-    let theirs_paths = || given.iter().map(|it| it.theirs.clone());
+    let theirs_paths = || given.iter().skip(round.is_spoiled.into()).map(|it| it.theirs.clone());
     let (mut ours, mut theirs) = (ours::FieldPathSet::new(), theirs::FieldPathSet::default());
     let call = match round.random.below(3) {
         0 => {

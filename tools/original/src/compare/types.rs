@@ -155,8 +155,12 @@ pub fn scalars(round: &mut Round) {
     }
 }
 
-/// Constructors with arguments that they may refuse.
+/// Constructors, of which some have arguments that they may refuse.
 pub fn constructors(round: &mut Round) {
+    for kind in [|_| Shape::Null, Shape::Bool, Shape::Utf8, Shape::Binary, Shape::Variant] {
+        let nullable = round.random.bool();
+        round.pair(kind(nullable));
+    }
     let (precision, scale) = (round.random.below(256) as u8, round.random.below(256) as u8 as i8);
     let precision = if round.random.bool() { precision % 80 } else { precision };
     let decimal = theirs::DecimalDType::try_new(precision, if round.is_spoiled { 127 } else { scale });

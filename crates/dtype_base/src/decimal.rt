@@ -80,7 +80,8 @@ impl DecimalDType {
         self.precision
     }
 
-    /// Returns the number of digits after the decimal point, from -128 to 76 and at most the precision.
+    /// Returns the scale, from -128 to 76 and at most the precision: the number of digits after the decimal point. A
+    /// negative scale -k means that each value is a multiple of 10^k.
     pub fn scale(&self) -> i8
         ensures value { result ≡ self.now.scale }
         ensures valid { IsValidDecimal self.now }
@@ -88,8 +89,8 @@ impl DecimalDType {
         self.scale
     }
 
-    /// Returns the least number of bits in which every unsigned number of as many decimal digits as the precision fits:
-    /// from 4 for one digit (numbers up to 9) to 253 for 76 digits. The sign isn't counted.
+    /// Returns the least number of bits in which every number from 0 to 10^p - 1 fits. Here p is the precision. For
+    /// example, it is 4 for precision 1 (the numbers up to 9), and 253 for precision 76. The sign isn't counted.
     pub fn required_bit_width(&self) -> usize
         ensures { IsBitWidth self.now.precision result }
     {

@@ -128,7 +128,8 @@ impl FieldNames {
     }
 
     /// Returns the first position of the name, or `None` if the name isn't in the list. It compares one name after
-    /// another; `IndexedNames` finds a name with fewer comparisons.
+    /// another. `IndexedNames::find_counted` compares at most 1 plus as many names as the length of the list has binary
+    /// digits, for example at most 11 names if the list contains 1000.
     pub fn find(&self, name: &str) -> Option<usize>
         ensures { result ≡ first_place self.now name.now }
     {
@@ -146,7 +147,7 @@ impl FieldNames {
     ///
     /// # Errors
     ///
-    /// - `OutOfMemory` (0): an allocation fails.
+    /// - `OutOfMemory` (0): an allocation fails, or the reference count of a text is at its maximum.
     pub fn try_clone(&self, alloc: Global) -> VortexResult<Self>
         ensures { Makes result (λ n. n ≡ self.now) }
     {

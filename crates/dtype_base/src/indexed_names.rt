@@ -104,7 +104,7 @@ impl IndexedNames {
     ///
     /// # Errors
     ///
-    /// - `OutOfMemory` (0): an allocation fails.
+    /// - `OutOfMemory` (0): an allocation fails, or the reference count of a text is at its maximum.
     pub fn try_clone(&self, alloc: Global) -> VortexResult<Self>
         ensures { Makes result (λ n. n ≡ self.now) }
     {

@@ -13,7 +13,8 @@ use std::collections::hash_map;
 use std::marker::Model;
 use std::slice;
 
-/// The children of a node that are left, in no promised order.
+/// An iterator over the children of a node, in no promised order. It represents the children that `next` hasn't
+/// returned yet.
 #[derive(Drop)]
 pub(crate) enum ChildIter<'a> {
     One(Option<(&'a Field, usize)>),

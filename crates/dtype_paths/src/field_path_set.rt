@@ -34,7 +34,8 @@ use std::{fmt, vec};
 /// A set of paths, stored as a trie.
 ///
 /// For example, after `a.b`, `x`, `a` and `a.c` are inserted, the set contains four paths. It covers every path of
-/// which one of the four is a prefix. The fewest paths that cover the same are the least paths of the set, `a` and `x`.
+/// which one of the four is a prefix. The least paths of the set are those of which no other path of the set is a
+/// prefix, here `a` and `x`. They cover the same paths as the whole set, and no set with fewer paths does.
 #[derive(Drop)]
 pub struct FieldPathSet {
     alloc: Global,
@@ -70,7 +71,7 @@ impl FieldPathSet {
     ///
     /// # Errors
     ///
-    /// - `OutOfMemory` (0): an allocation fails.
+    /// - `OutOfMemory` (0): an allocation fails, or the reference count of a text is at its maximum.
     pub fn from_iter<I: IntoIterator<Item = FieldPath>>(
         alloc: Global,
         paths: I,
@@ -107,7 +108,7 @@ impl FieldPathSet {
     ///
     /// # Errors
     ///
-    /// - `OutOfMemory` (0): an allocation fails.
+    /// - `OutOfMemory` (0): an allocation fails, or the reference count of a text is at its maximum.
     pub fn insert(&mut self, path: FieldPath) -> VortexResult<()>
         ensures inserted { OnOk result (self.new ≡ set.insert self.old path) }
         ensures covers { OnOk result ((q : List Field) → IsTrue (covers self.new q)
@@ -223,7 +224,7 @@ impl FieldPathSet {
     ///
     /// # Errors
     ///
-    /// - `OutOfMemory` (0): an allocation fails.
+    /// - `OutOfMemory` (0): an allocation fails, or the reference count of a text is at its maximum.
     pub fn try_clone(&self) -> VortexResult<Self>
         ensures { Makes result (λ s. s ≡ self.now) }
     {

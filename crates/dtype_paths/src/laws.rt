@@ -59,7 +59,10 @@ pub fn a_path_leads_to_a_valid_type()
 
 /// Seven statements about the type at a path and the values along the path. In all of them `t` and `u` are types, `p`
 /// is a path, and `v` is a value. A value lies along `p` in another value if the steps of `p`, taken in that other
-/// value, lead to it. For example, 7 lies along `a.[]` in `{a=[5, 7]}`.
+/// value, lead to it. For example, 7 lies along `a.[]` in `{a=[5, 7]}`. If there is a type at `p` in `t`, then the
+/// value `around t p v` consists of `v` with structs, lists of one item and fixed-size lists of equal items around it,
+/// one for each step of `p`, and of sample values in the other fields. For example, for the type `{a=list(i32)}`, the
+/// path `a.[]` and the value 7 it is `{a=[7]}`.
 ///
 /// - `given`: the function `along`, which `resolve` computes, and the relation `At` agree. `along t p` is `Some u`
 ///   exactly if `u` is the type at `p` in `t`.
@@ -131,7 +134,7 @@ pub fn overlap_is_symmetric()
 
 /// There are paths `p`, `q` and `r` such that `p` overlaps `q` and `q` overlaps `r`, and `p` doesn't overlap `r`. For
 /// example, `a` overlaps the root, the root overlaps `b`, and `a` doesn't overlap `b`. So paths can't be divided into
-/// groups in which all paths overlap.
+/// groups such that two paths overlap exactly if they are in the same group.
 ///
 /// About [`FieldPath::overlap`].
 #[tactic(auto, using(crate::proofs::OverlapLaws::overlap_not_transitive))]

@@ -195,8 +195,9 @@ pub fn tell_tells_apart()
 {}
 
 /// For all types `a` and `b` that are equal except for nullabilities, `tell a b` is `None` exactly if `a` is a subset
-/// of `b`. This is so even if the types contain a fixed-size list of size 0. For example, `tell` of `i32` and `i32?` is
-/// `None`. So `tell` returns a value exactly if `eq_with_nullability_subset` returns `false`.
+/// of `b`. (The law `tell_tells_apart` describes the value that `tell` returns otherwise.) This is so even if the types
+/// contain a fixed-size list of size 0. For example, `tell` of `i32` and `i32?` is `None`, and `tell` of `i32?` and
+/// `i32` is null. So `tell` returns a value exactly if `eq_with_nullability_subset` returns `false`.
 ///
 /// About [`DType::eq_with_nullability_subset`].
 #[tactic(auto, using(crate::proofs::TellLaws::told_exactly))]
@@ -219,8 +220,8 @@ pub fn parts_are_given_in_order()
         ⟦<VariantIter<'static> as Iterator>⟧.remaining borrowed_triple (λ left. left) }
 {}
 
-/// A type that is made from valid types is valid. There is one statement for each way to make a type: primitive types,
-/// lists, fixed-size lists whose size is below 2^32, maps whose key type is non-nullable, the type of a map's entries,
+/// A type that is made from valid types is valid. There is one statement for each of these: primitive types, lists,
+/// fixed-size lists whose size is below 2^32, maps whose key type is non-nullable, the type of a map's entries,
 /// structs, unions whose names, types and tags `UnionVariants::try_new` accepts, and extensions whose metadata is
 /// bytes. For example, if `t` is valid, then `list(t)?` is valid. A caller needs this law to prove that a type that it
 /// builds is valid, as many contracts require.
@@ -319,7 +320,8 @@ pub fn types_in_valid_parts_are_valid()
 
 /// Three statements about structs that are made from valid structs. First, what `project` returns for a valid struct is
 /// valid. Second, what `disjoint_merge` returns for two valid structs is valid. Third, what `without_field` returns for
-/// a valid struct is valid. For example, if `{a=t, b=u}` is valid, then `{b=u}` is valid.
+/// a valid struct is valid. For example, if `{a=t, b=u}` is valid, then `{b=u}` is valid. So what these calls return
+/// for valid structs may be used wherever a valid struct is required.
 ///
 /// About [`StructFields::project`].
 #[tactic(auto, using(crate::proofs::lemmas::Validity::removal_valid, crate::proofs::lemmas::Validity::valid_joined, crate::proofs::lemmas::Validity::valid_projected))]

@@ -35,7 +35,8 @@ impl<V: ExtVTable + Default> ExtDType<V> {
     ///
     /// If the storage type is valid:
     ///
-    /// - `MetadataRefused` (22): exactly if the metadata doesn't fit the storage type.
+    /// - `MetadataRefused` (22): only if the metadata doesn't fit the storage type. In that case the
+    ///   call always returns an error.
     /// - `OutOfMemory` (0): an allocation fails.
     pub fn try_new(alloc: Global, metadata: V::Metadata, storage: DType) -> VortexResult<Self>
         ensures vtable { IfOk result (λ x. V.is_default (vtable_of x)) }
@@ -59,7 +60,8 @@ impl<V: ExtVTable> ExtDType<V> {
     ///
     /// If the storage type is valid:
     ///
-    /// - `MetadataRefused` (22): exactly if the metadata doesn't fit the storage type.
+    /// - `MetadataRefused` (22): only if the metadata doesn't fit the storage type. In that case the call always
+    ///   returns an error.
     /// - `OutOfMemory` (0): an allocation fails.
     pub fn try_with_vtable(
         alloc: Global,
@@ -115,7 +117,8 @@ impl<V: ExtVTable> ExtDType<V> {
     ///
     /// # Errors
     ///
-    /// - `MetadataRefused` (22): exactly if the vtable can't write the metadata.
+    /// - `MetadataRefused` (22): only if the vtable can't write the metadata. In that case the
+    ///   call always returns an error.
     /// - `OutOfMemory` (0): an allocation fails.
     pub fn serialize_metadata(&self, alloc: Global) -> VortexResult<Vec<u8>>
         ensures { MatchResult result
@@ -132,8 +135,9 @@ impl<V: ExtVTable> ExtDType<V> {
     ///
     /// # Errors
     ///
-    /// - `MetadataRefused` (22): exactly if the vtable can't write the metadata.
-    /// - `OutOfMemory` (0): an allocation fails.
+    /// - `MetadataRefused` (22): only if the vtable can't write the metadata. In that case the call always
+    ///   returns an error.
+    /// - `OutOfMemory` (0): an allocation fails, or a reference count is at its maximum.
     #[tactic(auto, using(dtype_types::proofs::lemmas::Validity::validity))]
     pub fn with_nullability(&self, alloc: Global, n: Nullability) -> VortexResult<ExtDTypeRef>
         requires { n ≡ NonNullable → CanBeNonNullable (storage_of self.now) }
@@ -157,7 +161,8 @@ impl<V: ExtVTable> ExtDType<V> {
     ///
     /// # Errors
     ///
-    /// - `MetadataRefused` (22): exactly if the vtable can't write the metadata.
+    /// - `MetadataRefused` (22): only if the vtable can't write the metadata. In that case the call always
+    ///   returns an error.
     /// - `OutOfMemory` (0): an allocation fails.
     pub fn erased(self, alloc: Global) -> VortexResult<ExtDTypeRef>
         ensures made { IfOk result (λ e. extension_tree e

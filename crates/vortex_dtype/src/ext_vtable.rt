@@ -49,7 +49,8 @@ pub trait ExtVTable: Drop {
     ///
     /// # Errors
     ///
-    /// - `MetadataRefused` (22): exactly if the metadata can't be written.
+    /// - `MetadataRefused` (22): only if the metadata can't be written. In that case the call always
+    ///   returns an error.
     /// - `OutOfMemory` (0): an allocation fails.
     fn serialize_metadata(&self, alloc: Global, metadata: &Self::Metadata) -> VortexResult<Vec<u8>>
         ensures { MatchResult result
@@ -61,7 +62,8 @@ pub trait ExtVTable: Drop {
     ///
     /// # Errors
     ///
-    /// - `MetadataRefused` (22): exactly if the bytes aren't metadata of this extension type.
+    /// - `MetadataRefused` (22): only if the bytes aren't metadata of this extension type. In that case the
+    ///   call always returns an error.
     /// - `OutOfMemory` (0): an allocation fails.
     fn deserialize_metadata(&self, alloc: Global, bytes: &[u8]) -> VortexResult<Self::Metadata>
         ensures { MatchResult result
@@ -74,7 +76,8 @@ pub trait ExtVTable: Drop {
     ///
     /// If the storage type is valid:
     ///
-    /// - `MetadataRefused` (22): exactly if the metadata doesn't fit the storage type.
+    /// - `MetadataRefused` (22): only if the metadata doesn't fit the storage type. In that case the
+    ///   call always returns an error.
     /// - `OutOfMemory` (0): an allocation fails.
     fn validate_dtype(
         &self,

@@ -82,8 +82,8 @@ pub fn none_registered_counts()
 {}
 
 /// For each list of calls on a new session, after all calls the session keeps unknown ids exactly if one of the calls
-/// was `allow_unknown`. For example, they are still kept after a plugin is registered later. So a session never drops
-/// what it was told to keep.
+/// was `allow_unknown`. For example, they are still kept after a plugin is registered later. So no later call makes the
+/// session refuse unknown ids again.
 ///
 /// About [`DTypeSession::allow_unknown`] and [`DTypeSession::allows_unknown`].
 #[tactic(auto, using(crate::proofs::lemmas::Sessions::sessions, crate::proofs::lemmas::Sessions::session_laws))]
@@ -102,9 +102,10 @@ pub fn kept_again()
         → keeps s id b t ≡ Some c → Bytes c × (keeps s id c t ≡ Some c) }
 {}
 
-/// For each session whose plugins are lawful, each id and each metadata `b`, the session keeps the same of `b` over a
-/// valid storage type `t` and over `u`, which is `t` with another outer nullability. For example, what it keeps of `AB`
-/// over `utf8` it keeps of `AB` over `utf8?`.
+/// For each session whose plugins are lawful, each id, each metadata `b` and each valid storage type `t`, if `u` is `t`
+/// with its outer nullability set, then the session keeps the same metadata in place of `b` over `u` as over `t`, or it
+/// keeps none over both. For example, if it keeps `ab` in place of `AB` over `utf8`, then it does so over `utf8?` too.
+/// So a program that makes an extension type nullable doesn't change which metadata a session keeps for it.
 ///
 /// About [`DTypeSession::deserialize`].
 #[tactic(auto, using(crate::proofs::lemmas::Sessions::keeps_outer))]

@@ -45,7 +45,8 @@ pub trait ExtDTypePlugin: Drop {
     ///
     /// If the storage type is valid:
     ///
-    /// - `MetadataRefused` (22): exactly if the plugin doesn't accept the metadata over this storage type.
+    /// - `MetadataRefused` (22): only if the plugin doesn't accept the metadata over this storage type. In that case the
+    ///   call always returns an error.
     /// - `OutOfMemory` (0): an allocation fails.
     fn deserialize(&self, alloc: Global, metadata: &[u8], storage: &DType) -> VortexResult<Vec<u8>>
         ensures kept { Valid (tree storage.now)

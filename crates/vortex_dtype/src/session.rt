@@ -132,8 +132,10 @@ impl DTypeSession {
     ///
     /// If the storage type is valid:
     ///
-    /// - `MetadataRefused` (22): exactly if the registered plugin doesn't accept the metadata over this storage type.
-    /// - `ExtensionUnregistered` (35): exactly if no plugin is registered under the id and unknown ids aren't kept.
+    /// - `MetadataRefused` (22): only if the registered plugin doesn't accept the metadata over this storage type. In that
+    ///   case the call always returns an error.
+    /// - `ExtensionUnregistered` (35): only if no plugin is registered under the id and unknown ids aren't kept. In that
+    ///   case the call always returns an error.
     /// - `OutOfMemory` (0): an allocation fails.
     pub fn deserialize(
         &self,

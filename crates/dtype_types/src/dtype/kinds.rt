@@ -177,7 +177,7 @@ impl DType {
     }
 
     /// Returns whether the type is a `List`, a `FixedSizeList`, a `Map`, a `Struct`, a `Union` or a `Variant`, or an
-    /// extension whose storage type is one of these.
+    /// extension for whose storage type this call returns `true`.
     #[cycle(nested)]
     pub fn is_nested(&self) -> bool
         ensures { result ≡ is_nested (tree self.now) }

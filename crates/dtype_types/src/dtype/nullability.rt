@@ -75,7 +75,7 @@ impl DType {
     ///
     /// # Errors
     ///
-    /// - `OutOfMemory` (0): an allocation fails.
+    /// - `OutOfMemory` (0): an allocation fails, or a reference count is at its maximum.
     pub fn as_nonnullable(&self, alloc: Global) -> VortexResult<DType>
         requires { CanBeNonNullable (tree self.now) }
         ensures { Makes result (λ d. SetNull (tree self.now) Nullability.NonNullable (tree d)) }
@@ -87,7 +87,7 @@ impl DType {
     ///
     /// # Errors
     ///
-    /// - `OutOfMemory` (0): an allocation fails.
+    /// - `OutOfMemory` (0): an allocation fails, or a reference count is at its maximum.
     #[tactic(auto, using(crate::proofs::lemmas::NullValues::made_nullable))]
     pub fn as_nullable(&self, alloc: Global) -> VortexResult<DType>
         ensures ok { Makes result (λ d. SetNull (tree self.now) Nullability.Nullable (tree d)) }
@@ -102,7 +102,7 @@ impl DType {
     ///
     /// # Errors
     ///
-    /// - `OutOfMemory` (0): an allocation fails.
+    /// - `OutOfMemory` (0): an allocation fails, or a reference count is at its maximum.
     #[cycle(with_nullability)]
     pub fn with_nullability(&self, alloc: Global, n: Nullability) -> VortexResult<DType>
         requires { n ≡ Nullability.NonNullable → CanBeNonNullable (tree self.now) }
@@ -134,7 +134,7 @@ impl DType {
     ///
     /// # Errors
     ///
-    /// - `OutOfMemory` (0): an allocation fails.
+    /// - `OutOfMemory` (0): an allocation fails, or a reference count is at its maximum.
     pub fn union_nullability(&self, alloc: Global, n: Nullability) -> VortexResult<DType>
         ensures { Makes result (λ d. SetNull (tree self.now) (either (nullability (tree self.now)) n) (tree d)) }
     {

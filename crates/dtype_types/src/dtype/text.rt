@@ -7,8 +7,9 @@ ghost use Rattle.std.specs.Prelude.{Some};
 use crate::DType;
 use std::fmt;
 
-/// Writes the type as text, for example `list(decimal(10,2)?)` or `{id=u64, tags=list(utf8)?}`: the kind, then its
-/// parts in parentheses, brackets or braces, then `?` if it is nullable.
+/// Writes the type as text, for example `i32`, `list(decimal(10,2)?)`, `{id=u64, tags=list(utf8)?}` or
+/// `x.tag[2B](utf8?)`. The text of a nullable type ends with `?`, with two exceptions: `null`, which is always
+/// nullable, and an extension, which is nullable exactly if the storage type in its parentheses is.
 #[tactic(auto, using(crate::proofs::Texts::type_texts, std::proofs::lemmas::Grind::common_steps))]
 impl fmt::Display for DType {
     ghost use Rattle.dtype_types.specs.texts.Text.{text};

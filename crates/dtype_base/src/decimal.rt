@@ -117,8 +117,9 @@ impl fmt::Display for DecimalDType {
     }
 }
 
-/// Returns `Ok` if a decimal type whose greatest precision and greatest scale are both `max` may have this precision
-/// and scale. The caller must prove that `max` is at most 127, the greatest scale that an `i8` holds.
+/// Returns `Ok` if the precision is from 1 to `max` and the scale is at most the precision. For `max` 76 these are the
+/// decimal types that `DecimalDType::try_new` accepts. The caller must prove that `max` is at most 127, the greatest
+/// value of an `i8`.
 ///
 /// # Errors
 ///

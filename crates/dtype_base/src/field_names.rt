@@ -15,7 +15,8 @@ use std::hash::{Hash, Hasher};
 use std::marker::Model;
 use std::ops::Index;
 
-/// A list of names, in which a name may occur more than once. In contracts it is the list of the names' bytes.
+/// A list of names, in which a name may occur more than once. In contracts it is the list of the names, and each name
+/// is the list of its bytes.
 #[derive(Debug, Drop)]
 pub struct FieldNames {
     items: Vec<FieldName>,

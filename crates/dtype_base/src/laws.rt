@@ -99,9 +99,9 @@ pub fn errors_are_equal_where_the_same()
         → Decides (⟦<MessageFault as PartialEq>⟧.eq a b) (a ≡ b) }
 {}
 
-/// For each slice `bytes` of `u8`, the list of numbers that contracts cite for it is a list of bytes: each number is
-/// below 256. For example, the slice of the text `a` is the list of the number 97. A caller calls this law when a
-/// definition requires bytes, for example as the metadata of a valid extension type.
+/// For each slice `bytes` of `u8`, the list of numbers that stands for it in contracts is a list of bytes (`Bytes`):
+/// each number is below 256. For example, the slice of the text `a` is the list of the one number 97. A caller calls
+/// this law when a definition requires bytes, for example for the metadata of a valid extension type.
 ///
 /// About [`FieldName::as_str`].
 pub fn slices_hold_bytes(bytes: &[u8])

@@ -26,7 +26,8 @@ pub struct DType {
     pub dtype_type: Option<DtypeType>,
 }
 
-/// The thirteen kinds of a type, each with the struct that contains its fields.
+/// The thirteen kinds of a type, each with its own message. For example, the message of a decimal contains its
+/// precision, its scale and whether it is nullable.
 #[derive(Debug, PartialEq, Eq, Drop)]
 #[cycle(message)]
 pub enum DtypeType {

@@ -44,7 +44,7 @@ pub fn clones_of_precision_scales_are_the_same<D: NativeDecimalType>()
 
 /// The constants `NAME` of the native decimal types `i8`, `i16`, `i32`, `i64` and `i128`, which this law returns in
 /// this order, are the texts of the storage types: `i8`, `i16`, `i32`, `i64` and `i128`. A caller needs this law to
-/// prove what a program prints that shows the constant.
+/// prove what is printed by a program that prints such a constant.
 ///
 /// About [`NativeDecimalType`].
 pub fn names_of_native_decimals_are_their_texts() -> (

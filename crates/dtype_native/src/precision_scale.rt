@@ -130,7 +130,7 @@ impl<D: NativeDecimalType> From<PrecisionScale<D>> for DecimalDType {
     }
 }
 
-/// Returns the decimal type with the same precision and scale whose values fit `D`.
+/// Returns the `PrecisionScale<D>` with the precision and the scale of this decimal type.
 ///
 /// # Errors
 ///

@@ -15,9 +15,9 @@ use dtype_base::FieldName;
 use std::fmt;
 use std::iter::FusedIterator;
 
-/// An iterator over the names with which the paths that a cursor contains begin. It yields each name once, together
-/// with the cursor after the step to that name, in no particular order. In contracts it is the list of the names that
-/// are left, each with the paths that the cursor after it contains.
+/// An iterator over the names that are the first step of some path that a cursor contains. It yields each of these
+/// names once, together with the cursor after the step to it, in no particular order. In contracts it is the list of
+/// the names that are left, each with the paths that the cursor after it contains.
 #[derive(Drop)]
 pub struct CursorNames<'a> {
     trie: &'a Trie,

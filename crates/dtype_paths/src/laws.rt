@@ -48,7 +48,7 @@ pub fn beginnings_exist()
 {}
 
 /// For all types `t` and `u` and each path `p`, if `t` is valid and the type at `p` in `t` is `u`, then `u` is valid.
-/// For example, if `{a=list(t)}` is valid, then the type `t` at `a.[]` is valid. So what `resolve` returns for a valid
+/// For example, if `{a=list(u)}` is valid, then the type `u` at `a.[]` is valid. So what `resolve` returns for a valid
 /// type may be passed to calls that require valid types.
 ///
 /// About [`FieldPath::resolve`].
@@ -238,12 +238,12 @@ pub fn a_list_has_the_members_of_its_set()
         → (Contains ps q ↔ IsTrue (set.contains s q)) }
 {}
 
-/// Two statements about a cursor that is stepped along a path. First, let a predicate `w` say which paths are contained
-/// before the steps of `p`, and `after_steps p w` which are contained after them. Then `q` is contained after the steps
-/// of `p` exactly if `p` followed by `q` is contained before them. For example, in the set of `a.b` and `x` the path
-/// `b` is contained after the step `a`. Second, a set `s` covers a path `q` exactly if some prefix of `q`, perhaps `q`
-/// itself, is in `s`. So a reader that steps a cursor along a path knows that the path is covered as soon as `is_end`
-/// returns `true`.
+/// Two statements about a cursor that is stepped along a path. First, let `w` be the predicate that is true of the
+/// paths that the cursor contains, and `after_steps p w` the predicate that is true of those that it contains after it
+/// is stepped along `p`. Then it contains `q` after these steps exactly if it contains `p` followed by `q` before them.
+/// For example, in the set of `a.b` and `x` the cursor contains `b` after the step `a`. Second, a set `s` covers a path
+/// `q` exactly if some prefix of `q`, perhaps `q` itself, is in `s`. So a reader that steps a cursor along a path knows
+/// that the path is covered as soon as `is_end` returns `true`.
 ///
 /// About [`FieldPathSet::cursor`], [`FieldPathCursor::step`] and [`FieldPathCursor::element`].
 #[tactic(auto, using(crate::proofs::lemmas::PathsBelow::contained_after, crate::proofs::lemmas::PathsBelow::covered_on_the_way))]

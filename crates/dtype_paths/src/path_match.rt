@@ -6,7 +6,8 @@
 pub(crate) enum PathMatch {
     /// All its steps lead on, to the node of this index.
     Whole(usize),
-    /// Its first steps lead on.
+    /// Not all its steps lead on. `PrefixMatch` contains how many of its first steps do, perhaps none, and to which
+    /// node.
     Prefix(PrefixMatch),
 }
 

@@ -11,8 +11,8 @@ use std::iter::FusedIterator;
 use std::marker::Model;
 use std::slice;
 
-/// An iterator over references to types, in order. In contracts it is the list of the types that are left, and
-/// contracts specify the types that it returns by their trees.
+/// An iterator over references to types, in order. In contracts it is the list of the types that are left. Contracts
+/// specify the tree of each of these types.
 #[derive(Debug, Drop)]
 pub struct DTypeIter<'a> {
     inner: slice::Iter<'a, DType>,

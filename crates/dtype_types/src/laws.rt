@@ -195,9 +195,10 @@ pub fn tell_tells_apart()
 {}
 
 /// For all types `a` and `b` that are equal except for nullabilities, `tell a b` is `None` exactly if `a` is a subset
-/// of `b`. (The law `tell_tells_apart` describes the value that `tell` returns otherwise.) This is so even if the types
-/// contain a fixed-size list of size 0. For example, `tell` of `i32` and `i32?` is `None`, and `tell` of `i32?` and
-/// `i32` is null. So `tell` returns a value exactly if `eq_with_nullability_subset` returns `false`.
+/// of `b`, even if the types contain a fixed-size list of size 0. Otherwise `tell a b` is `Some` of a value. (The law
+/// `tell_tells_apart` describes this value if `a` is valid and contains no fixed-size list of size 0.) For example,
+/// `tell` of `i32` and `i32?` is `None`, and `tell` of `i32?` and `i32` is `Some` of null. So `tell` returns a value
+/// exactly if `eq_with_nullability_subset` returns `false`.
 ///
 /// About [`DType::eq_with_nullability_subset`].
 #[tactic(auto, using(crate::proofs::TellLaws::told_exactly))]

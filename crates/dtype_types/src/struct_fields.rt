@@ -293,8 +293,8 @@ impl StructFields {
     ///
     /// # Errors
     ///
-    /// - `FieldNotFound` (16): no field has one of the names. The error contains the position, in `projection`, of the
-    ///   first such name.
+    /// - `FieldNotFound` (16): a name in `projection` isn't the name of any field. The error contains the position, in
+    ///   `projection`, of the first such name.
     /// - `OutOfMemory` (0): an allocation fails.
     #[tactic(auto, using(crate::proofs::Selected::refused_of))]
     pub fn project(&self, alloc: Global, projection: &[FieldName]) -> VortexResult<Self>

@@ -18,9 +18,9 @@ use std::marker::Model;
 ///
 /// In contracts a plugin is its `rewrites`: a function that takes metadata and a storage type, and returns the metadata
 /// that the plugin writes back, or `None` if the plugin doesn't accept them. Each implementation proves two laws about
-/// this function (`Lawful` of `specs/Meaning`). First, the metadata that is written back consists of bytes, and if it
-/// is read again it is written back unchanged. Second, the result doesn't depend on the outer nullability of the
-/// storage type.
+/// this function, for valid storage types and metadata that consists of bytes (`Lawful` of `specs/Meaning`). First, the
+/// metadata that is written back consists of bytes, and if it is read again it is written back unchanged. Second, the
+/// result doesn't depend on the outer nullability of the storage type.
 pub trait ExtDTypePlugin: Drop {
     ghost use Rattle.std.specs.Prelude.{◌≡◌, ◌⊎◌, ℕ, List, Some, None, IfOk, IfErr};
     ghost use Rattle.dtype_base.specs.declared.vortex_error.VortexError.TheVariants.{OutOfMemory, MetadataRefused};

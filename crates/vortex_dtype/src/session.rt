@@ -125,8 +125,9 @@ impl DTypeSession {
     /// the bytes `metadata`. If a plugin is registered under the id, the session keeps what the plugin writes back. If
     /// none is registered and the session keeps unknown ids, it keeps the bytes unchanged.
     ///
-    /// If the kept metadata is read again, it is kept unchanged. Which metadata is kept doesn't depend on the outer
-    /// nullability of the storage type (`laws::kept_over_each_nullability`).
+    /// Suppose that the storage type is valid. If the kept metadata is read again, it is kept unchanged, and which
+    /// metadata is kept doesn't depend on the outer nullability of the storage type
+    /// (`laws::kept_over_each_nullability`).
     ///
     /// # Errors
     ///

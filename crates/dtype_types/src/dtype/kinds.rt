@@ -260,8 +260,8 @@ impl DType {
         }
     }
 
-    /// Returns the key type, the value type and the flag of a `Map` as a `MapDType`, or `None` if the type is of
-    /// another kind.
+    /// Returns the key type, the value type and the flag `keys_sorted` of a `Map` as a `MapDType`, or `None` if the
+    /// type is of another kind.
     pub fn as_map_opt(&self) -> Option<&MapDType>
         ensures { shown map_shown result ≡ map_parts (tree self.now) }
     {
@@ -345,8 +345,8 @@ impl DType {
         }
     }
 
-    /// Consumes the type and returns the key type, the value type and the flag of a `Map` as a `MapDType`, or `None` if
-    /// it is of another kind.
+    /// Consumes the type and returns the key type, the value type and the flag `keys_sorted` of a `Map` as a `MapDType`,
+    /// or `None` if it is of another kind.
     pub fn into_map_opt(self) -> Option<MapDType>
         ensures { option_map map_shown result ≡ map_parts (tree self) }
     {

@@ -101,7 +101,7 @@ impl DType {
     ///
     /// # Errors
     ///
-    /// - `WidthOverflow` (19): no part of the type is of variable width, and the width of some part is above
+    /// - `WidthOverflow` (19): the type is of fixed width, and its width or the width of some part of it is above
     ///   `usize::MAX`.
     pub fn element_size(&self) -> VortexResult<Option<usize>>
         ensures ok { MatchResult result

@@ -713,17 +713,29 @@ static void path_messages(void) {
     free_all(&s, 1);
 }
 
+/* The answer to a line. That memory ran out is an answer too, `refused 0: out of memory`: the call is then made once more,
+ * as IS makes one that returns the error. */
+static uint32_t answer(const uint8_t *line, size_t line_length, uint8_t *buffer, size_t size, size_t *length) {
+    uint32_t result = vlt_answer(line, line_length, buffer, size, length);
+    if (heap_refused != 0 && *length == strlen("refused 0: out of memory") &&
+        (result == VLT_SMALL || (result == VLT_DONE && memcmp(buffer, "refused 0:", 10) == 0))) {
+        lacked++;
+        result = vlt_answer(line, line_length, buffer, size, length);
+    }
+    return result;
+}
+
 static void answers(void) {
     uint8_t buffer[100];
     size_t length = 77;
-    DONE(vlt_answer(TEXT("resolve a.[] {a=list(i32?)}"), buffer, sizeof buffer, &length));
+    DONE(answer(TEXT("resolve a.[] {a=list(i32?)}"), buffer, sizeof buffer, &length));
     HOLDS(length == 4 && memcmp(buffer, "i32?", 4) == 0);
-    IS(VLT_SMALL, vlt_answer(TEXT("resolve a.[] {a=list(i32?)}"), buffer, 3, &length));
+    IS(VLT_SMALL, answer(TEXT("resolve a.[] {a=list(i32?)}"), buffer, 3, &length));
     HOLDS(length == 4);
-    NONE(vlt_answer(NULL, 0, buffer, sizeof buffer, &length));
-    NONE(vlt_answer(TEXT("# a comment"), buffer, sizeof buffer, &length));
-    NONE(vlt_answer(TEXT("exit"), buffer, sizeof buffer, &length));
-    DONE(vlt_answer(TEXT("map_try_new true i32? i32"), buffer, sizeof buffer, &length));
+    NONE(answer(NULL, 0, buffer, sizeof buffer, &length));
+    NONE(answer(TEXT("# a comment"), buffer, sizeof buffer, &length));
+    NONE(answer(TEXT("exit"), buffer, sizeof buffer, &length));
+    DONE(answer(TEXT("map_try_new true i32? i32"), buffer, sizeof buffer, &length));
     HOLDS(length > 10 && memcmp(buffer, "refused 9:", 10) == 0);
 }
 

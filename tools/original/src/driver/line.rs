@@ -61,7 +61,8 @@ macro_rules! arguments {
 pub(crate) use arguments;
 
 arguments! {
-    bool, u8, u32, u64, usize, i8, i32, i64, i128: |line| line.number();
+    bool: |line| line.word(|word| word.parse().ok());
+    u8, u32, u64, usize, i8, i32, i64, i128: |line| line.number();
 }
 
 /// The bytes of a number in hexadecimal, behind `0x`.

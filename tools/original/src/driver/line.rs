@@ -133,14 +133,17 @@ impl<'a> Line<'a> {
         if self.is_at_end() { Ok(found) } else { self.fail(self.at) }
     }
 
-    /// The name of a command.
+    /// The name of a command, and the blanks behind it.
     pub fn command(&mut self, is_known: impl Fn(&str) -> bool) -> Answer<&'a str> {
+        let word = self.command_word(is_known)?;
+        self.separate().map(|()| word)
+    }
+
+    /// The name of a command, whatever stands behind it.
+    pub fn command_word(&mut self, is_known: impl Fn(&str) -> bool) -> Answer<&'a str> {
         let at = self.at;
         let word = self.take(is_bare);
-        if !is_known(word) {
-            return self.fail(at);
-        }
-        self.separate().map(|()| word)
+        if is_known(word) { Ok(word) } else { self.fail(at) }
     }
 
     pub fn rest(&self) -> &'a str {

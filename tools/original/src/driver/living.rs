@@ -62,10 +62,11 @@ impl<T: Clone + Default> Living<T> {
 /// `session NAME` and a command of its own.
 pub fn session(line: &mut Line) -> Answer {
     let name: FieldName = line.argument()?;
-    let command = line.command(|it| matches!(it, "new" | "register" | "allow_unknown" | "drop"))?;
+    let command = line.command_word(|it| matches!(it, "new" | "register" | "allow_unknown" | "drop"))?;
     if command == "drop" {
         line.sessions.borrow_mut().there("session", name.as_ref())?;
     }
+    line.separate()?;
     let plugin = if command == "register" { Some(line.argument::<Plugin>()?.0) } else { None };
     line.last::<()>()?;
     let mut sessions = line.sessions.borrow_mut();
@@ -86,10 +87,11 @@ pub fn set(sets: &mut Living<Vec<FieldPath>>, line: &mut Line) -> Answer {
     let name: FieldName = line.argument()?;
     let begins = |it: &str| matches!(it, "new" | "insert" | "extend");
     let asks = |it: &str| matches!(it, "contains" | "below" | "missing" | "iter" | "cover" | "drain" | "drop");
-    let command = line.command(|it| begins(it) || asks(it))?;
+    let command = line.command_word(|it| begins(it) || asks(it))?;
     if asks(command) {
         sets.there("set", name.as_ref())?;
     }
+    line.separate()?;
     let given: Vec<FieldPath> = match command {
         "insert" | "contains" | "below" => vec![line.argument()?],
         "extend" => {

@@ -405,8 +405,16 @@ const INTEGERS: [&str; 8] = ["u8", "u16", "u32", "u64", "i8", "i16", "i32", "i64
 const OF_DECIMALS: [&str; 5] = ["i8", "i16", "i32", "i64", "i128"];
 
 arguments! {
-    Integer: |line| line.one_of(&INTEGERS).map(Integer);
-    OfDecimals: |line| line.one_of(&OF_DECIMALS).map(OfDecimals);
+    Integer: |line| {
+        let name = line.one_of(&INTEGERS)?;
+        line.of_native = of_named!(name, (u8 u16 u32 u64 i8 i16 i32 i64), Ok(T::MIN.into()..=T::MAX.into()))?;
+        Ok(Integer(name))
+    };
+    OfDecimals: |line| {
+        let name = line.one_of(&OF_DECIMALS)?;
+        line.of_native = of_named!(name, (i8 i16 i32 i64 i128), Ok(T::MIN.into()..=T::MAX.into()))?;
+        Ok(OfDecimals(name))
+    };
     Native: |line| {
         let around: Vec<&str> =
             (0..2).map_while(|_| ["Option<", "Vec<"].into_iter().find(|it| line.eat(it))).collect();
@@ -462,9 +470,9 @@ fn add_numbers(c: &mut Console) {
         match_smallest_list_offset_type match_smallest_list_offset_type);
 }
 
-/// A number of the native type: a line with another fails where that stands.
-fn native<T: TryFrom<i128>>(Number(value, at): Number) -> Answer<T> {
-    T::try_from(value).or_else(|_| stop(format!("unreadable at {}", at + 1)))
+/// The number as one of the native type, whose range was tested when it was read.
+fn native<T: TryFrom<i128>>(Number(value): Number) -> Answer<T> {
+    T::try_from(value).or_else(|_| stop(format!("{value} isn't of the native type")))
 }
 
 fn add_natives(c: &mut Console) {

@@ -4,6 +4,7 @@
 //! A line of the console (docs/CONSOLE.md), read from the left. One that can't be read fails at a byte.
 
 use std::cell::RefCell;
+use std::ops::RangeInclusive;
 
 use crate::living::Living;
 use crate::types::{Answer, stop};
@@ -73,28 +74,31 @@ arguments! {
     Bytes: |line| line.expect("0x").map(|()| Bytes(std::iter::from_fn(|| line.byte()).collect()));
 }
 
-/// A number of a native type that the command's first argument names, and where it stands.
+/// A number of the native type that the command's first argument names.
 #[derive(Clone, Copy)]
-pub struct Number(pub i128, pub usize);
+pub struct Number(pub i128);
 
 arguments! {
     Number: |line| {
         let at = line.at;
-        line.number().map(|number| Number(number, at))
+        let number = line.number()?;
+        line.found(at, line.of_native.contains(&number).then_some(Number(number)))
     };
 }
 
-/// A line, and where it is read. `sessions` are those that live.
+/// A line, and where it is read. `of_native` are the numbers of the native type that its first argument named, and
+/// `sessions` are those that live.
 pub struct Line<'a> {
     text: &'a str,
     pub at: usize,
     level: usize,
+    pub of_native: RangeInclusive<i128>,
     pub sessions: &'a RefCell<Living<Vec<&'static str>>>,
 }
 
 impl<'a> Line<'a> {
     pub fn new(text: &'a str, sessions: &'a RefCell<Living<Vec<&'static str>>>) -> Self {
-        let mut line = Self { text, at: 0, level: 0, sessions };
+        let mut line = Self { text, at: 0, level: 0, of_native: i128::MIN..=i128::MAX, sessions };
         line.blanks();
         line
     }

@@ -48,13 +48,13 @@ pub fn rows() -> &'static [Row] {
 #[rattlefmt::skip]
 const ROWS: [Row; 19] = [
     Row("extension", "ID HEX T", "x.tag 0x6162 utf8?", "the extension of this id, metadata and storage", "", Extensions(ExtensionCommand::Extension)),
-    Row("foreign", "ID HEX T", "x.y 0x i32", "the extension of an id that no plugin knows, with this metadata and storage", "", Typed(TypedCommand::Foreign)),
+    Row("foreign", "ID HEX T", "x.y 0x i32", "the extension with this id, metadata and storage type, made as for an id that no plugin knows", "", Typed(TypedCommand::Foreign)),
     Row("id", "E", "x.tag[0x6162](utf8)", "the id of the extension", "", Extensions(ExtensionCommand::Query(ExtensionQuery::Id))),
     Row("metadata", "E", "x.tag[0x6162](utf8)", "the metadata of the extension", "", Extensions(ExtensionCommand::Query(ExtensionQuery::Metadata))),
-    Row("serialize_metadata", "E", "x.tag[0x6162](utf8)", "the metadata of the extension as a message would hold it", "", Extensions(ExtensionCommand::Query(ExtensionQuery::SerializeMetadata))),
+    Row("serialize_metadata", "E", "x.tag[0x6162](utf8)", "the metadata of the extension, as a message contains it", "", Extensions(ExtensionCommand::Query(ExtensionQuery::SerializeMetadata))),
     Row("storage_dtype", "E", "x.tag[0x](utf8?)", "the storage type of the extension", "", Extensions(ExtensionCommand::Query(ExtensionQuery::StorageDtype))),
     Row("extension_parts", "E", "x.tag[0x6162](utf8?)", "the id, the metadata and the storage of the extension, which is consumed", "", Extensions(ExtensionCommand::ExtensionParts)),
-    Row("extension_nullability", "E", "x.tag[0x](utf8?)", "the nullability of the extension, its storage's", "", Extensions(ExtensionCommand::Query(ExtensionQuery::ExtensionNullability))),
+    Row("extension_nullability", "E", "x.tag[0x](utf8?)", "the nullability of the extension, which is that of its storage type", "", Extensions(ExtensionCommand::Query(ExtensionQuery::ExtensionNullability))),
     Row("extension_is_nullable", "E", "x.tag[0x](utf8?)", "whether the extension's storage is nullable", "", Extensions(ExtensionCommand::Query(ExtensionQuery::ExtensionIsNullable))),
     Row("extension_with_nullability", "N E", "NonNullable x.tag[0x](utf8?)", "the extension over the storage with this nullability", "condition: needs a type that can be non-nullable", Extensions(ExtensionCommand::ExtensionWithNullability)),
     Row("metadata_text", "E", "x.tag[0x6162](utf8)", "the text that the library prints of the metadata", "", Extensions(ExtensionCommand::Query(ExtensionQuery::MetadataText))),

@@ -30,7 +30,7 @@ pub fn rows() -> &'static [Row] {
 
 #[rattlefmt::skip]
 const ROWS: [Row; 7] = [
-    Row("map_try_new", "BOOL T T", "true utf8? i32", "the map of a key and a value, and whether its keys are sorted", "MapKeyNullable (9)", Maps(MapCommand::MapTryNew)),
+    Row("map_try_new", "BOOL T T", "true utf8? i32", "the map whose keys have the first type and whose values have the second type. BOOL says whether its keys are sorted.", "MapKeyNullable (9)", Maps(MapCommand::MapTryNew)),
     Row("key_dtype", "M", "map(utf8, i32?, keys_sorted=true)", "the type of the keys", "", Maps(MapCommand::Query(MapQuery::KeyDtype))),
     Row("value_dtype", "M", "map(utf8, i32?, keys_sorted=true)", "the type of the values", "", Maps(MapCommand::Query(MapQuery::ValueDtype))),
     Row("entries_dtype", "M", "map(utf8, i32?, keys_sorted=true)", "the struct of a key and a value, the entries' type", "", Maps(MapCommand::Query(MapQuery::EntriesDtype))),

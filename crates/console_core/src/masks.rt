@@ -32,7 +32,7 @@ const ROWS: [Row; 6] = [
     Row("mask", "MASK", "prefix a.b", "the mask itself", "", Masks(MaskCommand::Query(MaskQuery::Mask))),
     Row("mask_step_into", "MASK", "exact .", "the mask after its path's first step", "ExactRoot (20)", Masks(MaskCommand::Query(MaskQuery::MaskStepInto))),
     Row("starting_field", "MASK", "all", "the first step of the mask's path, or none at the root", "AllMask (21)", Masks(MaskCommand::Query(MaskQuery::StartingField))),
-    Row("matches_all", "MASK", "prefix .", "whether the mask holds every path", "", Masks(MaskCommand::Query(MaskQuery::MatchesAll))),
-    Row("matches_root", "MASK", "exact .", "whether the mask holds the root", "", Masks(MaskCommand::Query(MaskQuery::MatchesRoot))),
+    Row("matches_all", "MASK", "prefix .", "whether the mask selects every path", "", Masks(MaskCommand::Query(MaskQuery::MatchesAll))),
+    Row("matches_root", "MASK", "exact .", "whether the mask selects the root", "", Masks(MaskCommand::Query(MaskQuery::MatchesRoot))),
     Row("mask_eq", "MASK MASK", "all prefix .", "whether the two masks are equal", "", Masks(MaskCommand::MaskEq)),
 ];

@@ -12,7 +12,7 @@ pub fn rows() -> &'static [Row] {
 
 #[rattlefmt::skip]
 const ROWS: [Row; 3] = [
-    Row("help", "[TOPIC|COMMAND|FORM|N]", "", "the topics; the commands and the forms of one; what a command answers, with examples; how a form is written, as T; or the error of a number", "", Help),
-    Row("exit", "", "", "nothing: the console ends", "", Exit),
-    Row("quit", "", "", "nothing: the console ends", "", Exit),
+    Row("help", "[TOPIC|COMMAND|FORM|N]", "", "explains a topic with its commands, a command with examples, a form of an argument, for example T, or the error with a number; without an argument it lists the topics", "", Help),
+    Row("exit", "", "", "ends the console", "", Exit),
+    Row("quit", "", "", "ends the console", "", Exit),
 ];

@@ -30,8 +30,8 @@ pub fn rows() -> &'static [Row] {
 
 #[rattlefmt::skip]
 const ROWS: [Row; 5] = [
-    Row("session", "NAME new|register PLUGIN|allow_unknown|drop", "s register x.tag", "changes the session of this name, which new, register and allow_unknown begin and drop removes", "condition: at most 16 sessions; unknown: the session", NamedSession),
-    Row("sessions", "", "", "the names of the sessions, in the order in which they began", "", ListedSessions),
+    Row("session", "NAME new|register PLUGIN|allow_unknown|drop", "s register x.tag", "new makes the session with this name, register registers a plugin, allow_unknown makes the session keep extensions with unknown ids, and drop removes it; register and allow_unknown make the session too if there is none", "condition: at most 16 sessions; unknown: the session", NamedSession),
+    Row("sessions", "", "", "the names of the sessions, in the order in which they were made", "", ListedSessions),
     Row("allows_unknown", "SESSION", "unknown,x.tag", "whether the session keeps extensions of unknown ids", "unknown: the session", Sessions(SessionCommand::AllowsUnknown)),
     Row("registry", "SESSION ID", "x.tag,x.text x.text", "whether the session has a plugin under this id", "unknown: the session", Sessions(SessionCommand::Registry)),
     Row("deserialize", "SESSION ID HEX T", "x.tag x.tag 0x4142 utf8", "the extension with the metadata that the session keeps", "MetadataRefused (22), ExtensionUnregistered (35); unknown: the session", Sessions(SessionCommand::Deserialize)),

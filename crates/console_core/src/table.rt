@@ -6,8 +6,9 @@ use crate::{
     primitives, sessions, sets, structs, types, unions,
 };
 
-/// A command in the table of its topic: its name, its arguments in the words of `docs/CONSOLE.md`, the arguments of an
-/// example, which is a golden test, what it answers, the errors of the call and its condition, and what answers it.
+/// A command in the table of its topic: its name, its arguments, the arguments of an example, which has an expected
+/// answer, what the command answers, the errors of the call and its condition, and the variant that answers it. The
+/// arguments and what is answered are in the words of `docs/CONSOLE.md`; `tools/pages` compares them.
 #[derive(Clone, Copy)]
 pub struct Row(
     pub &'static str,
@@ -155,13 +156,13 @@ impl Topic {
             Topic::Paths => "paths and their steps; how a path and a mask are written",
             Topic::Sets => "sets of paths, their covers, and projections to them",
             Topic::Masks => "masks of paths",
-            Topic::Sessions => "sessions of plugins, and what they make of extensions",
+            Topic::Sessions => "sessions, their plugins, and the extensions that they read",
             Topic::Messages => "messages of types and of paths; how a message is written",
-            Topic::Arguments => "how every other argument is written",
+            Topic::Arguments => "how all other arguments are written",
             Topic::Answers => "the forms of answers",
             Topic::Errors => "the errors of the library by their numbers",
-            Topic::Comments => "what of a line isn't read",
-            Topic::Console => "help, and the end",
+            Topic::Comments => "the parts of a line that aren't read",
+            Topic::Console => "help, and how to end the console",
         }
     }
 

@@ -8,23 +8,23 @@ use std::alloc::{AllocError, Global};
 pub const VERSION: &str = "console 0.2.0, of the types of vortex-array 0.89.0";
 
 /// What `--help` prints.
-pub const USAGE: &str = "Answers commands on types, paths and messages, a line each.
+pub const USAGE: &str = "Answers commands on types, paths and messages, one on each line.
 
 usage: console [--echo] [--strict] [-c COMMAND].. [FILE..]
 
   -c COMMAND    answers this command
   FILE          answers the lines of this file; - is standard input
   --echo        writes each line above its answer
-  --strict      stops at the first line that can't be read
+  --strict      stops at the first line that can't be read, or that names a set or a session that isn't there
   --marks       writes lines to standard error before and after each answer
   -h, --help    prints this
   --version     prints the version
 
-Commands come before files, each in its order. With neither, lines of standard input are answered. The command help
-lists the commands, exit ends.
+The commands are answered first, then the lines of the files. If there are neither, the lines of standard input are
+answered. The command help lists the commands, and exit ends the console.
 
-status: 0 where every line was answered, also by an error of the library; 1 where a line couldn't be read, or named a
-set or a session that isn't there; 2 where the arguments are wrong or a file can't be opened";
+status: 0 if every line was answered, even by an error of the library; 1 if a line couldn't be read, or named a set or
+a session that isn't there; 2 if the arguments are wrong or a file can't be opened";
 
 /// What the arguments ask for.
 #[derive(Drop)]

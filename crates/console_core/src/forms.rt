@@ -110,7 +110,7 @@ const ANSWERS: [Form; 14] = [
     Form("Less, Equal, Greater", "an ordering", "name_cmp a b"),
     Form("nothing 0", "an answer of set NAME below PATH: the set is empty, and PATH is the root", "set s below ."),
     Form("end N NAME..", "an answer of set NAME below PATH: PATH is in the set, and paths continue with N names, which follow; a name has a dot behind it if paths continue after it", "set s below a"),
-    Form("[] N NAME..", "an answer of set NAME below PATH: a path continues with the element of a list; behind it stands the same as behind end", "set s below a"),
+    Form("[] N NAME..", "an answer of set NAME below PATH: a path continues with the element of a list; after it comes what comes after end", "set s below a"),
     Form("an empty line", "the line is empty, or only a comment", "# a comment"),
 ];
 

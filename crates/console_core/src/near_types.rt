@@ -66,7 +66,9 @@ pub fn in_place_of(word: &str) -> Option<&'static str> {
         .find(|(name, _)| name.eq_ignore_ascii_case(word));
     match found {
         Some((_, text)) => Some(*text),
-        None if word.contains('.') => Some("an extension with its metadata, as x.tag[0x](utf8)"),
+        None if word.contains('.') => Some(
+            "an extension type with its metadata, for example x.tag[0x](utf8)",
+        ),
         None => None,
     }
 }
@@ -170,23 +172,23 @@ const ELSEWHERE: [(&str, &str); 67] = [
 // What Arrow, Parquet or SQL have and this library hasn't: what to write in its place, as is said behind `write `.
 #[rattlefmt::skip]
 const ABSENT: [(&str, &str); 22] = [
-    ("date", "an extension of an id of yours, as x.date[0x](i32)"),
-    ("date32", "an extension of an id of yours, as x.date[0x](i32)"),
-    ("date64", "an extension of an id of yours, as x.date[0x](i64)"),
-    ("time", "an extension of an id of yours, as x.time[0x](i64)"),
-    ("time32", "an extension of an id of yours, as x.time[0x](i32)"),
-    ("time64", "an extension of an id of yours, as x.time[0x](i64)"),
-    ("timestamp", "an extension of an id of yours, as x.timestamp[0x](i64)"),
-    ("timestamptz", "an extension of an id of yours, as x.timestamp[0x](i64)"),
-    ("timestamp_tz", "an extension of an id of yours, as x.timestamp[0x](i64)"),
-    ("datetime", "an extension of an id of yours, as x.timestamp[0x](i64)"),
-    ("interval", "an extension of an id of yours, as x.interval[0x](i64)"),
-    ("duration", "an extension of an id of yours, as x.duration[0x](i64)"),
-    ("uuid", "an extension of an id of yours, as x.uuid[0x](fixed_size_list(u8)[16])"),
-    ("int128", "an extension of an id of yours, as x.int128[0x](fixed_size_list(u8)[16])"),
-    ("uint128", "an extension of an id of yours, as x.uint128[0x](fixed_size_list(u8)[16])"),
-    ("i128", "an extension of an id of yours, as x.int128[0x](fixed_size_list(u8)[16])"),
-    ("u128", "an extension of an id of yours, as x.uint128[0x](fixed_size_list(u8)[16])"),
+    ("date", "an extension type with an id of your own, for example x.date[0x](i32)"),
+    ("date32", "an extension type with an id of your own, for example x.date[0x](i32)"),
+    ("date64", "an extension type with an id of your own, for example x.date[0x](i64)"),
+    ("time", "an extension type with an id of your own, for example x.time[0x](i64)"),
+    ("time32", "an extension type with an id of your own, for example x.time[0x](i32)"),
+    ("time64", "an extension type with an id of your own, for example x.time[0x](i64)"),
+    ("timestamp", "an extension type with an id of your own, for example x.timestamp[0x](i64)"),
+    ("timestamptz", "an extension type with an id of your own, for example x.timestamp[0x](i64)"),
+    ("timestamp_tz", "an extension type with an id of your own, for example x.timestamp[0x](i64)"),
+    ("datetime", "an extension type with an id of your own, for example x.timestamp[0x](i64)"),
+    ("interval", "an extension type with an id of your own, for example x.interval[0x](i64)"),
+    ("duration", "an extension type with an id of your own, for example x.duration[0x](i64)"),
+    ("uuid", "an extension type with an id of your own, for example x.uuid[0x](fixed_size_list(u8)[16])"),
+    ("int128", "an extension type with an id of your own, for example x.int128[0x](fixed_size_list(u8)[16])"),
+    ("uint128", "an extension type with an id of your own, for example x.uint128[0x](fixed_size_list(u8)[16])"),
+    ("i128", "an extension type with an id of your own, for example x.int128[0x](fixed_size_list(u8)[16])"),
+    ("u128", "an extension type with an id of your own, for example x.uint128[0x](fixed_size_list(u8)[16])"),
     ("extension", "its id, its metadata and its storage, as x.tag[0x](utf8)"),
     ("dictionary", "the type of its values"),
     ("dict", "the type of its values"),

@@ -105,11 +105,11 @@ fn end_path(line: &Line<'_>) -> ConsoleResult<()> {
     match line.peek() {
         Some(b'[') => Err(line.expected_found(
             "a blank or a dot",
-            "; [] is a step of its own, as a.[].b",
+            "; [] is a step of its own, for example in a.[].b",
         )),
         Some(b'/') => Err(line.expected_found(
             "a blank or a dot",
-            "; steps are joined by dots, as a.[].b",
+            "; steps are joined by dots, for example a.[].b",
         )),
         _ => Ok(()),
     }

@@ -4,10 +4,10 @@
 /// How far a path leads into a trie.
 #[derive(Drop)]
 pub(crate) enum PathMatch {
-    /// All its steps lead on, to the node of this index.
+    /// All its steps lead from node to node. The last one leads to the node with this index.
     Whole(usize),
-    /// Not all its steps lead on. `PrefixMatch` contains how many of its first steps do, perhaps none, and to which
-    /// node.
+    /// Only its first steps lead from node to node, perhaps none of them. `PrefixMatch` contains how many do, and the
+    /// node that they lead to.
     Prefix(PrefixMatch),
 }
 

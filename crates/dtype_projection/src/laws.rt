@@ -128,10 +128,11 @@ pub fn projections_compose()
 {}
 
 /// Let `u` be the projection of `t` to the paths that satisfy `w`, let `f` be a step, and suppose that the root doesn't
-/// satisfy `w`. (If it did, `t` would be kept whole.) If `f` leads to a type `x` in `t`, then it leads in `u` to the
-/// projection of `x` to what is left, after the step `f`, of the paths that begin with `f`. If `x` has no such
-/// projection, or if `f` leads to no type in `t`, then `f` leads to no type in `u`. For example, the type at `a` in the
-/// projection of `{a={b=i32, d=u8}, c=utf8}` to `a.b` is `{b=i32}`, which is the projection of `{b=i32, d=u8}` to `b`.
+/// satisfy `w`. (If it did, `t` would be kept whole.) Take those paths that begin with `f`, and remove this first step
+/// from each of them. If `f` leads to a type `x` in `t`, then `f` leads in `u` to the projection of `x` to these
+/// shortened paths. If `x` has no such projection, or if `f` leads to no type in `t`, then `f` leads to no type in `u`.
+/// For example, the type at `a` in the projection of `{a={b=i32, d=u8}, c=utf8}` to `a.b` is `{b=i32}`, which is the
+/// projection of `{b=i32, d=u8}` to `b`.
 /// So a reader that steps through a type and a set together (`FieldPathSet::cursor`) opens exactly what the projection
 /// keeps.
 ///

@@ -99,8 +99,8 @@ pub fn nullability_is_set_alone()
         → SetNull t m u → (SetNull u n v ↔ SetNull t n v) }
 {}
 
-/// The constant `DType::BYTES`, which this law returns, is the non-nullable `u8`. A caller needs this law to prove
-/// which type a schema has that it builds from the constant: for example, `list(DType::BYTES)` is `list(u8)`.
+/// The constant `DType::BYTES`, which this law returns, is the non-nullable `u8`. A caller that builds a schema from
+/// the constant needs this law to prove what the schema is. For example, `list(DType::BYTES)` is `list(u8)`.
 ///
 /// About [`DType::BYTES`].
 pub fn bytes_are_non_nullable_u8() -> DType

@@ -124,8 +124,8 @@ pub fn types_are_intersected_in_any_order()
 /// Two statements about all types `a` and `b` that are equal except for nullabilities. First, if `c` is the result of
 /// intersecting `a` and `b`, then merging `a` and `c` returns `a`. Second, if `d` is the result of merging `a` and `b`,
 /// then intersecting `a` and `d` returns `a`. For example, intersecting `i32?` and `i32` returns `i32`, and merging
-/// `i32?` and `i32` returns `i32?`. Together with the two laws above, this says that the types that differ only in
-/// nullabilities are a lattice with these two operations.
+/// `i32?` and `i32` returns `i32?`. This law, `types_are_merged_in_any_order` and `types_are_intersected_in_any_order`
+/// say together that the types that differ only in nullabilities are a lattice with these two operations.
 ///
 /// About [`merge_nullability`] and [`intersect_nullability`].
 #[tactic(auto, using(crate::proofs::lemmas::Merging::merged_absorbs, crate::proofs::lemmas::Merging::intersected_absorbs))]

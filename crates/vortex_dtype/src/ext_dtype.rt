@@ -35,9 +35,8 @@ impl<V: ExtVTable + Default> ExtDType<V> {
     ///
     /// If the storage type is valid:
     ///
-    /// - `MetadataRefused` (22): only if the metadata doesn't fit the storage type. In that case the
-    ///   call always returns an error.
-    /// - `OutOfMemory` (0): an allocation fails.
+    /// - `MetadataRefused` (22): the metadata doesn't fit the storage type.
+    /// - `OutOfMemory` (0): an allocation fails. It may come in place of the other error.
     pub fn try_new(alloc: Global, metadata: V::Metadata, storage: DType) -> VortexResult<Self>
         ensures vtable { IfOk result (λ x. V.is_default (vtable_of x)) }
         ensures made { IfOk result (λ x. (metadata_of x ≡ metadata) × (storage_of x ≡ tree storage)) }
@@ -60,9 +59,8 @@ impl<V: ExtVTable> ExtDType<V> {
     ///
     /// If the storage type is valid:
     ///
-    /// - `MetadataRefused` (22): only if the metadata doesn't fit the storage type. In that case the call always
-    ///   returns an error.
-    /// - `OutOfMemory` (0): an allocation fails.
+    /// - `MetadataRefused` (22): the metadata doesn't fit the storage type.
+    /// - `OutOfMemory` (0): an allocation fails. It may come in place of the other error.
     pub fn try_with_vtable(
         alloc: Global,
         vtable: V,
@@ -117,9 +115,8 @@ impl<V: ExtVTable> ExtDType<V> {
     ///
     /// # Errors
     ///
-    /// - `MetadataRefused` (22): only if the vtable can't write the metadata. In that case the
-    ///   call always returns an error.
-    /// - `OutOfMemory` (0): an allocation fails.
+    /// - `MetadataRefused` (22): the vtable can't write the metadata.
+    /// - `OutOfMemory` (0): an allocation fails. It may come in place of the other error.
     pub fn serialize_metadata(&self, alloc: Global) -> VortexResult<Vec<u8>>
         ensures { MatchResult result
             (λ v. V.writes (vtable_of self.now) (V.meant (metadata_of self.now)) ≡ Some v.items)
@@ -135,9 +132,9 @@ impl<V: ExtVTable> ExtDType<V> {
     ///
     /// # Errors
     ///
-    /// - `MetadataRefused` (22): only if the vtable can't write the metadata. In that case the call always
-    ///   returns an error.
-    /// - `OutOfMemory` (0): an allocation fails, or a reference count is at its maximum.
+    /// - `MetadataRefused` (22): the vtable can't write the metadata.
+    /// - `OutOfMemory` (0): an allocation fails, or a reference count is at its maximum. It may come in place of the
+    ///   other error.
     #[tactic(auto, using(dtype_types::proofs::lemmas::Validity::validity))]
     pub fn with_nullability(&self, alloc: Global, n: Nullability) -> VortexResult<ExtDTypeRef>
         requires { n ≡ NonNullable → CanBeNonNullable (storage_of self.now) }
@@ -161,9 +158,8 @@ impl<V: ExtVTable> ExtDType<V> {
     ///
     /// # Errors
     ///
-    /// - `MetadataRefused` (22): only if the vtable can't write the metadata. In that case the call always
-    ///   returns an error.
-    /// - `OutOfMemory` (0): an allocation fails.
+    /// - `MetadataRefused` (22): the vtable can't write the metadata.
+    /// - `OutOfMemory` (0): an allocation fails. It may come in place of the other error.
     pub fn erased(self, alloc: Global) -> VortexResult<ExtDTypeRef>
         ensures made { IfOk result (λ e. extension_tree e
             ≡ extension (V.id_text (vtable_of self)) (extension_metadata e) (storage_of self)) }

@@ -49,9 +49,8 @@ pub trait ExtVTable: Drop {
     ///
     /// # Errors
     ///
-    /// - `MetadataRefused` (22): only if the metadata can't be written. In that case the call always
-    ///   returns an error.
-    /// - `OutOfMemory` (0): an allocation fails.
+    /// - `MetadataRefused` (22): the metadata can't be written.
+    /// - `OutOfMemory` (0): an allocation fails. It may come in place of the other error.
     fn serialize_metadata(&self, alloc: Global, metadata: &Self::Metadata) -> VortexResult<Vec<u8>>
         ensures { MatchResult result
             (λ v. writes self.now (meant metadata.now) ≡ Some v.items)
@@ -62,9 +61,8 @@ pub trait ExtVTable: Drop {
     ///
     /// # Errors
     ///
-    /// - `MetadataRefused` (22): only if the bytes aren't metadata of this extension type. In that case the
-    ///   call always returns an error.
-    /// - `OutOfMemory` (0): an allocation fails.
+    /// - `MetadataRefused` (22): the bytes aren't metadata of this extension type.
+    /// - `OutOfMemory` (0): an allocation fails. It may come in place of the other error.
     fn deserialize_metadata(&self, alloc: Global, bytes: &[u8]) -> VortexResult<Self::Metadata>
         ensures { MatchResult result
             (λ m. reads self.now bytes.now ≡ Some (meant m))
@@ -76,9 +74,8 @@ pub trait ExtVTable: Drop {
     ///
     /// If the storage type is valid:
     ///
-    /// - `MetadataRefused` (22): only if the metadata doesn't fit the storage type. In that case the
-    ///   call always returns an error.
-    /// - `OutOfMemory` (0): an allocation fails.
+    /// - `MetadataRefused` (22): the metadata doesn't fit the storage type.
+    /// - `OutOfMemory` (0): an allocation fails. It may come in place of the other error.
     fn validate_dtype(
         &self,
         alloc: Global,

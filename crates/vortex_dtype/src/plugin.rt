@@ -45,9 +45,8 @@ pub trait ExtDTypePlugin: Drop {
     ///
     /// If the storage type is valid:
     ///
-    /// - `MetadataRefused` (22): only if the plugin doesn't accept the metadata over this storage type. In that case the
-    ///   call always returns an error.
-    /// - `OutOfMemory` (0): an allocation fails.
+    /// - `MetadataRefused` (22): the plugin doesn't accept the metadata over this storage type.
+    /// - `OutOfMemory` (0): an allocation fails. It may come in place of the other error.
     fn deserialize(&self, alloc: Global, metadata: &[u8], storage: &DType) -> VortexResult<Vec<u8>>
         ensures kept { Valid (tree storage.now)
             → IfOk result (λ v. rewrites self.now metadata.now (tree storage.now) ≡ Some v.items) }

@@ -133,11 +133,9 @@ impl DTypeSession {
     ///
     /// If the storage type is valid:
     ///
-    /// - `MetadataRefused` (22): only if the registered plugin doesn't accept the metadata over this storage type. In that
-    ///   case the call always returns an error.
-    /// - `ExtensionUnregistered` (35): only if no plugin is registered under the id and unknown ids aren't kept. In that
-    ///   case the call always returns an error.
-    /// - `OutOfMemory` (0): an allocation fails.
+    /// - `MetadataRefused` (22): the registered plugin doesn't accept the metadata over this storage type.
+    /// - `ExtensionUnregistered` (35): no plugin is registered under the id and unknown ids aren't kept.
+    /// - `OutOfMemory` (0): an allocation fails. It may come in place of the other errors.
     pub fn deserialize(
         &self,
         id: &str,

@@ -136,7 +136,7 @@ pub fn read_keeping_unknown(alloc: Global, stored: &pb::DType) -> VortexResult<D
     DType::from_proto(alloc, stored, &session)
 }
 
-/// The part of a stored schema that a query opens, or `None` if the schema lacks a column of the query.
+/// Returns the part of a stored schema that a query opens, or `None` if the schema lacks a column of the query.
 pub fn open_stored(
     alloc: Global,
     stored: &pb::DType,

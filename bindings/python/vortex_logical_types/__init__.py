@@ -12,9 +12,12 @@ DType('{id=u64, lines=list({sku=utf8})}')
 >>> sorted(path.to_source() for path in wanted.cover())
 ['id', 'lines.[]']
 
-A text in quotes here is the form of the library's console, which reads back as the same value; `str` of a type or a path
-is the text that the library displays. An object belongs to the thread that made it, and a call from another raises
-`WrongThread`: send its text, or the flat form of its message.
+A type or a path is made from its text in the form of the library's console. `to_source` returns this form, `repr` shows
+it in quotes, and it is read back as the same value. `str` returns the text that the library displays, which may not be
+read back. For example, `str` shows a name that contains a comma without quotes.
+
+An object belongs to the thread that made it, and a call from another thread raises `WrongThread`. To take a type to
+another thread, send its text, or the flat form of its message:
 
 >>> sent = orders.to_proto().to_flat()  # bytes
 >>> DType.from_proto(Message.from_flat(sent)) == orders

@@ -38,7 +38,7 @@ impl DType {
         or_abort(DType::try_null())
     }
 
-    /// Returns the null type, or that memory ran out.
+    /// Returns the null type, or [`Error::OutOfMemory`].
     pub fn try_null() -> Result<DType, Error> {
         made(ffi::dtype_null).map(DType::of)
     }
@@ -48,7 +48,7 @@ impl DType {
         or_abort(DType::try_bool(nullability))
     }
 
-    /// Returns the type of booleans, or that memory ran out.
+    /// Returns the type of booleans, or [`Error::OutOfMemory`].
     pub fn try_bool(nullability: Nullability) -> Result<DType, Error> {
         made(|out| ffi::dtype_bool(nullability.into(), out)).map(DType::of)
     }
@@ -58,7 +58,7 @@ impl DType {
         or_abort(DType::try_primitive(ptype, nullability))
     }
 
-    /// Returns a primitive type, or that memory ran out.
+    /// Returns a primitive type, or [`Error::OutOfMemory`].
     pub fn try_primitive(ptype: PType, nullability: Nullability) -> Result<DType, Error> {
         made(|out| ffi::dtype_primitive(ptype.number(), nullability.into(), out)).map(DType::of)
     }
@@ -76,7 +76,7 @@ impl DType {
         or_abort(DType::try_utf8(nullability))
     }
 
-    /// Returns the type of UTF-8 strings, or that memory ran out.
+    /// Returns the type of UTF-8 strings, or [`Error::OutOfMemory`].
     pub fn try_utf8(nullability: Nullability) -> Result<DType, Error> {
         made(|out| ffi::dtype_utf8(nullability.into(), out)).map(DType::of)
     }
@@ -86,7 +86,7 @@ impl DType {
         or_abort(DType::try_binary(nullability))
     }
 
-    /// Returns the type of byte strings, or that memory ran out.
+    /// Returns the type of byte strings, or [`Error::OutOfMemory`].
     pub fn try_binary(nullability: Nullability) -> Result<DType, Error> {
         made(|out| ffi::dtype_binary(nullability.into(), out)).map(DType::of)
     }
@@ -96,7 +96,7 @@ impl DType {
         or_abort(DType::try_variant(nullability))
     }
 
-    /// Returns the type of variants, or that memory ran out.
+    /// Returns the type of variants, or [`Error::OutOfMemory`].
     pub fn try_variant(nullability: Nullability) -> Result<DType, Error> {
         made(|out| ffi::dtype_variant(nullability.into(), out)).map(DType::of)
     }
@@ -213,7 +213,7 @@ impl DType {
         or_abort(self.try_as_nullable())
     }
 
-    /// Returns the type as a nullable one, or that memory ran out.
+    /// Returns the type as a nullable one, or [`Error::OutOfMemory`].
     pub fn try_as_nullable(&self) -> Result<DType, Error> {
         self.with_nullability(Nullability::Nullable)
     }
@@ -231,12 +231,12 @@ impl DType {
         or_abort(self.try_union_nullability(nullability))
     }
 
-    /// Returns the type that is nullable if it is or `nullability` says so, or that memory ran out.
+    /// Returns the type that is nullable if it is or `nullability` says so, or [`Error::OutOfMemory`].
     pub fn try_union_nullability(&self, nullability: Nullability) -> Result<DType, Error> {
         made(|out| ffi::dtype_union_nullability(&self.slot, nullability.into(), out)).map(DType::of)
     }
 
-    /// Returns a copy, or that memory ran out.
+    /// Returns a copy, or [`Error::OutOfMemory`].
     pub fn try_clone(&self) -> Result<DType, Error> {
         made(|out| ffi::dtype_copy(&self.slot, out)).map(DType::of)
     }
@@ -276,7 +276,7 @@ impl DType {
         or_abort(self.try_merge_nullability(other))
     }
 
-    /// Returns the least type that takes the values of both, if there is one, or that memory ran out.
+    /// Returns the least type that takes the values of both, if there is one, or [`Error::OutOfMemory`].
     pub fn try_merge_nullability(&self, other: &DType) -> Result<Option<DType>, Error> {
         self.with_other(other, ffi::dtype_merge_nullability)
     }
@@ -286,7 +286,7 @@ impl DType {
         or_abort(self.try_intersect_nullability(other))
     }
 
-    /// Returns the greatest type whose values both take, if there is one, or that memory ran out.
+    /// Returns the greatest type whose values both take, if there is one, or [`Error::OutOfMemory`].
     pub fn try_intersect_nullability(&self, other: &DType) -> Result<Option<DType>, Error> {
         self.with_other(other, ffi::dtype_intersect_nullability)
     }
@@ -308,7 +308,7 @@ impl DType {
         or_abort(self.try_project_paths(set))
     }
 
-    /// Returns the type as far as the paths of the set lead, if one does, or that memory ran out.
+    /// Returns the type as far as the paths of the set lead, if one does, or [`Error::OutOfMemory`].
     pub fn try_project_paths(&self, set: &FieldPathSet) -> Result<Option<DType>, Error> {
         Ok(found(|out| ffi::project_paths(&self.slot, &set.slot, out))?.map(DType::of))
     }
@@ -419,7 +419,7 @@ impl DType {
         or_abort(self.try_as_any_size_list_element_opt())
     }
 
-    /// Returns the element type of a list, of a fixed size or not, or that memory ran out.
+    /// Returns the element type of a list, of a fixed size or not, or [`Error::OutOfMemory`].
     pub fn try_as_any_size_list_element_opt(&self) -> Result<Option<DType>, Error> {
         Ok(found(|out| ffi::dtype_element(&self.slot, out))?.map(DType::of))
     }
@@ -470,7 +470,7 @@ impl DType {
         or_abort(self.try_to_source())
     }
 
-    /// Returns the console's text of the type, or that memory ran out.
+    /// Returns the console's text of the type, or [`Error::OutOfMemory`].
     pub fn try_to_source(&self) -> Result<String, Error> {
         calls::text(|buffer, length| ffi::dtype_to_text(&self.slot, buffer, length))
     }

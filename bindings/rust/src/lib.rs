@@ -1,12 +1,12 @@
 // SPDX-License-Identifier: Apache-2.0
 // SPDX-FileCopyrightText: Copyright the Vortex contributors
 
-//! The logical types of columnar data, and paths into them: safe Rust over a library that is proved.
+//! The logical types of columnar data, and paths into them: a safe interface to a library that is proved.
 //!
-//! The library is written in Rattle, Rust with contracts that a checker proves. This package calls it: a type, a path or a
-//! set of paths is a pointer to an object that the library made, and each method is one of the library's calls, under the
-//! name that it has in `vortex-array`. What the library proves holds up to that call; the Rust code here is thin and
-//! is only tested.
+//! The library is written in Rattle, which is Rust with contracts that a checker proves. In this package, a type, a
+//! path or a set of paths is a pointer to an object that the library made, and a method calls an exported function of
+//! the library. If `vortex-array` has the same method, then the method has the same name here. It is proved what the
+//! exported functions return. The Rust code between a method and its function is thin, and it is tested and not proved.
 //!
 //! ```
 //! use vortex_logical_types::{DType, FieldPath, FieldPathSet};
@@ -19,7 +19,8 @@
 //! let wanted: FieldPathSet = wanted.into_iter().collect::<Result<_, _>>()?;
 //! let projected = orders.project_paths(&wanted).expect("a column is found");
 //! assert_eq!(projected.to_source(), "{id=u64, lines=list({sku=utf8, price=decimal(10,2)?})}");
-//! // `into_iter` of a set is its cover, in no promised order: the paths that no other path of the set begins.
+//! // `into_iter` of a set yields its cover, that is, the paths of which no other path of the set is a prefix. Their
+//! // order isn't promised.
 //! let mut cover: Vec<String> = wanted.into_iter().map(|path| path.to_source()).collect();
 //! cover.sort();
 //! assert_eq!(cover, ["id", "lines.[]"]);
@@ -28,20 +29,27 @@
 //!
 //! # Texts
 //!
-//! [`FromStr`](std::str::FromStr) reads the form of the library's console, and `to_source` writes it, so that it reads back
-//! as the same value. `Display` is the text that the library itself displays, which may not read back: a name with a comma
-//! in it stands there without quotes. `Debug` has the console's form.
+//! A type or a path has three texts:
+//!
+//! - `to_source` writes the form that the library's console uses, and [`FromStr`](std::str::FromStr) reads this form.
+//!   What `to_source` writes is read back as the same value.
+//! - `Display` writes the text that the library displays. It may not be read back. For example, it writes a name that
+//!   contains a comma without quotes.
+//! - `Debug` writes the form of the console, with the name of the Rust type around it, as in `DType(utf8?)`.
 //!
 //! # Errors and memory
 //!
-//! Every call that can fail returns a [`Result`] with an [`Error`], which also says when memory ran out. A call that can
-//! fail by memory alone has two forms: the one that begins with `try_` returns the error, and the other calls
-//! [`std::alloc::handle_alloc_error`], as Rust's own collections do. A type is nested at most 128 levels deep, so that
-//! dropping it can't exhaust the stack.
+//! A call that can fail for another reason than lack of memory returns a [`Result`] with an [`Error`]. If memory runs
+//! out in such a call, the error is [`Error::OutOfMemory`]. A call that can fail only for lack of memory has two forms.
+//! The form whose name begins with `try_` returns the error. The other form calls [`std::alloc::handle_alloc_error`],
+//! which aborts the program, as Rust's own collections do.
+//!
+//! A type is nested at most 128 levels deep, so that dropping it can't exhaust the stack.
 //!
 //! # Threads
 //!
-//! Types share their parts and count them without a lock, so no object leaves the thread that made it:
+//! Types share their parts, and the owners of a part are counted without a lock. So an object stays on the thread that
+//! made it, and the compiler refuses a program that sends or shares one:
 //!
 //! ```compile_fail,E0277
 //! let dtype: vortex_logical_types::DType = "i32".parse().unwrap();
@@ -53,7 +61,7 @@
 //! std::thread::scope(|scope| { scope.spawn(|| path.is_root()); });
 //! ```
 //!
-//! The text of a type can be sent, from which the other thread reads a type of its own:
+//! To take a type to another thread, send its text. The other thread reads a type of its own from it:
 //!
 //! ```
 //! use vortex_logical_types::DType;
@@ -72,9 +80,10 @@
 //!
 //! # Messages
 //!
-//! [`Message`] is the protobuf message of a type, without the bytes of protobuf: a program that decodes these writes what
-//! it decoded into [`Node`]s, and the library reads the type from them and says what is wrong with a message that
-//! describes none.
+//! [`Message`] is the protobuf message of a type. This package doesn't read or write the bytes of protobuf. If your
+//! program decodes these bytes, it writes what it decoded as a list of [`Node`]s and passes them to
+//! [`Message::from_nodes`]. Then [`DType::from_proto`] returns the type that the message describes, or the error that
+//! says what is wrong with the message.
 #![deny(unsafe_code, missing_docs, missing_debug_implementations)]
 
 pub use console::answer;

@@ -46,7 +46,7 @@ impl FieldMask {
         or_abort(FieldMask::try_all())
     }
 
-    /// Returns the mask that all paths match, or that memory ran out.
+    /// Returns the mask that all paths match, or [`Error::OutOfMemory`].
     pub fn try_all() -> Result<FieldMask, Error> {
         made(ffi::mask_all).map(FieldMask::of)
     }
@@ -56,7 +56,7 @@ impl FieldMask {
         or_abort(FieldMask::try_prefix(path))
     }
 
-    /// Returns the mask that a path matches if it begins with this one, or that memory ran out.
+    /// Returns the mask that a path matches if it begins with this one, or [`Error::OutOfMemory`].
     pub fn try_prefix(path: &FieldPath) -> Result<FieldMask, Error> {
         made(|out| ffi::mask_prefix(&path.slot, out)).map(FieldMask::of)
     }
@@ -66,7 +66,7 @@ impl FieldMask {
         or_abort(FieldMask::try_exact(path))
     }
 
-    /// Returns the mask that this path alone matches, or that memory ran out.
+    /// Returns the mask that this path alone matches, or [`Error::OutOfMemory`].
     pub fn try_exact(path: &FieldPath) -> Result<FieldMask, Error> {
         made(|out| ffi::mask_exact(&path.slot, out)).map(FieldMask::of)
     }
@@ -85,7 +85,7 @@ impl FieldMask {
         or_abort(self.try_path())
     }
 
-    /// Returns the path, unless all paths match, or that memory ran out.
+    /// Returns the path, unless all paths match, or [`Error::OutOfMemory`].
     pub fn try_path(&self) -> Result<Option<FieldPath>, Error> {
         Ok(found(|out| ffi::mask_path(&self.slot, out))?.map(FieldPath::of))
     }
@@ -116,7 +116,7 @@ impl FieldMask {
         holds(ffi::mask_matches_root(&self.slot))
     }
 
-    /// Returns a copy, or that memory ran out.
+    /// Returns a copy, or [`Error::OutOfMemory`].
     pub fn try_clone(&self) -> Result<FieldMask, Error> {
         made(|out| ffi::mask_copy(&self.slot, out)).map(FieldMask::of)
     }

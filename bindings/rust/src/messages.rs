@@ -144,7 +144,7 @@ impl Message {
         made(|out| ffi::message_normal(&self.slot, unknown.are_allowed(), out)).map(Message::of)
     }
 
-    /// Returns a copy, or that memory ran out.
+    /// Returns a copy, or [`Error::OutOfMemory`].
     pub fn try_clone(&self) -> Result<Message, Error> {
         made(|out| ffi::message_copy(&self.slot, out)).map(Message::of)
     }
@@ -154,7 +154,7 @@ impl Message {
         or_abort(self.try_to_source())
     }
 
-    /// Returns protobuf's text format of the message, or that memory ran out.
+    /// Returns protobuf's text format of the message, or [`Error::OutOfMemory`].
     pub fn try_to_source(&self) -> Result<String, Error> {
         calls::text(|buffer, length| ffi::message_to_text(&self.slot, buffer, length))
     }
@@ -175,7 +175,7 @@ impl DType {
         or_abort(self.try_to_proto())
     }
 
-    /// Returns the message that describes the type, or that memory ran out.
+    /// Returns the message that describes the type, or [`Error::OutOfMemory`].
     pub fn try_to_proto(&self) -> Result<Message, Error> {
         made(|out| ffi::dtype_to_message(&self.slot, out)).map(Message::of)
     }

@@ -36,7 +36,7 @@ impl StructFields<'_> {
         or_abort(self.try_field_name(index))
     }
 
-    /// Returns the name of the field at the position, or that memory ran out.
+    /// Returns the name of the field at the position, or [`Error::OutOfMemory`].
     pub fn try_field_name(&self, index: usize) -> Result<Option<String>, Error> {
         calls::text_found(|buffer, length| ffi::struct_field_name(&self.dtype.slot, index, buffer, length))
     }
@@ -56,7 +56,7 @@ impl StructFields<'_> {
         or_abort(self.try_field(name))
     }
 
-    /// Returns the type of the first field of the name, or that memory ran out.
+    /// Returns the type of the first field of the name, or [`Error::OutOfMemory`].
     pub fn try_field(&self, name: &str) -> Result<Option<DType>, Error> {
         Ok(found(|out| ffi::struct_field(&self.dtype.slot, name.as_bytes(), out))?.map(DType::of))
     }
@@ -66,7 +66,7 @@ impl StructFields<'_> {
         or_abort(self.try_field_by_index(index))
     }
 
-    /// Returns the type of the field at the position, or that memory ran out.
+    /// Returns the type of the field at the position, or [`Error::OutOfMemory`].
     pub fn try_field_by_index(&self, index: usize) -> Result<Option<DType>, Error> {
         Ok(found(|out| ffi::struct_field_by_index(&self.dtype.slot, index, out))?.map(DType::of))
     }
@@ -113,7 +113,7 @@ impl StructFields<'_> {
         or_abort(self.try_indented())
     }
 
-    /// Returns the fields as the library indents them, or that memory ran out.
+    /// Returns the fields as the library indents them, or [`Error::OutOfMemory`].
     pub fn try_indented(&self) -> Result<String, Error> {
         calls::text(|buffer, length| ffi::struct_indented(&self.dtype.slot, buffer, length))
     }
@@ -148,7 +148,7 @@ impl UnionVariants<'_> {
         or_abort(self.try_variant_name(index))
     }
 
-    /// Returns the name of the variant at the position, or that memory ran out.
+    /// Returns the name of the variant at the position, or [`Error::OutOfMemory`].
     pub fn try_variant_name(&self, index: usize) -> Result<Option<String>, Error> {
         calls::text_found(|buffer, length| ffi::union_variant_name(&self.dtype.slot, index, buffer, length))
     }
@@ -173,7 +173,7 @@ impl UnionVariants<'_> {
         or_abort(self.try_variant(name))
     }
 
-    /// Returns the type of the variant of the name, or that memory ran out.
+    /// Returns the type of the variant of the name, or [`Error::OutOfMemory`].
     pub fn try_variant(&self, name: &str) -> Result<Option<DType>, Error> {
         Ok(found(|out| ffi::union_variant(&self.dtype.slot, name.as_bytes(), out))?.map(DType::of))
     }
@@ -183,7 +183,7 @@ impl UnionVariants<'_> {
         or_abort(self.try_variant_by_index(index))
     }
 
-    /// Returns the type of the variant at the position, or that memory ran out.
+    /// Returns the type of the variant at the position, or [`Error::OutOfMemory`].
     pub fn try_variant_by_index(&self, index: usize) -> Result<Option<DType>, Error> {
         Ok(found(|out| ffi::union_variant_by_index(&self.dtype.slot, index, out))?.map(DType::of))
     }
@@ -231,7 +231,7 @@ impl MapDType<'_> {
         or_abort(self.try_key_dtype())
     }
 
-    /// Returns the type of the keys, or that memory ran out.
+    /// Returns the type of the keys, or [`Error::OutOfMemory`].
     pub fn try_key_dtype(&self) -> Result<DType, Error> {
         made(|out| ffi::dtype_key(&self.dtype.slot, out)).map(DType::of)
     }
@@ -241,7 +241,7 @@ impl MapDType<'_> {
         or_abort(self.try_value_dtype())
     }
 
-    /// Returns the type of the values, or that memory ran out.
+    /// Returns the type of the values, or [`Error::OutOfMemory`].
     pub fn try_value_dtype(&self) -> Result<DType, Error> {
         made(|out| ffi::dtype_value(&self.dtype.slot, out)).map(DType::of)
     }
@@ -282,7 +282,7 @@ impl ExtDTypeRef<'_> {
         or_abort(self.try_id())
     }
 
-    /// Returns the id, or that memory ran out.
+    /// Returns the id, or [`Error::OutOfMemory`].
     pub fn try_id(&self) -> Result<String, Error> {
         calls::text(|buffer, length| ffi::dtype_id(&self.dtype.slot, buffer, length))
     }
@@ -292,7 +292,7 @@ impl ExtDTypeRef<'_> {
         or_abort(self.try_metadata_bytes())
     }
 
-    /// Returns the bytes of the metadata, or that memory ran out.
+    /// Returns the bytes of the metadata, or [`Error::OutOfMemory`].
     pub fn try_metadata_bytes(&self) -> Result<Vec<u8>, Error> {
         Ok(calls::bytes_found(|buffer, length| ffi::dtype_metadata(&self.dtype.slot, buffer, length))?
             .unwrap_or_default())
@@ -303,7 +303,7 @@ impl ExtDTypeRef<'_> {
         or_abort(self.try_storage_dtype())
     }
 
-    /// Returns the type in which values are stored, or that memory ran out.
+    /// Returns the type in which values are stored, or [`Error::OutOfMemory`].
     pub fn try_storage_dtype(&self) -> Result<DType, Error> {
         made(|out| ffi::dtype_storage(&self.dtype.slot, out)).map(DType::of)
     }

@@ -75,7 +75,7 @@ impl FieldPath {
         or_abort(FieldPath::try_root())
     }
 
-    /// Returns the path of no step, or that memory ran out.
+    /// Returns the path of no step, or [`Error::OutOfMemory`].
     pub fn try_root() -> Result<FieldPath, Error> {
         made(ffi::path_root).map(FieldPath::of)
     }
@@ -85,7 +85,7 @@ impl FieldPath {
         or_abort(FieldPath::try_from_name(name))
     }
 
-    /// Returns the path of one step, into the field of this name, or that memory ran out.
+    /// Returns the path of one step, into the field of this name, or [`Error::OutOfMemory`].
     pub fn try_from_name(name: &str) -> Result<FieldPath, Error> {
         FieldPath::of_steps(name.as_bytes(), &[name.len()])
     }
@@ -95,7 +95,7 @@ impl FieldPath {
         or_abort(FieldPath::try_from_iter([field.into()]))
     }
 
-    /// Returns the path of these steps, or that memory ran out. The iterator ends before the library is called.
+    /// Returns the path of these steps, or [`Error::OutOfMemory`]. The iterator ends before the library is called.
     pub fn try_from_iter(parts: impl IntoIterator<Item = impl Into<Field>>) -> Result<FieldPath, Error> {
         let mut steps = Names::default();
         for part in parts {
@@ -116,7 +116,7 @@ impl FieldPath {
         or_abort(self.try_parts())
     }
 
-    /// Returns the steps, or that memory ran out.
+    /// Returns the steps, or [`Error::OutOfMemory`].
     pub fn try_parts(&self) -> Result<Vec<Field>, Error> {
         let mut parts = Vec::new();
         parts.try_reserve_exact(self.len()).map_err(|_| Error::OutOfMemory)?;
@@ -142,7 +142,7 @@ impl FieldPath {
         or_abort(self.try_push(field))
     }
 
-    /// Returns the path with one more step, or that memory ran out.
+    /// Returns the path with one more step, or [`Error::OutOfMemory`].
     pub fn try_push(&self, field: impl Into<Field>) -> Result<FieldPath, Error> {
         match field.into() {
             Field::Name(name) => made(|out| ffi::path_push_name(&self.slot, name.as_bytes(), out)),
@@ -164,7 +164,7 @@ impl FieldPath {
         or_abort(self.try_step_into())
     }
 
-    /// Returns the path without its first step, if it has one, or that memory ran out.
+    /// Returns the path without its first step, if it has one, or [`Error::OutOfMemory`].
     pub fn try_step_into(&self) -> Result<Option<FieldPath>, Error> {
         Ok(found(|out| ffi::path_step_into(&self.slot, out))?.map(FieldPath::of))
     }
@@ -174,7 +174,7 @@ impl FieldPath {
         or_abort(self.try_resolve(dtype))
     }
 
-    /// Returns the type at the path, if there is one, or that memory ran out.
+    /// Returns the type at the path, if there is one, or [`Error::OutOfMemory`].
     pub fn try_resolve(&self, dtype: &DType) -> Result<Option<DType>, Error> {
         Ok(found(|out| ffi::path_resolve(&dtype.slot, &self.slot, out))?.map(DType::of))
     }
@@ -189,7 +189,7 @@ impl FieldPath {
         ptr::eq(self, other) || holds(ffi::path_overlap(&self.slot, &other.slot))
     }
 
-    /// Returns a copy, or that memory ran out.
+    /// Returns a copy, or [`Error::OutOfMemory`].
     pub fn try_clone(&self) -> Result<FieldPath, Error> {
         made(|out| ffi::path_copy(&self.slot, out)).map(FieldPath::of)
     }
@@ -199,7 +199,7 @@ impl FieldPath {
         or_abort(self.try_to_source())
     }
 
-    /// Returns the console's text of the path, or that memory ran out.
+    /// Returns the console's text of the path, or [`Error::OutOfMemory`].
     pub fn try_to_source(&self) -> Result<String, Error> {
         calls::text(|buffer, length| ffi::path_to_text(&self.slot, buffer, length))
     }

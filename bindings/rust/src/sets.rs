@@ -21,7 +21,7 @@ use std::fmt;
 /// }
 /// assert_eq!(set.len(), 3);
 /// assert!(set.contains(&FieldPath::from_name("x")));
-/// // The cover has the paths that no other path of the set begins, in no promised order.
+/// // The cover contains the paths of which no other path of the set is a prefix. Their order isn't promised.
 /// let mut cover: Vec<String> = set.cover().map(|it| it.to_source()).collect();
 /// cover.sort();
 /// assert_eq!(cover, ["a", "x"]);
@@ -31,14 +31,14 @@ pub struct FieldPathSet {
     pub(crate) slot: Slot,
 }
 
-/// What a set of paths says below a path: see [`FieldPathSet::below`].
+/// How the paths of a set continue after a path: see [`FieldPathSet::below`].
 #[derive(Debug, Clone, Copy, PartialEq, Eq, Hash)]
 pub struct Below {
     /// Whether the path itself is in the set.
     pub is_end: bool,
-    /// Whether a path of the set goes on with the step into the element.
+    /// Whether a path of the set continues with the step into the element.
     pub has_element: bool,
-    /// By how many names paths of the set go on.
+    /// The number of names with which paths of the set continue.
     pub name_count: usize,
 }
 
@@ -48,12 +48,12 @@ impl FieldPathSet {
         or_abort(FieldPathSet::try_new())
     }
 
-    /// Returns the empty set, or that memory ran out.
+    /// Returns the empty set, or [`Error::OutOfMemory`].
     pub fn try_new() -> Result<FieldPathSet, Error> {
         made(ffi::set_new).map(|slot| FieldPathSet { slot })
     }
 
-    /// Returns the set of these paths, or that memory ran out. The iterator ends before the library is called.
+    /// Returns the set of these paths, or [`Error::OutOfMemory`]. The iterator ends before the library is called.
     pub fn try_from_iter(paths: impl IntoIterator<Item = impl Borrow<FieldPath>>) -> Result<FieldPathSet, Error> {
         let mut set = FieldPathSet::try_new()?;
         set.try_extend(paths)?;
@@ -65,13 +65,13 @@ impl FieldPathSet {
         or_abort(self.try_insert(path));
     }
 
-    /// Inserts a path, or says that memory ran out. Then the set is as it was.
+    /// Inserts a path. If memory runs out, the call returns [`Error::OutOfMemory`] and the set is unchanged.
     pub fn try_insert(&mut self, path: impl Borrow<FieldPath>) -> Result<(), Error> {
         inserted(ffi::set_insert(&self.slot, &path.borrow().slot))
     }
 
-    /// Inserts paths, or says that memory ran out; then the set has the paths before the one that failed. The iterator ends
-    /// before the first path is inserted.
+    /// Inserts paths, after the iterator has yielded all of them. If memory runs out, the call returns
+    /// [`Error::OutOfMemory`], and the set contains the paths before the one whose insertion failed.
     pub fn try_extend(&mut self, paths: impl IntoIterator<Item = impl Borrow<FieldPath>>) -> Result<(), Error> {
         let mut given = Vec::new();
         for path in paths {
@@ -86,12 +86,12 @@ impl FieldPathSet {
         holds(ffi::set_contains(&self.slot, &path.slot))
     }
 
-    /// Returns how many paths are in the set. The library lists them for that, so this takes memory.
+    /// Returns the number of paths in the set. The library makes a list of the paths to count them, so this allocates.
     pub fn len(&self) -> usize {
         or_abort(self.try_len())
     }
 
-    /// Returns how many paths are in the set, or that memory ran out.
+    /// Returns how many paths are in the set, or [`Error::OutOfMemory`].
     pub fn try_len(&self) -> Result<usize, Error> {
         value(|count| ffi::set_len(&self.slot, count)).map(Option::unwrap_or_default)
     }
@@ -106,33 +106,34 @@ impl FieldPathSet {
         or_abort(self.try_iter())
     }
 
-    /// Returns the paths of the set, each once, or that memory ran out.
+    /// Returns the paths of the set, each once, or [`Error::OutOfMemory`].
     pub fn try_iter(&self) -> Result<Paths, Error> {
         made(|out| ffi::set_members(&self.slot, out)).map(Paths::of)
     }
 
-    /// Returns the cover, in no promised order: the fewest paths of the set such that each path of it begins with one of
-    /// them.
+    /// Returns the cover, in no promised order: those paths of the set of which no other path of the set is a prefix. For
+    /// example, the cover of `a.b`, `x` and `a` is `a` and `x`.
     pub fn cover(&self) -> Paths {
         or_abort(self.try_cover())
     }
 
-    /// Returns the cover, or that memory ran out.
+    /// Returns the cover, or [`Error::OutOfMemory`].
     pub fn try_cover(&self) -> Result<Paths, Error> {
         made(|out| ffi::set_cover(&self.slot, out)).map(Paths::of)
     }
 
-    /// Returns the paths of the set at which the type has nothing, in no promised order.
+    /// Returns the paths of the set that don't exist in the type, in no promised order.
     pub fn unresolved(&self, dtype: &DType) -> Paths {
         or_abort(self.try_unresolved(dtype))
     }
 
-    /// Returns the paths of the set at which the type has nothing, or that memory ran out.
+    /// Returns the paths of the set that don't exist in the type, or [`Error::OutOfMemory`].
     pub fn try_unresolved(&self, dtype: &DType) -> Result<Paths, Error> {
         made(|out| ffi::set_unresolved(&self.slot, &dtype.slot, out)).map(Paths::of)
     }
 
-    /// Returns what the set says below a path, or `None` if no path of the set begins with it. Nothing is copied.
+    /// Returns how the paths of the set continue after this path, or `None` if it is a prefix of no path of the set. Nothing
+    /// is copied.
     ///
     /// ```
     /// # use vortex_logical_types::{Below, FieldPath, FieldPathSet};
@@ -149,12 +150,13 @@ impl FieldPathSet {
         holds(ffi::set_below(&self.slot, &path.slot, is_end, has_element, name_count)).then_some(below)
     }
 
-    /// Returns the names by which paths of the set go on below a path, or `None` if no path of the set begins with it.
+    /// Returns the names with which paths of the set continue after this path, or `None` if it is a prefix of no path of the
+    /// set.
     pub fn names_below(&self, path: &FieldPath) -> Option<Vec<String>> {
         or_abort(self.try_names_below(path))
     }
 
-    /// Returns the names by which paths of the set go on below a path, or that memory ran out.
+    /// Returns the names with which paths of the set continue after this path, or [`Error::OutOfMemory`].
     pub fn try_names_below(&self, path: &FieldPath) -> Result<Option<Vec<String>>, Error> {
         let Some(paths) = found(|out| ffi::set_names_below(&self.slot, &path.slot, out))?.map(Paths::of) else {
             return Ok(None);
@@ -170,7 +172,7 @@ impl FieldPathSet {
         Ok(Some(names))
     }
 
-    /// Returns a copy, or that memory ran out.
+    /// Returns a copy, or [`Error::OutOfMemory`].
     pub fn try_clone(&self) -> Result<FieldPathSet, Error> {
         made(|out| ffi::set_copy(&self.slot, out)).map(|slot| FieldPathSet { slot })
     }
@@ -239,7 +241,7 @@ impl Paths {
         made(|out| ffi::paths_get(&self.list, index, out)).map(FieldPath::of)
     }
 
-    /// Returns the next path, or that memory ran out. Then the same path is the next again.
+    /// Returns the next path, or [`Error::OutOfMemory`]. Then the same path is the next again.
     pub fn try_next(&mut self) -> Result<Option<FieldPath>, Error> {
         if self.next == self.end {
             return Ok(None);

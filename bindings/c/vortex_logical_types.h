@@ -1,36 +1,57 @@
 // SPDX-License-Identifier: Apache-2.0
 // SPDX-FileCopyrightText: Copyright the Vortex contributors
 
-/* The logical types of columnar data, and paths into them: the C interface of a library that is proved up to the
- * functions below. Each of them has a contract in crates/vortex_logical_types that says what it returns.
+/* The logical types of columnar data, and paths into them: the C interface of a library that is proved. Each function
+ * below that the library exports has a contract in crates/vortex_logical_types. The contract says what the function
+ * returns and what its slots contain afterwards, and it is proved. The inline functions at the end of this header
+ * aren't proved.
  *
- * Slots. An object (a type, a path, a set of paths ..) stands in a slot, which owns it. Begin a slot as {0}, which is
- * empty, and empty it with vlt_free when it isn't needed any more. Never copy a slot by =, because then two slots own one
- * object. A slot that a call reads keeps its object. The slot `out` takes the result if the call returns VLT_DONE, and
- * what was in it before is dropped then; after any other return it is as it was. Two slots of one call must differ; if
- * they don't, the call returns VLT_SAME_SLOT and changes nothing.
+ * Slots. A slot is a place for one object (a type, a path, a set of paths and so on), and it owns the object.
+ * Initialise a slot with {0}, which makes it empty. When you no longer need its object, call vlt_free, which drops the
+ * object and leaves the slot empty. Never copy a slot by =, because then two slots own one object. A slot that a call
+ * only reads keeps its object. If the comment of a function says that it puts something, the function puts it into the
+ * slot `out`: if the call returns VLT_DONE, it drops the object that `out` contained before and puts the result there.
+ * If the call returns any other number, `out` is unchanged. The slots of one call must be different. If two of them are
+ * the same, the call returns VLT_SAME_SLOT and changes nothing.
  *
- * Results. Each call returns a number: 0 (VLT_DONE: done, or true), 1 (VLT_NONE: none, or false), 2 to 99 for what is wrong
- * with the arguments, or 100 + n for the error n of the library, of which 100 is that memory ran out. vlt_error_text
- * returns what a number means.
+ * Results. Each call returns a number, except vlt_free, vlt_kind and vlt_abi_version:
  *
- * Texts and bytes. They come in as a pointer and a length, may contain zero bytes, and are copied. The pointer may be null
- * if the length is 0. They go out into `buffer`, of which `buffer_len` says how large it is: on VLT_DONE `*length` bytes
- * were written, without a zero byte behind them. If the buffer is too small, the call returns VLT_SMALL, `*length` is
- * the size that is needed, and nothing is written. So a call with the buffer null and the length 0 asks for the size.
- * Several names come in as one text, `names`, in which they stand one behind the other with nothing between, and the
- * length of each, `name_lengths`. In the steps of a path a length of VLT_ELEMENT stands for the step into the element
- * of a list, and has no bytes in `names`. A step that goes out as VLT_ELEMENT in `*length` has written no bytes.
+ *     0 (VLT_DONE)         The call has succeeded. If it is a test, the answer is true.
+ *     1 (VLT_NONE)         There is no result, for example because a struct has no field of a name. If the call is a
+ *                          test, the answer is false.
+ *     2 to 99              An argument is wrong. Each of these numbers has a name below.
+ *     100 (VLT_LIBRARY)    Memory ran out.
+ *     100 + n              The library returned its error number n.
  *
- * Messages. A program that decodes protobuf by itself writes what it decoded as an array of vlt_node and the bytes of the
- * texts, one behind the other; vlt_message_from_nodes reads them. Where the nodes go out, both buffers have to be large
- * enough, and on VLT_SMALL `*node_count` and `*text_length` are the sizes that are needed.
+ * vlt_error_text writes what a number means.
  *
- * What the caller owes, and no call can test: pointers are valid for their lengths; a pointer to a slot or to an
- * out-parameter isn't null, and neither it nor a buffer overlaps another argument of the call; a slot is empty or was
- * filled by the library; and an object, with all that was copied from it, stays on the thread that made it, because
- * types share their parts and count them without a lock. To take a type to another thread, send its text, or the nodes
- * and texts of its message. */
+ * Texts and bytes that are passed in. A call takes a pointer and a length, and copies the bytes. They may contain zero
+ * bytes. The pointer may be null if the length is 0. Several names are passed as two arrays: `names` contains the bytes
+ * of all names, one name directly after the other, and `name_lengths` contains the length of each name. For example,
+ * the names "id" and "city" are the bytes "idcity" with the lengths 2 and 4. Among the steps of a path, the length
+ * VLT_ELEMENT means the step to the element of a list. This step has no bytes in `names`.
+ *
+ * Texts and bytes that are returned. The call writes them to `buffer`, which has room for `buffer_len` bytes. If it
+ * returns VLT_DONE, it has written `*length` bytes, and no zero byte after them. If the buffer is too small, it returns
+ * VLT_SMALL, writes nothing to the buffer, and sets `*length` to the size that is needed. So you can find the size with
+ * a buffer that is null and a `buffer_len` of 0. If a step of a path is returned and `*length` is VLT_ELEMENT, then the
+ * step is the one to the element, and no bytes were written.
+ *
+ * Messages. The library doesn't read the bytes of protobuf. A program that decodes them by itself writes what it
+ * decoded as an array of vlt_node and as the bytes of all texts, one text directly after the other, and passes both to
+ * vlt_message_from_nodes. In the other direction, vlt_message_to_nodes has one buffer for the nodes and one for the
+ * bytes. If one of the two is too small, it returns VLT_SMALL and sets `*node_count` and `*text_length` to the sizes
+ * that are needed.
+ *
+ * What the caller must ensure, because no call can test it:
+ *
+ * - A pointer is valid for its length.
+ * - A pointer to a slot, or to a place where a call writes a number, isn't null. No other argument of the call overlaps
+ *   such a place or a buffer.
+ * - A slot is empty, or it was filled by the library.
+ * - An object stays on the thread that made it, and so does every object that was copied from it, because types share
+ *   their parts and the owners of a part are counted without a lock. To take a type to another thread, send its text,
+ *   or the nodes and texts of its message. */
 #ifndef VORTEX_LOGICAL_TYPES_H
 #define VORTEX_LOGICAL_TYPES_H
 
@@ -42,7 +63,7 @@
 extern "C" {
 #endif
 
-/* A place for one object, which it owns, or for none. */
+/* A place for one object, which it owns. A slot may also be empty. */
 typedef struct {
     void *at;
 } vlt_slot;
@@ -50,43 +71,43 @@ typedef struct {
 /* The version of the interface that this header declares. vlt_abi_version returns that of the library. */
 #define VLT_ABI_VERSION 1u
 
-/* The length that stands for the step into an element, in place of that of a name. */
+/* The length of a step of a path that isn't a name, but the step to the element of a list. */
 #define VLT_ELEMENT ((size_t)-1)
 
-/* An address for no items at all, since a null pointer isn't accepted for them. */
+/* Returns an address that the inline functions pass for no items, because the library doesn't accept a null pointer. */
 static inline void *vlt_no_items(void) {
     static size_t none[2];
     return none;
 }
 
-/* Whether a slot is one of these. */
+/* Returns whether `slot` is one of the `slots_len` slots that begin at `slots`. */
 static inline bool vlt_is_among(const vlt_slot *slot, const vlt_slot *slots, size_t slots_len) {
     return (uintptr_t)slot - (uintptr_t)slots < slots_len * sizeof(vlt_slot);
 }
 
 /* begin of what tools/bindings writes */
 /* What a call returns. */
-/* It is done, or it is true. */
+/* The call has succeeded, or the answer is true. */
 #define VLT_DONE 0u
-/* There is none, or it is false. */
+/* There is no result, or the answer is false. */
 #define VLT_NONE 1u
-/* A slot is empty, or its object has another kind than the call takes. */
+/* A slot is empty, or its object isn't of the kind that the call takes. */
 #define VLT_KIND 2u
 /* A text isn't UTF-8. */
 #define VLT_UTF8 3u
-/* A text can't be read. The out-parameter has the byte's position, from 1. */
+/* A text can't be read. `*position` is the first byte that doesn't fit, counted from 1. */
 #define VLT_UNREADABLE 4u
 /* The call has a precondition, and the arguments don't meet it. */
 #define VLT_CONDITION 5u
 /* A type would be nested more than 128 levels deep. */
 #define VLT_DEEP 6u
-/* A buffer is too small. The out-parameter has the size that is needed. */
+/* A buffer is too small. The length that the call writes is the size that is needed. */
 #define VLT_SMALL 7u
-/* Two slots of the call are one. */
+/* Two slots of the call are the same slot. */
 #define VLT_SAME_SLOT 8u
 /* An argument is out of its range. */
 #define VLT_RANGE 9u
-/* The library's error 0, out of memory. Its error n, up to 36, is this number and n. */
+/* Memory ran out, which is the library's error 0. The library's error n, up to 36, is this number plus n. */
 #define VLT_LIBRARY 100u
 
 /* A message, a text or a tag in the flat form. A message is followed by its texts, its tags and then its parts, each
@@ -556,10 +577,10 @@ uint32_t vlt_message_to_nodes(
         vlt_slot *message, vlt_node *nodes, size_t nodes_len, size_t *node_count, uint8_t *texts, size_t texts_len,
         size_t *text_length);
 
-/* A call of a function above that takes two slots, or a pointer and a length, is a call of the inline
- * function below: it returns VLT_SAME_SLOT if two of the slots are one, because the proofs of the exports suppose
- * that they differ. It returns VLT_RANGE for a null pointer with a length above 0, and passes a pointer
- * that isn't null if the length is 0. */
+/* If you call a function above that takes two slots, or a pointer and a length, then you call an inline function
+ * below, which checks the arguments and then calls the function. If two of the slots are the same, it returns
+ * VLT_SAME_SLOT, because the proof of the function requires that they differ. If a pointer is null and its length
+ * is above 0, it returns VLT_RANGE. If a length is 0, it passes a pointer that isn't null. */
 
 static inline uint32_t vlt_checked_answer(
         const uint8_t *line, size_t line_len, uint8_t *buffer, size_t buffer_len, size_t *length) {

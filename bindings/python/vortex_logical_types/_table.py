@@ -19,27 +19,27 @@ class Slot(ctypes.Structure):
 
 
 # begin of what tools/bindings writes
-# It is done, or it is true.
+# The call has succeeded, or the answer is true.
 DONE = 0
-# There is none, or it is false.
+# There is no result, or the answer is false.
 NONE = 1
-# A slot is empty, or its object has another kind than the call takes.
+# A slot is empty, or its object isn't of the kind that the call takes.
 KIND = 2
 # A text isn't UTF-8.
 UTF8 = 3
-# A text can't be read. The out-parameter has the byte's position, from 1.
+# A text can't be read. `*position` is the first byte that doesn't fit, counted from 1.
 UNREADABLE = 4
 # The call has a precondition, and the arguments don't meet it.
 CONDITION = 5
 # A type would be nested more than 128 levels deep.
 DEEP = 6
-# A buffer is too small. The out-parameter has the size that is needed.
+# A buffer is too small. The length that the call writes is the size that is needed.
 SMALL = 7
-# Two slots of the call are one.
+# Two slots of the call are the same slot.
 SAME_SLOT = 8
 # An argument is out of its range.
 RANGE = 9
-# The library's error 0, out of memory. Its error n, up to 36, is this number and n.
+# Memory ran out, which is the library's error 0. The library's error n, up to 36, is this number plus n.
 LIBRARY = 100
 
 

@@ -68,27 +68,27 @@ impl Drop for Slot {
 }
 
 // begin of what tools/bindings writes
-/// It is done, or it is true.
+/// The call has succeeded, or the answer is true.
 pub(crate) const DONE: u32 = 0;
-/// There is none, or it is false.
+/// There is no result, or the answer is false.
 pub(crate) const NONE: u32 = 1;
-/// A slot is empty, or its object has another kind than the call takes.
+/// A slot is empty, or its object isn't of the kind that the call takes.
 pub(crate) const KIND: u32 = 2;
 /// A text isn't UTF-8.
 pub(crate) const UTF8: u32 = 3;
-/// A text can't be read. The out-parameter has the byte's position, from 1.
+/// A text can't be read. `*position` is the first byte that doesn't fit, counted from 1.
 pub(crate) const UNREADABLE: u32 = 4;
 /// The call has a precondition, and the arguments don't meet it.
 pub(crate) const CONDITION: u32 = 5;
 /// A type would be nested more than 128 levels deep.
 pub(crate) const DEEP: u32 = 6;
-/// A buffer is too small. The out-parameter has the size that is needed.
+/// A buffer is too small. The length that the call writes is the size that is needed.
 pub(crate) const SMALL: u32 = 7;
-/// Two slots of the call are one.
+/// Two slots of the call are the same slot.
 pub(crate) const SAME_SLOT: u32 = 8;
 /// An argument is out of its range.
 pub(crate) const RANGE: u32 = 9;
-/// The library's error 0, out of memory. Its error n, up to 36, is this number and n.
+/// Memory ran out, which is the library's error 0. The library's error n, up to 36, is this number plus n.
 pub(crate) const LIBRARY: u32 = 100;
 
 /// A message, a text or a tag in the flat form. A message is followed by its texts, its tags and then its parts, each

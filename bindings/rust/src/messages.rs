@@ -1,7 +1,7 @@
 // SPDX-License-Identifier: Apache-2.0
 // SPDX-FileCopyrightText: Copyright the Vortex contributors
 
-//! Messages of types: what a schema says in protobuf, without its bytes.
+//! Messages of types: the protobuf message of a schema, without the bytes of protobuf.
 use crate::calls::{self, Names, holds, made, or_abort, read, room};
 use crate::dtype::DType;
 use crate::error::Error;
@@ -11,8 +11,8 @@ use std::fmt;
 use std::ptr;
 use std::str::FromStr;
 
-/// The message of a type, as it is in protobuf's text format and in the flat form. A message may describe no type: then
-/// [`DType::from_proto`] returns why not.
+/// The message of a type. It is read from protobuf's text format or from the flat form. A message may describe no type.
+/// Then [`DType::from_proto`] returns the error that says what is wrong with it.
 ///
 /// ```
 /// use vortex_logical_types::{DType, Message, UnknownIds};
@@ -37,9 +37,9 @@ pub enum UnknownIds {
     Allow,
 }
 
-/// A message in the flat form: its nodes in pre-order, and the bytes of its texts, one behind the other. Both are plain
-/// data, so a flat message can be sent to another thread, and a program that has decoded the bytes of a message can write
-/// the nodes by itself. See [`Node`] for what a node says.
+/// A message in the flat form: its nodes in pre-order, and the bytes of its texts, one text directly after the other. Both
+/// are plain data, so a flat message can be sent to another thread, and a program that has decoded the bytes of a message
+/// can write the nodes by itself. [`Node`] explains the fields of a node.
 ///
 /// ```
 /// use vortex_logical_types::{DType, FlatMessage, Message, Node, UnknownIds};

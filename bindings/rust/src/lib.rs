@@ -40,9 +40,18 @@
 //! # Errors and memory
 //!
 //! A call that can fail for another reason than lack of memory returns a [`Result`] with an [`Error`]. If memory runs
-//! out in such a call, the error is [`Error::OutOfMemory`]. A call that can fail only for lack of memory has two forms.
-//! The form whose name begins with `try_` returns the error. The other form calls [`std::alloc::handle_alloc_error`],
-//! which aborts the program, as Rust's own collections do.
+//! out in such a call, the error is [`Error::OutOfMemory`].
+//!
+//! If a call can fail only for lack of memory and memory runs out, it calls [`std::alloc::handle_alloc_error`], which
+//! aborts the program, as Rust's own collections do. Almost every such call has a second form, whose name begins with
+//! `try_` and which returns the error. For example, [`FieldPath::try_push`] is the second form of [`FieldPath::push`].
+//! These have none:
+//!
+//! - `names`, `fields` and `variants` of structs and unions: call `try_field_name`, `try_field_by_index`,
+//!   `try_variant_name` or `try_variant_by_index` for each index instead.
+//! - [`FieldPathSet::is_empty`]: call [`FieldPathSet::try_len`] instead.
+//! - [`FieldPath::from_field`]: call [`FieldPath::try_from_iter`] instead.
+//! - `next_back` of [`Paths`]: call [`Paths::try_next`], which begins at the other end.
 //!
 //! A type is nested at most 128 levels deep, so that dropping it can't exhaust the stack.
 //!

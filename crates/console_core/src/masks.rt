@@ -30,7 +30,7 @@ pub fn rows() -> &'static [Row] {
 #[rattlefmt::skip]
 const ROWS: [Row; 6] = [
     Row("mask", "MASK", "prefix a.b", "the mask itself", "", Masks(MaskCommand::Query(MaskQuery::Mask))),
-    Row("mask_step_into", "MASK", "exact .", "the mask after its path's first step", "ExactRoot (20)", Masks(MaskCommand::Query(MaskQuery::MaskStepInto))),
+    Row("mask_step_into", "MASK", "exact .", "the mask of what is selected below the first step of the mask's path. For example, for prefix a.b the answer is prefix b.", "ExactRoot (20)", Masks(MaskCommand::Query(MaskQuery::MaskStepInto))),
     Row("starting_field", "MASK", "all", "the first step of the mask's path, or none at the root", "AllMask (21)", Masks(MaskCommand::Query(MaskQuery::StartingField))),
     Row("matches_all", "MASK", "prefix .", "whether the mask selects every path", "", Masks(MaskCommand::Query(MaskQuery::MatchesAll))),
     Row("matches_root", "MASK", "exact .", "whether the mask selects the root", "", Masks(MaskCommand::Query(MaskQuery::MatchesRoot))),

@@ -34,5 +34,5 @@ const ROWS: [Row; 5] = [
     Row("sessions", "", "", "the names of the sessions, in the order in which they were made", "", ListedSessions),
     Row("allows_unknown", "SESSION", "unknown,x.tag", "whether the session keeps extensions of unknown ids", "unknown: the session", Sessions(SessionCommand::AllowsUnknown)),
     Row("registry", "SESSION ID", "x.tag,x.text x.text", "whether the session has a plugin under this id", "unknown: the session", Sessions(SessionCommand::Registry)),
-    Row("deserialize", "SESSION ID HEX T", "x.tag x.tag 0x4142 utf8", "the extension with the metadata that the session keeps", "MetadataRefused (22), ExtensionUnregistered (35); unknown: the session", Sessions(SessionCommand::Deserialize)),
+    Row("deserialize", "SESSION ID HEX T", "x.tag x.tag 0x4142 utf8", "the extension with this id and this storage type, and with the metadata that the session keeps when it reads these bytes", "MetadataRefused (22), ExtensionUnregistered (35); unknown: the session", Sessions(SessionCommand::Deserialize)),
 ];

@@ -55,10 +55,10 @@ pub fn rows() -> &'static [Row] {
 #[rattlefmt::skip]
 const ROWS: [Row; 19] = [
     Row("names", "S", r#"{a=i32, "b c"=utf8}"#, "the names of the fields", "", Structs(StructCommand::Query(StructQuery::Names))),
-    Row("nfields", "S", "{a=i32, b=utf8}", "how many fields there are", "", Structs(StructCommand::Query(StructQuery::Nfields))),
+    Row("nfields", "S", "{a=i32, b=utf8}", "the number of fields", "", Structs(StructCommand::Query(StructQuery::Nfields))),
     Row("field_name", "I S", "1 {a=i32, b=utf8}", "the name of the field at this index, or none", "", Structs(StructCommand::ByIndex(StructByIndex::FieldName))),
     Row("find", "NAME S", "b {a=i32, b=utf8}", "the index of the first field of this name, or none", "", Structs(StructCommand::ByName(StructByName::Find))),
-    Row("find_counted", "NAME S", "b {a=i32, b=utf8}", "the index of the first field of this name, or none, and how many comparisons that took", "", Structs(StructCommand::ByName(StructByName::FindCounted))),
+    Row("find_counted", "NAME S", "b {a=i32, b=utf8}", "two values: the index of the first field of this name, or none; and the number of names that were compared to find it", "", Structs(StructCommand::ByName(StructByName::FindCounted))),
     Row("field", "NAME S", "b {a=i32, b=utf8}", "the type of the first field of this name, or none", "", Structs(StructCommand::ByName(StructByName::Field))),
     Row("field_by_index", "I S", "1 {a=i32, b=utf8}", "the type of the field at this index, or none", "", Structs(StructCommand::ByIndex(StructByIndex::FieldByIndex))),
     Row("fields", "S", "{a=i32, b=utf8}", "the types of the fields, in order", "", Structs(StructCommand::Query(StructQuery::Fields))),

@@ -51,7 +51,7 @@ pub fn rows() -> &'static [Row] {
 #[rattlefmt::skip]
 const ROWS: [Row; 15] = [
     Row("variant_names", "U", "union(a=i32, b=utf8)", "the names of the variants", "", Unions(UnionCommand::Query(UnionQuery::VariantNames))),
-    Row("variants_len", "U", "union(a=i32, b=utf8)", "how many variants there are", "", Unions(UnionCommand::Query(UnionQuery::VariantsLen))),
+    Row("variants_len", "U", "union(a=i32, b=utf8)", "the number of variants", "", Unions(UnionCommand::Query(UnionQuery::VariantsLen))),
     Row("variants_is_empty", "U", "union(a=i32)", "whether there is no variant", "", Unions(UnionCommand::Query(UnionQuery::VariantsIsEmpty))),
     Row("is_consecutive", "U", "union(a@5=i32, b@9=utf8)", "whether the tags are 0, 1, 2 and so on", "", Unions(UnionCommand::Query(UnionQuery::IsConsecutive))),
     Row("type_ids", "U", "union(a@5=i32, b@9=utf8)", "the tags of the variants", "", Unions(UnionCommand::Query(UnionQuery::TypeIds))),

@@ -33,9 +33,9 @@
 //!
 //! - `to_source` writes the form that the library's console uses, and [`FromStr`](std::str::FromStr) reads this form.
 //!   What `to_source` writes is read back as the same value.
-//! - `Display` writes the text that the library displays. It may not be read back. For example, it writes a name that
-//!   contains a comma without quotes.
-//! - `Debug` writes the form of the console, with the name of the Rust type around it, as in `DType(utf8?)`.
+//! - `Display` writes the text that the `Display` of the proved library writes. `FromStr` may not read it back. For
+//!   example, `Display` writes a name that contains a comma without quotes.
+//! - `Debug` writes the form of the console, with the name of the Rust type around it, for example `DType(utf8?)`.
 //!
 //! # Errors and memory
 //!
@@ -90,9 +90,9 @@
 //! # Messages
 //!
 //! [`Message`] is the protobuf message of a type. This package doesn't read or write the bytes of protobuf. If your
-//! program decodes these bytes, it writes what it decoded as a list of [`Node`]s and passes them to
-//! [`Message::from_nodes`]. Then [`DType::from_proto`] returns the type that the message describes, or the error that
-//! says what is wrong with the message.
+//! program decodes these bytes, it writes what it decoded as a list of [`Node`]s and the bytes of all texts, and passes
+//! both to [`Message::from_nodes`]. Then [`DType::from_proto`] returns the type that the message describes, or an error
+//! that says what is wrong with the message.
 #![deny(unsafe_code, missing_docs, missing_debug_implementations)]
 
 pub use console::answer;

@@ -13,8 +13,12 @@ DType('{id=u64, lines=list({sku=utf8})}')
 ['id', 'lines.[]']
 
 A type or a path is made from its text in the form of the library's console. `to_source` returns this form, `repr` shows
-it in quotes, and it is read back as the same value. `str` returns the text that the library displays, which may not be
-read back. For example, `str` shows a name that contains a comma without quotes.
+it in quotes, and it is read back as the same value. `str` returns the text that the proved library prints, which may
+not be read back. For example, `str` shows a name that contains a comma without quotes.
+
+A call that the library refuses raises a `VortexError`. Its `number` is 100 + n for the error n of the library, which
+docs/GUIDE.md lists, and below 100 for an error of the interface. For example, it is 116 if `project` is passed a name
+that no field has, 5 if a precondition isn't met, and 9 if an argument is out of its range.
 
 An object belongs to the thread that made it, and a call from another thread raises `WrongThread`. To take a type to
 another thread, send its text, or the flat form of its message:
@@ -76,7 +80,7 @@ __all__ = [
 
 
 class Element(enum.Enum):
-    """The type of `ELEMENT`."""
+    """The type of `ELEMENT`, which is the step of a path into the elements of a list."""
 
     ELEMENT = "[]"
 
@@ -90,30 +94,30 @@ Step = Union[str, Element]
 
 
 class PType(enum.IntEnum):
-    """A primitive type, by the number that messages have for it."""
+    """A primitive type. Its value is the number that messages contain for it. For example, `PType.U8` is 0."""
 
     U8, U16, U32, U64, I8, I16, I32, I64, F16, F32, F64 = range(11)
 
 
 class Kind(enum.IntEnum):
-    """Which kind of type a `DType` is."""
+    """The kind of a `DType`. For example, that of `DType("list(u8)")` is `Kind.LIST`."""
 
     NULL, BOOL, PRIMITIVE, DECIMAL, UTF8, BINARY, LIST, FIXED_SIZE_LIST, MAP, STRUCT, UNION, VARIANT, EXTENSION = range(13)
 
 
 class Below(NamedTuple):
-    """What a set of paths says below a path."""
+    """How the paths of a set continue after a path. `FieldPathSet.below` returns it."""
 
     is_end: bool
     """Whether the path itself is in the set."""
     has_element: bool
-    """Whether a path goes on with the step into the element."""
+    """Whether a path of the set continues with the step into an element."""
     name_count: int
-    """By how many names paths go on."""
+    """The number of names with which paths of the set continue."""
 
 
 class DType(Object):
-    """A logical type. `DType("{a=list(i32?)}")` reads the console's text."""
+    """A logical type. `DType("{a=list(i32?)}")` reads a text in the form of the library's console."""
 
     __slots__ = ()
 
@@ -134,7 +138,9 @@ class DType(Object):
 
     @staticmethod
     def decimal(precision: int, scale: int, nullable: bool = False) -> DType:
-        """Raises `LibraryError` 101 to 104 if the precision isn't from 1 to 76, or the scale is above 76 or above it."""
+        """Returns the decimal type with this precision and scale. Raises `LibraryError` 101 to 104 if the precision
+        isn't from 1 to 76, or if the scale is above 76 or above the precision, and 9 if the precision isn't from 0
+        to 255 or the scale isn't from -128 to 127."""
         if not 0 <= precision < 256 or not -128 <= scale < 128:
             raise error_of(_table.RANGE)
         return made(DType, native.vlt_dtype_decimal, precision, scale, nullable)
@@ -163,7 +169,7 @@ class DType(Object):
 
     @staticmethod
     def map_(key: DType, value: DType, keys_sorted: bool = False, nullable: bool = False) -> DType:
-        """Raises `LibraryError` 109 if the key is nullable."""
+        """Returns the map type. Raises `LibraryError` 109 if the key type is nullable."""
         return made(DType, native.vlt_dtype_map, key._own, value._other_than(key), keys_sorted, nullable)
 
     @staticmethod
@@ -172,7 +178,8 @@ class DType(Object):
 
     @staticmethod
     def union(variants: Iterable[tuple[str, DType]], nullable: bool = False, tags: Optional[bytes] = None) -> DType:
-        """A union with these tags, or 0, 1, 2 and so on. Raises `LibraryError` 110 to 115."""
+        """Returns the union type with these variants and tags. Without `tags` they are 0, 1, 2 and so on. Raises
+        `LibraryError` 110 to 115 if the variants and tags don't make a union."""
         if tags is None:
             return DType._of_parts(native.vlt_dtype_union_consecutive, variants, (nullable,))
         return DType._of_parts(native.vlt_dtype_union, variants, (bytes(tags), len(tags), nullable))
@@ -196,7 +203,7 @@ class DType(Object):
                 native.vlt_free(copy)
 
     def _other_than(self, other: DType) -> DType:
-        """The type, as another object than the other."""
+        """Returns this type, or a copy if it is the same object as `other`, because the slots of a call must differ."""
         return self.copy() if self is other else self
 
     @property
@@ -212,7 +219,7 @@ class DType(Object):
         return is_done(native.vlt_dtype_can_be_nonnullable(self._own))
 
     def with_nullability(self, nullable: bool) -> DType:
-        """Raises `LibraryError` 5 if the type can't be non-nullable."""
+        """Returns the type, made nullable or non-nullable. Raises `LibraryError` 5 if it can't be made non-nullable."""
         return made(DType, native.vlt_dtype_with_nullability, self._own, nullable)
 
     def union_nullability(self, nullable: bool) -> DType:
@@ -225,14 +232,14 @@ class DType(Object):
 
     @property
     def decimal_parts(self) -> Optional[tuple[int, int]]:
-        """Precision and scale, if it is a decimal."""
+        """The precision and the scale of a decimal type, or None for another type."""
         precision, scale = ctypes.c_uint8(), ctypes.c_int8()
         return (precision.value, scale.value) if is_done(
             native.vlt_dtype_decimal_parts(self._own, precision, scale)) else None
 
     @property
     def element(self) -> Optional[DType]:
-        """The element type of a list, of a fixed size or not."""
+        """The element type of a list or a fixed-size list, or None for another type."""
         return found(DType, native.vlt_dtype_element, self._own)
 
     @property
@@ -249,7 +256,7 @@ class DType(Object):
 
     @property
     def keys_sorted(self) -> bool:
-        """Raises `LibraryError` 5 if it is no map."""
+        """Whether the keys of the map are declared sorted. Raises `LibraryError` 5 if the type isn't a map."""
         return is_done(native.vlt_dtype_keys_sorted(self._own))
 
     @property
@@ -270,7 +277,8 @@ class DType(Object):
 
     @property
     def element_size(self) -> Optional[int]:
-        """How many bytes a value takes, if all take as many."""
+        """The number of bytes that each value takes, or None if not all values take the same number. Raises
+        `LibraryError` 119 if a part of the type is wider than a number of 64 bits can say."""
         return number(ctypes.c_size_t, native.vlt_dtype_element_size, self._own)
 
     # Fields of a struct. Each raises `LibraryError` 5 if the type is no struct.
@@ -286,12 +294,12 @@ class DType(Object):
         return found(DType, native.vlt_struct_field_by_index, self._own, _position(index))
 
     def find(self, name: str) -> Optional[int]:
-        """The position of the first field of the name."""
+        """Returns the position of the first field with this name, or None."""
         given = name.encode()
         return number(ctypes.c_size_t, native.vlt_struct_find, self._own, given, len(given))
 
     def field(self, name: str) -> Optional[DType]:
-        """The type of the first field of the name."""
+        """Returns the type of the first field with this name, or None."""
         given = name.encode()
         return found(DType, native.vlt_struct_field, self._own, given, len(given))
 
@@ -305,15 +313,16 @@ class DType(Object):
                 for it in range(self.nfields)]
 
     def project(self, names_: Iterable[str]) -> DType:
-        """The struct of the fields of these names, in their order. Raises `LibraryError` 116 if one isn't there."""
+        """Returns the struct of the fields with these names, in the order of the names. Raises `LibraryError` 116 if
+        a name isn't the name of a field."""
         return made(DType, native.vlt_struct_project, self._own, *names(names_))
 
     def without_field(self, index: int) -> DType:
-        """Raises `LibraryError` 117 past the end."""
+        """Returns the struct without the field at this position. Raises `LibraryError` 117 if no field is there."""
         return made(DType, native.vlt_struct_without_field, self._own, _position(index))
 
     def disjoint_merge(self, other: DType) -> DType:
-        """The struct of the fields of both. Raises `LibraryError` 118 if a name is there twice."""
+        """Returns the struct of the fields of both. Raises `LibraryError` 118 if a name occurs twice among them."""
         return made(DType, native.vlt_struct_disjoint_merge, self._own, other._other_than(self))
 
     def indented(self) -> str:
@@ -371,37 +380,40 @@ class DType(Object):
         return number(ctypes.c_uint64, native.vlt_dtype_hash_ignore_nullability, self._own) or 0
 
     def eq_with_nullability_subset(self, other: DType) -> bool:
-        """Whether this is the other with fewer parts nullable, or the same."""
+        """Returns whether this type is a subset of the other: the two are equal except for nullability, and the
+        other is nullable wherever this type is."""
         return self is other or is_done(native.vlt_dtype_nullability_subset(self._own, other._own))
 
     def eq_with_nullability_superset(self, other: DType) -> bool:
-        """Whether this is the other with more parts nullable, or the same."""
+        """Returns whether the other type is a subset of this one."""
         return self is other or is_done(native.vlt_dtype_nullability_superset(self._own, other._own))
 
     def merge_nullability(self, other: DType) -> Optional[DType]:
-        """The least type that takes the values of both, if there is one."""
+        """Returns the least type of which both types are subsets, or None if they differ in more than nullability."""
         return found(DType, native.vlt_dtype_merge_nullability, self._own, other._other_than(self))
 
     def intersect_nullability(self, other: DType) -> Optional[DType]:
-        """The greatest type whose values both take, if there is one."""
+        """Returns the greatest type that is a subset of both, or None if they differ in more than nullability."""
         return found(DType, native.vlt_dtype_intersect_nullability, self._own, other._other_than(self))
 
     def project_paths(self, paths: FieldPathSet) -> Optional[DType]:
-        """The type as far as the paths lead, or None if none leads to a type."""
+        """Returns the part of the type that a reader of these paths opens, or None if none of them exists in the
+        type."""
         return found(DType, native.vlt_project_paths, self._own, paths._own)
 
     @staticmethod
     def from_proto(message: Message, allow_unknown: bool = False) -> DType:
-        """The type that a message describes. Raises `LibraryError` 124 to 135 by the message's first fault; 135 is an
-        extension, which `allow_unknown` keeps with its metadata."""
+        """Returns the type that a message describes. For a message that describes no type it raises `LibraryError`
+        with 100 plus the number of the message's first fault, for example 124 for a message without a kind. An
+        extension raises 135, unless `allow_unknown` is true: then it is kept with its metadata."""
         return made(DType, native.vlt_message_to_dtype, message._own, allow_unknown)
 
     def to_proto(self) -> Message:
-        """The message that describes the type."""
+        """Returns the message that describes the type."""
         return made(Message, native.vlt_dtype_to_message, self._own)
 
     def to_source(self) -> str:
-        """The console's text, which reads back as the same type."""
+        """Returns the text of the type in the form of the console. `DType` reads it as the same type."""
         return text(native.vlt_dtype_to_text, self._own)
 
     def __str__(self) -> str:
@@ -415,14 +427,14 @@ class DType(Object):
 
 
 def _position(index: int) -> int:
-    """A position, which the library takes if it isn't negative and fits its number."""
+    """Returns the position, or the greatest number of 64 bits if that is less. Raises IndexError if it is negative."""
     if index < 0:
         raise IndexError("a position isn't negative")
     return min(index, 2**64 - 1)
 
 
 class FieldPath(Object):
-    """A path into a type. `FieldPath("a.[].b")` reads the console's text, in which the root is `.`."""
+    """A path into a type. `FieldPath("a.[].b")` reads a text in the form of the console, in which the root is `.`."""
 
     __slots__ = ()
 
@@ -439,13 +451,14 @@ class FieldPath(Object):
 
     @staticmethod
     def from_proto(parts: Iterable[Optional[str]]) -> FieldPath:
-        """The path that the message of a path describes, whose parts have these names. None stands for a part that has no
-        kind, for which it raises `LibraryError` 136."""
+        """Returns the path that a path message describes. `parts` has the name in each part of the message, or None
+        for a part without a kind. For such a part it raises `LibraryError` 136."""
         return made(FieldPath, native.vlt_path_from_message, *names(parts))
 
     @staticmethod
     def from_proto_source(source: str) -> FieldPath:
-        """The same of protobuf's text format, such as `path { name: "a" } path { name: "b" }`."""
+        """Returns the path that a path message in protobuf's text format describes. For example, the message
+        `path { name: "a" } path { name: "b" }` describes the path `a.b`."""
         it = FieldPath.__new__(FieldPath)
         read(it, native.vlt_path_from_message_text, source)
         return it
@@ -475,30 +488,30 @@ class FieldPath(Object):
         return len(self) == 0
 
     def push(self, step: Step) -> FieldPath:
-        """The path with one more step."""
+        """Returns the path with one more step at its end."""
         if step is ELEMENT:
             return made(FieldPath, native.vlt_path_push_element, self._own)
         given = step.encode()
         return made(FieldPath, native.vlt_path_push_name, self._own, given, len(given))
 
     def step_into(self) -> Optional[FieldPath]:
-        """The path without its first step, if it has one."""
+        """Returns the path without its first step, or None if it is the root."""
         return found(FieldPath, native.vlt_path_step_into, self._own)
 
     def starts_with_name(self, name: str) -> bool:
-        """Raises `LibraryError` 5 if the first step is the element."""
+        """Returns whether the first step is this name. Raises `LibraryError` 5 if that step goes into an element."""
         given = name.encode()
         return is_done(native.vlt_path_starts_with_name(self._own, given, len(given)))
 
     def resolve(self, dtype: DType) -> Optional[DType]:
-        """The type at the path, if there is one."""
+        """Returns the type at the path in `dtype`, or None if there is none."""
         return found(DType, native.vlt_path_resolve, dtype._own, self._own)
 
     def exists_in(self, dtype: DType) -> bool:
         return is_done(native.vlt_path_exists_in(dtype._own, self._own))
 
     def overlap(self, other: FieldPath) -> bool:
-        """Whether one of the paths is a prefix of the other."""
+        """Returns whether one of the two paths is a prefix of the other."""
         return self is other or is_done(native.vlt_path_overlap(self._own, other._own))
 
     def copy(self) -> FieldPath:
@@ -513,7 +526,7 @@ class FieldPath(Object):
         return hash(number(ctypes.c_uint64, native.vlt_path_hash, self._own))
 
     def to_source(self) -> str:
-        """The console's text, which reads back as the same path."""
+        """Returns the text of the path in the form of the console. `FieldPath` reads it as the same path."""
         return text(native.vlt_path_to_text, self._own)
 
     def __str__(self) -> str:
@@ -527,7 +540,7 @@ class FieldPath(Object):
 
 
 class _Paths(Object):
-    """A list of paths, as the library returns it."""
+    """A list of paths that the library made."""
 
     __slots__ = ()
 
@@ -541,7 +554,8 @@ def _path(it: Union[FieldPath, str]) -> FieldPath:
 
 
 class FieldPathSet(Object):
-    """A set of paths: `FieldPathSet(["a.b", FieldPath.root()])`. Its iteration has its members."""
+    """A set of paths, for example `FieldPathSet(["a.b", FieldPath.root()])`. Iterating over it yields each of its
+    paths once, in no promised order."""
 
     __slots__ = ()
 
@@ -557,7 +571,7 @@ class FieldPathSet(Object):
         is_done(native.vlt_set_insert(self._own, it._own))
 
     def extend(self, paths: Iterable[Union[FieldPath, str]]) -> None:
-        """Inserts the paths, in order. The iteration ends before the first is inserted."""
+        """Inserts the paths, in order. All of them are taken from `paths` before the first is inserted."""
         for it in [_path(path) for path in paths]:
             is_done(native.vlt_set_insert(self._own, it._own))
 
@@ -575,15 +589,16 @@ class FieldPathSet(Object):
         return iter(self.members())
 
     def cover(self) -> list[FieldPath]:
-        """The fewest paths of the set such that each path of it begins with one of them."""
+        """Returns the cover: those paths of the set of which no other path of the set is a prefix."""
         return made(_Paths, native.vlt_set_cover, self._own).all()
 
     def unresolved(self, dtype: DType) -> list[FieldPath]:
-        """The paths of the set at which the type has nothing."""
+        """Returns the paths of the set that don't exist in the type."""
         return made(_Paths, native.vlt_set_unresolved, self._own, dtype._own).all()
 
     def below(self, path: Union[FieldPath, str]) -> Optional[Below]:
-        """What the set says below a path, or None if no path of the set begins with it."""
+        """Returns how the paths of the set continue after `path`, or None if none of them begins with `path`. For
+        example, the set of `a.b` and `a.c.d` continues after `a` with two names."""
         is_end, has_element, count = ctypes.c_bool(), ctypes.c_bool(), ctypes.c_size_t()
         it = _path(path)
         if not is_done(native.vlt_set_below(self._own, it._own, is_end, has_element, count)):
@@ -591,7 +606,8 @@ class FieldPathSet(Object):
         return Below(is_end.value, has_element.value, count.value)
 
     def names_below(self, path: Union[FieldPath, str]) -> Optional[list[str]]:
-        """The names by which paths of the set go on below a path, or None if no path of the set begins with it."""
+        """Returns the names with which paths of the set continue after `path`, or None if none of them begins with
+        `path`."""
         it = found(_Paths, native.vlt_set_names_below, self._own, _path(path))
         return None if it is None else [str(path[0]) for path in it.all()]
 
@@ -603,7 +619,7 @@ class FieldPathSet(Object):
 
 
 class FieldMask(Object):
-    """Which paths match: all, those that begin with a path, or exactly one."""
+    """A selection of paths: all paths, a path with every path below it, or one path alone."""
 
     __slots__ = ()
 
@@ -624,7 +640,7 @@ class FieldMask(Object):
 
     @property
     def kind(self) -> str:
-        """`all`, `prefix` or `exact`."""
+        """The kind of the mask: `all`, `prefix` or `exact`."""
         return ("all", "prefix", "exact")[number(ctypes.c_uint32, native.vlt_mask_kind, self._own) or 0]
 
     @property
@@ -632,11 +648,13 @@ class FieldMask(Object):
         return found(FieldPath, native.vlt_mask_path, self._own)
 
     def step_into(self) -> FieldMask:
-        """Raises `LibraryError` 120 for the mask of exactly the root."""
+        """Returns the mask of what is selected below the first step of the mask's path. For example, for `prefix` of
+        `a.b` it is `prefix` of `b`. Raises `LibraryError` 120 for the mask that selects only the root."""
         return made(FieldMask, native.vlt_mask_step_into, self._own)
 
     def starting_field(self) -> Optional[Step]:
-        """The first step. Raises `LibraryError` 121 for the mask of all."""
+        """Returns the first step of the mask's path, or None if that path is the root. Raises `LibraryError` 121 for
+        the mask of all paths."""
         it = bytes_and_length(native.vlt_mask_starting_field, self._own)
         return None if it is None else ELEMENT if it[1] == _table.ELEMENT else it[0].decode()
 
@@ -667,7 +685,7 @@ class FlatMessage(NamedTuple):
     """A message in the flat form, as bytes that another thread or process can read."""
 
     nodes: bytes
-    """The nodes in pre-order, as an array of `Node`."""
+    """The nodes as an array of `Node`, each message before its parts."""
     texts: bytes
     """The bytes of the texts, in the order of their nodes."""
 
@@ -682,9 +700,9 @@ class Message(Object):
 
     @staticmethod
     def from_nodes(nodes: Iterable[Node], texts: bytes) -> Message:
-        """The message of nodes and the bytes of their texts, for programs that have decoded its bytes. Raises
-        `LibraryError` 9 if they aren't those of one message, 6 if a message is nested in more than 128 others, and 3 if a
-        name isn't UTF-8.
+        """Returns the message with these nodes and with the bytes of their texts. Use it in a program that has decoded
+        the bytes of a message by itself. Raises `LibraryError` 9 if the nodes and texts aren't those of one message, 6
+        if a message is nested in more than 128 others, and 3 if a name or an id isn't UTF-8.
 
         >>> message = Message.from_nodes([Node(kind=10, names=1, types=1), Node(kind=14, number=2), Node(kind=3, value=3)], b"id")
         >>> DType.from_proto(message)
@@ -695,7 +713,7 @@ class Message(Object):
 
     @staticmethod
     def from_flat(flat: FlatMessage) -> Message:
-        """The message of this flat form. Raises as `from_nodes` does."""
+        """Returns the message with this flat form. Raises the same errors as `from_nodes`."""
         count, rest = divmod(len(flat.nodes), ctypes.sizeof(Node))
         if rest:
             raise error_of(_table.RANGE)
@@ -706,7 +724,7 @@ class Message(Object):
         return made(Message, native.vlt_message_from_nodes, nodes, len(nodes), bytes(texts), len(texts))
 
     def to_flat(self) -> FlatMessage:
-        """The flat form."""
+        """Returns the flat form of the message."""
         nodes, texts = (Node * 0)(), ctypes.create_string_buffer(0)
         count, length = ctypes.c_size_t(), ctypes.c_size_t()
         while True:
@@ -719,8 +737,8 @@ class Message(Object):
         return FlatMessage(bytes(nodes), texts.raw)
 
     def normal(self, allow_unknown: bool = False) -> Message:
-        """The message of the type that this one describes: with every child, flag and number, and with the metadata of each
-        extension. Raises as `DType.from_proto` does."""
+        """Returns the message that `to_proto` writes for the type that this message describes. It has every child,
+        flag and number, and the metadata of each extension. Raises the same errors as `DType.from_proto`."""
         return made(Message, native.vlt_message_normal, self._own, allow_unknown)
 
     def copy(self) -> Message:
@@ -734,7 +752,7 @@ class Message(Object):
     __hash__ = None  # type: ignore[assignment]
 
     def to_source(self) -> str:
-        """Protobuf's text format, which reads back as the same message."""
+        """Returns the message in protobuf's text format. `Message` reads it as the same message."""
         return text(native.vlt_message_to_text, self._own)
 
     def __repr__(self) -> str:
@@ -745,8 +763,9 @@ class Message(Object):
 
 
 def answer(line: Union[str, bytes]) -> Optional[str]:
-    """The answer of the library's console to a line, which has a command for each call, or None if it has none: to a line
-    that is blank or a comment, and to one that ends the console. Each call begins with no named set and no named session.
+    """Returns what the library's console answers to a line, which is a command with its arguments. Returns None for a
+    line that has no answer: a blank line, a comment, or a command that ends the console. At the beginning of each call
+    there is no named set and no named session.
 
     >>> answer("resolve a.[] {a=list(i32?)}")
     'i32?'

@@ -19,7 +19,7 @@ SETTING = "VORTEX_LOGICAL_TYPES_LIB"
 
 
 class VortexError(Exception):
-    """Why a call failed: a text, and the number that the C interface returns for it."""
+    """A call failed. The text of the exception says why, and `number` is the number that the C interface returned."""
 
     def __init__(self, number: int, text: str) -> None:
         super().__init__(text)
@@ -31,7 +31,8 @@ class OutOfMemory(VortexError, MemoryError):
 
 
 class Unreadable(VortexError, ValueError):
-    """A text can't be read. The position counts its bytes in UTF-8 from 1."""
+    """A text can't be read. `position` is the byte at which reading failed: the bytes of the text in UTF-8 are
+    counted from 1."""
 
     def __init__(self, number: int, text: str, position: int) -> None:
         super().__init__(number, text)
@@ -39,7 +40,8 @@ class Unreadable(VortexError, ValueError):
 
 
 class LibraryError(VortexError, ValueError):
-    """The library, or the interface to it, refuses the arguments."""
+    """The library, or the interface to it, refuses the arguments. The number is 100 + n for the error n of the
+    library, and below 100 for an error of the interface."""
 
 
 class WrongThread(RuntimeError):
@@ -75,7 +77,8 @@ native = _load()
 
 
 class Thread:
-    """A thread that has objects: what was collected elsewhere waits here until this thread frees it."""
+    """A thread that made objects. If such an object is collected on another thread, its slot waits here until the
+    thread that made it frees it."""
 
     __slots__ = ("thread", "garbage")
 
@@ -101,7 +104,7 @@ here = _Here()
 
 
 class Object:
-    """An object that the library made, which stays on its thread."""
+    """An object that the library made. Only the thread that made it may use it."""
 
     __slots__ = ("_slot", "_thread", "__weakref__")
     _slot: Slot
@@ -119,7 +122,7 @@ class Object:
 
     @property
     def _own(self) -> Slot:
-        """The slot, on the thread of the object."""
+        """The slot of the object. Raises `WrongThread` on another thread than that of the object."""
         if self._thread is not here.thread:
             raise WrongThread("an object belongs to the thread that made it: send its text instead")
         return self._slot
@@ -146,21 +149,23 @@ def text_of_error(code: int) -> str:
 
 
 def is_done(code: int) -> bool:
-    """Whether it was done, or is true."""
+    """Returns whether the code says that a call succeeded, or that its answer is true. Raises the error of another
+    code."""
     if code > 1:
         raise error_of(code)
     return code == 0
 
 
 def found(cls: type, call: Callable[..., int], *arguments: Any) -> Any:
-    """The object that a call puts into a slot, or None. An argument may be an object that nothing else refers to."""
+    """Returns the object that a call puts into a slot, or None. An argument may be an object that nothing else
+    refers to."""
     out = Slot()
     slots = [it._own if isinstance(it, Object) else it for it in arguments]
     return cls.__new__(cls)._take(out) if is_done(call(*slots, out)) else None
 
 
 def made(cls: type, call: Callable[..., int], *arguments: Any) -> Any:
-    """The object that a call puts into a slot."""
+    """Returns the object that a call puts into a slot."""
     it = found(cls, call, *arguments)
     if it is None:
         raise error_of(_table.NONE)
@@ -177,13 +182,13 @@ def read(it: Object, call: Callable[..., int], text: str) -> None:
 
 
 def number(kind: Any, call: Callable[..., int], *arguments: Any) -> Optional[int]:
-    """The number that a call writes, or None."""
+    """Returns the number that a call writes, or None."""
     it = kind()
     return it.value if is_done(call(*arguments, it)) else None
 
 
 def bytes_and_length(call: Callable[..., int], *arguments: Any) -> Optional[tuple[bytes, int]]:
-    """What a call writes into a buffer, and the length that it says, or None."""
+    """Returns what a call writes into a buffer, with the length that the call writes, or None."""
     room, length = 256, ctypes.c_size_t()
     while True:
         buffer = ctypes.create_string_buffer(room)
@@ -208,7 +213,7 @@ def text(call: Callable[..., int], *arguments: Any) -> str:
 
 
 def names(given: Iterable[Optional[str]]) -> tuple[bytes, int, Any, int]:
-    """Names as the library takes them; None stands for the step into an element."""
+    """Returns names in the form in which the library takes them. None stands for the step into an element."""
     encoded = [None if it is None else it.encode() for it in given]
     together = b"".join(it for it in encoded if it is not None)
     lengths = [_table.ELEMENT if it is None else len(it) for it in encoded]

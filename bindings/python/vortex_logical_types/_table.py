@@ -13,7 +13,7 @@ ELEMENT = 2**64 - 1
 
 
 class Slot(ctypes.Structure):
-    """A place for one object of the library, which it owns, or for none."""
+    """A place that owns one object of the library, or is empty."""
 
     _fields_ = [("at", ctypes.c_void_p)]
 

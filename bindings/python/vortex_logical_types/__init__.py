@@ -126,14 +126,17 @@ class DType(Object):
 
     @staticmethod
     def null() -> DType:
+        """Returns the type `null`."""
         return made(DType, native.vlt_dtype_null)
 
     @staticmethod
     def bool_(nullable: bool = False) -> DType:
+        """Returns the type of truth values."""
         return made(DType, native.vlt_dtype_bool, nullable)
 
     @staticmethod
     def primitive(ptype: PType, nullable: bool = False) -> DType:
+        """Returns the type with this primitive type, for example `i32`."""
         return made(DType, native.vlt_dtype_primitive, PType(ptype), nullable)
 
     @staticmethod
@@ -147,33 +150,42 @@ class DType(Object):
 
     @staticmethod
     def utf8(nullable: bool = False) -> DType:
+        """Returns the type of texts."""
         return made(DType, native.vlt_dtype_utf8, nullable)
 
     @staticmethod
     def binary(nullable: bool = False) -> DType:
+        """Returns the type of byte strings."""
         return made(DType, native.vlt_dtype_binary, nullable)
 
     @staticmethod
     def variant(nullable: bool = False) -> DType:
+        """Returns the type `variant`. Each of its values carries its own type."""
         return made(DType, native.vlt_dtype_variant, nullable)
 
     @staticmethod
     def list_(element: DType, nullable: bool = False) -> DType:
+        """Returns the list type with this element type. Raises `LibraryError` 6 if the element type has 128 levels."""
         return made(DType, native.vlt_dtype_list, element._own, nullable)
 
     @staticmethod
     def fixed_size_list(element: DType, size: int, nullable: bool = False) -> DType:
+        """Returns the fixed-size list type with this element type and size. Raises `LibraryError` 9 if the size
+        isn't from 0 to 2**32 - 1, and 6 if the element type has 128 levels."""
         if not 0 <= size < 1 << 32:
             raise error_of(_table.RANGE)
         return made(DType, native.vlt_dtype_fixed_size_list, element._own, size, nullable)
 
     @staticmethod
     def map_(key: DType, value: DType, keys_sorted: bool = False, nullable: bool = False) -> DType:
-        """Returns the map type. Raises `LibraryError` 109 if the key type is nullable."""
+        """Returns the map type with these key and value types. Raises `LibraryError` 109 if the key type is
+        nullable, and 6 if one of the two types has 128 levels."""
         return made(DType, native.vlt_dtype_map, key._own, value._other_than(key), keys_sorted, nullable)
 
     @staticmethod
     def struct(fields: Iterable[tuple[str, DType]], nullable: bool = False) -> DType:
+        """Returns the struct type with these fields, each a pair of a name and a type. Raises `LibraryError` 6 if
+        the type of a field has 128 levels."""
         return DType._of_parts(native.vlt_dtype_struct, fields, (nullable,))
 
     @staticmethod
@@ -186,6 +198,8 @@ class DType(Object):
 
     @staticmethod
     def extension(id: str, metadata: bytes, storage: DType) -> DType:
+        """Returns the extension type with this id, this metadata and this storage type. Raises `LibraryError` 6 if
+        the storage type has 128 levels."""
         given = id.encode()
         return made(DType, native.vlt_dtype_extension, given, len(given), bytes(metadata), len(metadata), storage._own)
 
@@ -208,14 +222,18 @@ class DType(Object):
 
     @property
     def kind(self) -> Kind:
+        """The kind of the type."""
         return Kind(number(ctypes.c_uint32, native.vlt_dtype_kind, self._own))
 
     @property
     def is_nullable(self) -> bool:
+        """Whether the type is nullable. An extension type is nullable if its storage type is."""
         return is_done(native.vlt_dtype_is_nullable(self._own))
 
     @property
     def can_be_nonnullable(self) -> bool:
+        """Whether the type can be made non-nullable. This is true of all types except `null` and extension types
+        over it."""
         return is_done(native.vlt_dtype_can_be_nonnullable(self._own))
 
     def with_nullability(self, nullable: bool) -> DType:
@@ -223,10 +241,12 @@ class DType(Object):
         return made(DType, native.vlt_dtype_with_nullability, self._own, nullable)
 
     def union_nullability(self, nullable: bool) -> DType:
+        """Returns the type, which is nullable if it was nullable or if `nullable` is true."""
         return made(DType, native.vlt_dtype_union_nullability, self._own, nullable)
 
     @property
     def ptype(self) -> Optional[PType]:
+        """The primitive type, or None for a type that isn't primitive."""
         it = number(ctypes.c_uint32, native.vlt_dtype_ptype, self._own)
         return None if it is None else PType(it)
 
@@ -244,14 +264,17 @@ class DType(Object):
 
     @property
     def fixed_size(self) -> Optional[int]:
+        """The size of a fixed-size list, or None for another type."""
         return number(ctypes.c_uint32, native.vlt_dtype_fixed_size, self._own)
 
     @property
     def key(self) -> Optional[DType]:
+        """The key type of a map, or None for another type."""
         return found(DType, native.vlt_dtype_key, self._own)
 
     @property
     def value(self) -> Optional[DType]:
+        """The value type of a map, or None for another type."""
         return found(DType, native.vlt_dtype_value, self._own)
 
     @property
@@ -261,18 +284,22 @@ class DType(Object):
 
     @property
     def entries(self) -> Optional[DType]:
+        """The type of the entries of a map, a struct of a key and a value, or None for another type."""
         return found(DType, native.vlt_dtype_entries, self._own)
 
     @property
     def storage(self) -> Optional[DType]:
+        """The storage type of an extension type, or None for another type."""
         return found(DType, native.vlt_dtype_storage, self._own)
 
     @property
     def id(self) -> Optional[str]:
+        """The id of an extension type, or None for another type."""
         return text_found(native.vlt_dtype_id, self._own)
 
     @property
     def metadata(self) -> Optional[bytes]:
+        """The metadata of an extension type, or None for another type."""
         return bytes_found(native.vlt_dtype_metadata, self._own)
 
     @property
@@ -285,12 +312,15 @@ class DType(Object):
 
     @property
     def nfields(self) -> int:
+        """The number of fields."""
         return number(ctypes.c_size_t, native.vlt_struct_nfields, self._own) or 0
 
     def field_name(self, index: int) -> Optional[str]:
+        """Returns the name of the field at this position, or None if no field is there."""
         return text_found(native.vlt_struct_field_name, self._own, _position(index))
 
     def field_by_index(self, index: int) -> Optional[DType]:
+        """Returns the type of the field at this position, or None if no field is there."""
         return found(DType, native.vlt_struct_field_by_index, self._own, _position(index))
 
     def find(self, name: str) -> Optional[int]:
@@ -305,10 +335,12 @@ class DType(Object):
 
     @property
     def names(self) -> list[str]:
+        """The names of the fields, in order."""
         return [self.field_name(it) or "" for it in range(self.nfields)]
 
     @property
     def fields(self) -> list[tuple[str, DType]]:
+        """The fields, in order, each a pair of a name and a type."""
         return [(self.field_name(it) or "", made(DType, native.vlt_struct_field_by_index, self._own, it))
                 for it in range(self.nfields)]
 
@@ -326,43 +358,53 @@ class DType(Object):
         return made(DType, native.vlt_struct_disjoint_merge, self._own, other._other_than(self))
 
     def indented(self) -> str:
+        """Returns the text of the fields with a line for each field."""
         return text(native.vlt_struct_indented, self._own)
 
     # Variants of a union. Each raises `LibraryError` 5 if the type is no union.
 
     @property
     def nvariants(self) -> int:
+        """The number of variants."""
         return number(ctypes.c_size_t, native.vlt_union_len, self._own) or 0
 
     def variant_name(self, index: int) -> Optional[str]:
+        """Returns the name of the variant at this position, or None if no variant is there."""
         return text_found(native.vlt_union_variant_name, self._own, _position(index))
 
     def variant_by_index(self, index: int) -> Optional[DType]:
+        """Returns the type of the variant at this position, or None if no variant is there."""
         return found(DType, native.vlt_union_variant_by_index, self._own, _position(index))
 
     def find_variant(self, name: str) -> Optional[int]:
+        """Returns the position of the variant with this name, or None."""
         given = name.encode()
         return number(ctypes.c_size_t, native.vlt_union_find, self._own, given, len(given))
 
     def variant_of(self, name: str) -> Optional[DType]:
+        """Returns the type of the variant with this name, or None."""
         given = name.encode()
         return found(DType, native.vlt_union_variant, self._own, given, len(given))
 
     def child_index_to_tag(self, index: int) -> Optional[int]:
+        """Returns the tag of the variant at this position, or None if no variant is there."""
         return number(ctypes.c_uint8, native.vlt_union_child_index_to_tag, self._own, _position(index))
 
     def tag_to_child_index(self, tag: int) -> Optional[int]:
+        """Returns the position of the variant with this tag, or None."""
         if not 0 <= tag < 256:
             return None
         return number(ctypes.c_size_t, native.vlt_union_tag_to_child_index, self._own, tag)
 
     @property
     def is_consecutive(self) -> bool:
+        """Whether the tags are 0, 1, 2 and so on, in this order."""
         return is_done(native.vlt_union_is_consecutive(self._own))
 
     # Comparisons.
 
     def copy(self) -> DType:
+        """Returns an equal type, which is another object."""
         return made(DType, native.vlt_dtype_copy, self._own)
 
     def __eq__(self, other: object) -> bool:
@@ -374,9 +416,11 @@ class DType(Object):
         return hash(number(ctypes.c_uint64, native.vlt_dtype_hash, self._own))
 
     def eq_ignore_nullability(self, other: DType) -> bool:
+        """Returns whether the two types are equal except for nullability, at every depth."""
         return self is other or is_done(native.vlt_dtype_eq_ignore_nullability(self._own, other._own))
 
     def hash_ignore_nullability(self) -> int:
+        """Returns a hash that is the same for types that are equal except for nullability."""
         return number(ctypes.c_uint64, native.vlt_dtype_hash_ignore_nullability, self._own) or 0
 
     def eq_with_nullability_subset(self, other: DType) -> bool:
@@ -443,10 +487,12 @@ class FieldPath(Object):
 
     @staticmethod
     def root() -> FieldPath:
+        """Returns the path without steps."""
         return made(FieldPath, native.vlt_path_root)
 
     @staticmethod
     def from_steps(steps: Iterable[Step]) -> FieldPath:
+        """Returns the path of these steps. A step is a name or `ELEMENT`."""
         return made(FieldPath, native.vlt_path_from_steps, *names(None if it is ELEMENT else it for it in steps))
 
     @staticmethod
@@ -481,10 +527,12 @@ class FieldPath(Object):
 
     @property
     def parts(self) -> list[Step]:
+        """The steps of the path, in order."""
         return [*self]
 
     @property
     def is_root(self) -> bool:
+        """Whether the path has no steps."""
         return len(self) == 0
 
     def push(self, step: Step) -> FieldPath:
@@ -508,6 +556,7 @@ class FieldPath(Object):
         return found(DType, native.vlt_path_resolve, dtype._own, self._own)
 
     def exists_in(self, dtype: DType) -> bool:
+        """Returns whether there is a type at the path in `dtype`."""
         return is_done(native.vlt_path_exists_in(dtype._own, self._own))
 
     def overlap(self, other: FieldPath) -> bool:
@@ -515,6 +564,7 @@ class FieldPath(Object):
         return self is other or is_done(native.vlt_path_overlap(self._own, other._own))
 
     def copy(self) -> FieldPath:
+        """Returns an equal path, which is another object."""
         return made(FieldPath, native.vlt_path_copy, self._own)
 
     def __eq__(self, other: object) -> bool:
@@ -567,6 +617,7 @@ class FieldPathSet(Object):
         self.extend(given)
 
     def insert(self, path: Union[FieldPath, str]) -> None:
+        """Inserts the path. If it is in the set already, nothing changes."""
         it = _path(path)
         is_done(native.vlt_set_insert(self._own, it._own))
 
@@ -583,6 +634,7 @@ class FieldPathSet(Object):
         return number(ctypes.c_size_t, native.vlt_set_len, self._own) or 0
 
     def members(self) -> list[FieldPath]:
+        """Returns the paths of the set, each once, in no promised order."""
         return made(_Paths, native.vlt_set_members, self._own).all()
 
     def __iter__(self) -> Iterator[FieldPath]:
@@ -612,6 +664,7 @@ class FieldPathSet(Object):
         return None if it is None else [str(path[0]) for path in it.all()]
 
     def copy(self) -> FieldPathSet:
+        """Returns an equal set, which is another object."""
         return made(FieldPathSet, native.vlt_set_copy, self._own)
 
     def __repr__(self) -> str:
@@ -628,14 +681,17 @@ class FieldMask(Object):
 
     @staticmethod
     def all() -> FieldMask:
+        """Returns the mask that selects every path."""
         return made(FieldMask, native.vlt_mask_all)
 
     @staticmethod
     def prefix(path: Union[FieldPath, str]) -> FieldMask:
+        """Returns the mask that selects this path and every path below it."""
         return made(FieldMask, native.vlt_mask_prefix, _path(path))
 
     @staticmethod
     def exact(path: Union[FieldPath, str]) -> FieldMask:
+        """Returns the mask that selects this path alone."""
         return made(FieldMask, native.vlt_mask_exact, _path(path))
 
     @property
@@ -645,6 +701,7 @@ class FieldMask(Object):
 
     @property
     def path(self) -> Optional[FieldPath]:
+        """The path of a mask of the kind `prefix` or `exact`, or None for the mask of all paths."""
         return found(FieldPath, native.vlt_mask_path, self._own)
 
     def step_into(self) -> FieldMask:
@@ -660,13 +717,16 @@ class FieldMask(Object):
 
     @property
     def matches_all(self) -> bool:
+        """Whether the mask selects every path."""
         return is_done(native.vlt_mask_matches_all(self._own))
 
     @property
     def matches_root(self) -> bool:
+        """Whether the mask selects the root."""
         return is_done(native.vlt_mask_matches_root(self._own))
 
     def copy(self) -> FieldMask:
+        """Returns an equal mask, which is another object."""
         return made(FieldMask, native.vlt_mask_copy, self._own)
 
     def __eq__(self, other: object) -> bool:
@@ -742,6 +802,7 @@ class Message(Object):
         return made(Message, native.vlt_message_normal, self._own, allow_unknown)
 
     def copy(self) -> Message:
+        """Returns an equal message, which is another object."""
         return made(Message, native.vlt_message_copy, self._own)
 
     def __eq__(self, other: object) -> bool:

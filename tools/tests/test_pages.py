@@ -18,7 +18,7 @@ CHANGES = [
     ("docs/TRUST.md", "", "\n[here](GUIDE.md#gone)\n", "docs/TRUST.md: docs/GUIDE.md has no heading #gone"),
     ("docs/GUIDE.md", "| 0 |", "| 1 |", "docs/GUIDE.md: lacks error 0, OutOfMemory"),
     ("docs/CONSOLE.md", "`name NAME`", "", "docs/CONSOLE.md: lacks the command name NAME"),
-    ("docs/CONSOLE.md", "| how many fields there are |", "| the number of fields |", "docs/CONSOLE.md: nfields: the page says"),
+    ("docs/CONSOLE.md", "| the number of fields |", "| how many fields there are |", "docs/CONSOLE.md: nfields: the page says"),
     (TABLE, 'r#""a b""#, "the name itself', 'r#""a c""#, "the name itself', 'the example name "a c" is no golden test'),
     (TABLE, '"", Names(NameCommand::NameCmp)', '"Io (1)", Names(NameCommand::NameCmp)', "name_cmp: there is no error Io"),
     ("crates/console_paths/src/merging.rt", "let merged = merge_nullability(", "let merged = (",

@@ -84,6 +84,6 @@ const ROWS: [Row; 20] = [
     Row("precision_scale_from", "DI D", "i8 decimal(2,1)", "the precision and scale of the decimal, checked in the same way", "PrecisionZero (1), PrecisionTooLarge (2), ScaleTooLarge (3), ScaleAbovePrecision (4)", NativeDecimals(NativeDecimalCommand::PrecisionScaleFrom)),
     Row("precision_scale_to", "DI P S", "i16 4 -1", "the decimal with this precision and scale, after the same check", "PrecisionZero (1), PrecisionTooLarge (2), ScaleTooLarge (3), ScaleAbovePrecision (4)", NativeDecimals(NativeDecimalCommand::Make(PrecisionScaleForm::PrecisionScaleTo))),
     Row("precision_scale_is_valid", "DI P S V", "i8 2 1 -100", "whether the value has at most P digits. The scale makes no difference. For example, 99 is valid for i8 2 1, and 100 isn't.", "PrecisionZero (1), PrecisionTooLarge (2), ScaleTooLarge (3), ScaleAbovePrecision (4)", NativeDecimals(NativeDecimalCommand::PrecisionScaleIsValid)),
-    Row("by_precision", "DI P", "i16 4", "the least and the greatest value of the native type with P digits", "condition: needs a precision up to the greatest of the type", NativeDecimals(NativeDecimalCommand::ByPrecision)),
+    Row("by_precision", "DI P", "i16 4", "the least and the greatest number of P digits, as values of the native type", "condition: needs a precision up to the greatest of the type", NativeDecimals(NativeDecimalCommand::ByPrecision)),
     Row("native_decimal", "DI", "i128", "the storage type, greatest precision, greatest scale and name of a native type", "", NativeDecimals(NativeDecimalCommand::NativeDecimal)),
 ];

@@ -76,7 +76,8 @@ class Bindings(Planted):
             self.assertNotIn("is_not_exported", self.read(file))
         self.assertEqual(self.run_tool("bindings", "--check"), (0, "4 passed, 0 failed\n"))
         self.write("it.c", '#include "bindings/c/vortex_logical_types.h"\n')
-        for compiler in (["cc", "-std=c99"], ["cc", "-x", "c++", "-std=c++11"]):
+        with_cpp = [["cc", "-x", "c++", "-std=c++11"]] * bool(shutil.which("g++"))
+        for compiler in [["cc", "-std=c99"], *with_cpp]:
             subprocess.run([*compiler, "-Wall", "-Wextra", "-pedantic", "-Werror", "-fsyntax-only", "it.c"], cwd=self.top,
                            check=True)
 

@@ -384,7 +384,7 @@ def premises(parts, _):
     """A premise of a clause as a `requires`."""
     required, clauses = [], []
     for it in parts.clauses:
-        premise = it.kind == "ensures" and re.match(r"((?:Valid|Admits|Distinct|n ≡|Contains)\b[^→↔λ]*?) → ", it.text)
+        premise = it.kind == "ensures" and re.match(r"((?:Valid(?:Items|Variants|Map)?|Admits|Distinct|n ≡|Contains)\b[^→↔λ]*?) → ", it.text)
         if premise and not re.search(r"\bresult\b|\.new\b", premise[1]):
             if premise[1] not in required:
                 required.append(premise[1])

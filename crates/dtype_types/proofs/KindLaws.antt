@@ -5,6 +5,7 @@
 -- under no rule to a type of another kind.
 use Rattle.std.proofs.Common.{◌≡◌, ◌&&◌, ℕ, List, ap, ◌∙◌, Some, false, refl}
 use Rattle.std.specs.Bool.{Decides}
+use Rattle.std.proofs.lemmas.Bool.Decides.{Decides-like}
 use Rattle.std.specs.Str.{bytes_eq}
 use denote.Hole.Carrier
 use Rattle.dtype_base.specs.declared.nullability.Nullability.{Nullability}
@@ -12,7 +13,7 @@ use Rattle.dtype_base.specs.declared.nullability.Nullability.TheVariants.{NonNul
 use Rattle.dtype_types.specs.equality.Equality.{equal_under, items_equal_under, allows}
 use Rattle.dtype_types.specs.equality.EqualityLaws.{equal_erased-Decides}
 use Rattle.dtype_types.proofs.lemmas.TreeLaws.{pairs_of, tree_null, tree_out, tree_struct, tree_union, triples_variants}
-use Rattle.dtype_types.specs.tree.Erase.{erase}
+use Rattle.dtype_types.specs.tree.Erase.{erase, erase_items}
 use Rattle.dtype_types.specs.tree.Kinds.{struct_fields, union_variants}
 use Rattle.dtype_types.specs.tree.Tree.{Tree, Fields, Variants, fields, variants, null, struct, union, extension}
 use Rattle.dtype_types.specs.tree.TreeOf.{tree, children, variant_list}
@@ -45,13 +46,13 @@ unions_equal_under s d e x y m n p q =
 
 pub ruleset parts_equal_under = (null_equal_under, structs_equal_under, unions_equal_under)
 
--- with nullabilities ignored the tests of fields, of variants and of an extension's parts decide whether the erased trees
--- of what they make are equal
-pub erased_structs : (a b : Fields) → Decides (items_equal_under Ignored a b) (erase (struct a NonNullable) ≡ erase (struct b NonNullable))
-erased_structs a b = equal_erased-Decides (struct a NonNullable) (struct b NonNullable)
+-- with nullabilities ignored the tests of fields, of variants and of an extension's parts decide whether these are equal
+-- once they are erased
+pub erased_structs : (a b : Fields) → Decides (items_equal_under Ignored a b) (erase_items a ≡ erase_items b)
+erased_structs a b = Decides-like _ (λ e. cc e) (λ e. ap (λ fs. struct fs NonNullable) e) (equal_erased-Decides (struct a NonNullable) (struct b NonNullable))
 
-pub erased_unions : (a b : Variants) → Decides (items_equal_under Ignored a b) (erase (union a NonNullable) ≡ erase (union b NonNullable))
-erased_unions a b = equal_erased-Decides (union a NonNullable) (union b NonNullable)
+pub erased_unions : (a b : Variants) → Decides (items_equal_under Ignored a b) (erase_items a ≡ erase_items b)
+erased_unions a b = Decides-like _ (λ e. cc e) (λ e. ap (λ vs. union vs NonNullable) e) (equal_erased-Decides (union a NonNullable) (union b NonNullable))
 
 pub erased_extensions : (i j a b : List ℕ) (t u : Tree) → Decides (bytes_eq i j && bytes_eq a b && equal_under Ignored t u) (erase (extension i a t) ≡ erase (extension j b u))
 erased_extensions i j a b t u = equal_erased-Decides (extension i a t) (extension j b u)

@@ -5,8 +5,9 @@
 use Rattle.std.proofs.Common.{◌≡◌, ◌⊎◌, ℕ, ◌+◌, ◌*◌, ◌^◌, ◌<◌, ◌≤◌, List, [], ◌∷◌, ◌++◌, length, map, get_or, take, drop, refl, sym, ap, subst, ◌∙◌, inl, inr, arith, add_assoc}
 use Rattle.std.proofs.lemmas.List.{get_or-map, length-map, take_more, take-append-drop}
 use Rattle.dtype_base.specs.declared.nullability.Nullability.{Nullability}
+use Rattle.std.specs.Map.{values_of}
 use Rattle.dtype_types.specs.tree.Tree.{Tree, fields, fixed_size_list, null, struct}
-use Rattle.dtype_types.specs.tree.TreeOf.{tree, children, struct_dtypes, struct_pairs}
+use Rattle.dtype_types.specs.tree.TreeOf.{tree, children, struct_pairs}
 use Rattle.dtype_types.specs.declared.dtype.DType.{DType}
 use Rattle.dtype_types.specs.declared.dtype.width.Width.{Width}
 use Rattle.dtype_types.specs.declared.struct_fields.StructFields.{StructFields}
@@ -70,7 +71,7 @@ narrow_push ps p n bytes f g e small = (fixed_both ps (p ∷ []) f.0 (g.0, tt), 
     none (u, inr inside, big) = elim (part_of_either u ps (p ∷ []) inside) [ inl before ↦ f.1 (u, inr before, big) | inr (inl last) ↦ g.1 (u, last, big) | inr (inr more) ↦ more ]
 
 -- the next field is measured, and added to those before it
-pub next_measured : (s : StructFields) (ds : List DType) (i : ℕ) (d : DType) (w total more : Width) → ds ≡ struct_dtypes s → i < length ds → d ≡ get_or ds i d → Measures w (tree d)
+pub next_measured : (s : StructFields) (ds : List DType) (i : ℕ) (d : DType) (w total more : Width) → ds ≡ values_of (struct_pairs s) → i < length ds → d ≡ get_or ds i d → Measures w (tree d)
     → ((ps : Pairs) (p : List ℕ × Tree) → MeasuresFields total ps → Measures w p.1 → MeasuresFields more (ps ++ p ∷ []))
     → MeasuresFields total (take i (children s)) → MeasuresFields more (take (i + 1) (children s))
 next_measured s ds i d w total more same h e measured added so_far =

@@ -21,13 +21,13 @@ ghost use Rattle.dtype_types.specs.nullability.Nullable.{SetNull, nullability, I
 ghost use Rattle.dtype_types.specs.values.Sample.{sample};
 ghost use Rattle.dtype_types.specs.nullability.Sub.{Sub};
 ghost use Rattle.dtype_types.specs.values.Tell.{HasNoSizeZero, tell};
-ghost use Rattle.dtype_types.specs.tree.Valid.{Valid};
+ghost use Rattle.dtype_types.specs.tree.Valid.{Valid, ValidItems, ValidMap, ValidVariants};
 ghost use Rattle.dtype_types.specs.values.Value.{AddsNull, IncludedIn, Of, null_value};
 ghost use Rattle.dtype_types.specs.parts.FieldTypes.{field_tree};
 ghost use Rattle.dtype_types.specs.tree.Kinds.{any_size_list_element, extension_parts, fixed_size_list_element, list_element, map_parts, struct_fields, union_variants};
 ghost use Rattle.dtype_types.specs.parts.Maps.{entries_of};
 ghost use Rattle.dtype_types.specs.tree.Tree.{Tree, extension, fields, fixed_size_list, list, map_of, primitive, struct, union, variants};
-ghost use Rattle.dtype_types.specs.tree.TreeOf.{children, variant_list, extension_id, extension_metadata, extension_tree, map_shown, map_tree, storage_tree, struct_pairs, struct_tree, tree, union_tree, union_triples};
+ghost use Rattle.dtype_types.specs.tree.TreeOf.{children, variant_list, extension_id, extension_metadata, extension_tree, map_shown, storage_tree, struct_pairs, fields_of, tree, variants_of, union_triples};
 ghost use Rattle.dtype_types.specs.parts.Lookups.{Projects, field_types, first_named, variant_names, variant_named, variant_tags, variant_types};
 ghost use Rattle.dtype_types.specs.parts.Unions.{MakesUnion};
 ghost use Rattle.dtype_types.specs.parts.Lists.{borrowed_pair, borrowed_triple};
@@ -117,7 +117,7 @@ pub fn bytes_are_non_nullable_u8() -> DType
 /// About [`UnionVariants::tag_to_child_index`] and [`UnionVariants::child_index_to_tag`].
 #[tactic(auto, using(crate::proofs::lemmas::Tags::position_of_tag))]
 pub fn tags_tell_positions()
-    ensures { (u : UnionVariants) → Valid (union_tree u) → (i tag : ℕ)
+    ensures { (u : UnionVariants) → ValidVariants (variants_of u) → (i tag : ℕ)
         → slice_get (variant_tags (variant_list u)) i ≡ Some tag
         → position (λ g. g == tag) (variant_tags (variant_list u)) ≡ Some i }
 {}
@@ -262,12 +262,12 @@ pub fn setting_a_nullability_keeps_validity()
 /// About [`DType::try_clone`].
 pub fn copies_of_valid_types_are_valid()
     ensures types { (d copy : DType) → tree copy ≡ tree d → Valid (tree d) → Valid (tree copy) }
-    ensures structs { (s copy : StructFields) → struct_pairs copy ≡ struct_pairs s → Valid (struct_tree s)
-        → Valid (struct_tree copy) }
-    ensures unions { (u copy : UnionVariants) → union_triples copy ≡ union_triples u → Valid (union_tree u)
-        → Valid (union_tree copy) }
-    ensures maps { (m copy : MapDType) → map_shown copy ≡ map_shown m → Valid (map_tree m)
-        → Valid (map_tree copy) }
+    ensures structs { (s copy : StructFields) → struct_pairs copy ≡ struct_pairs s → ValidItems (fields_of s)
+        → ValidItems (fields_of copy) }
+    ensures unions { (u copy : UnionVariants) → union_triples copy ≡ union_triples u → ValidVariants (variants_of u)
+        → ValidVariants (variants_of copy) }
+    ensures maps { (m copy : MapDType) → map_shown copy ≡ map_shown m → ValidMap (map_shown m)
+        → ValidMap (map_shown copy) }
     ensures extensions { (e copy : ExtDTypeRef) → extension_tree copy ≡ extension_tree e
         → Valid (extension_tree e) → Valid (extension_tree copy) }
     ensures field_types { (f copy : FieldDType) → field_tree copy ≡ field_tree f → Valid (field_tree f)
@@ -285,11 +285,11 @@ pub fn parts_of_a_valid_type_are_valid()
     ensures list_element { (t u : Tree) → list_element t ≡ Some u → Valid t → Valid u }
     ensures fixed_size_list_element { (t u : Tree) → fixed_size_list_element t ≡ Some u → Valid t → Valid u }
     ensures any_size_list_element { (t u : Tree) → any_size_list_element t ≡ Some u → Valid t → Valid u }
-    ensures map_parts { (t : Tree) (m : MapDType) → map_parts t ≡ Some (map_shown m) → Valid t → Valid (map_tree m) }
+    ensures map_parts { (t : Tree) (m : MapDType) → map_parts t ≡ Some (map_shown m) → Valid t → ValidMap (map_shown m) }
     ensures struct_fields { (t : Tree) (s : StructFields) → struct_fields t ≡ Some (children s) → Valid t
-        → Valid (struct_tree s) }
+        → ValidItems (fields_of s) }
     ensures union_variants { (t : Tree) (u : UnionVariants) → union_variants t ≡ Some (variant_list u) → Valid t
-        → Valid (union_tree u) }
+        → ValidVariants (variants_of u) }
     ensures extension_parts { (t : Tree) (e : ExtDTypeRef)
         → extension_parts t ≡ Some (extension_id e, extension_metadata e, storage_tree e) → Valid t
         → Valid (extension_tree e) }
@@ -304,18 +304,18 @@ pub fn parts_of_a_valid_type_are_valid()
 #[tactic(auto, using(crate::proofs::lemmas::Validity::types_in_valid_parts))]
 pub fn types_in_valid_parts_are_valid()
     ensures field_at { (s : StructFields) (i : ℕ) (t : Tree) → slice_get (field_types (children s)) i ≡ Some t
-        → Valid (struct_tree s) → Valid t }
+        → ValidItems (fields_of s) → Valid t }
     ensures field_named { (s : StructFields) (name : List ℕ) (t : Tree) → first_named (children s) name ≡ Some t
-        → Valid (struct_tree s) → Valid t }
-    ensures fields { (s : StructFields) → Valid (struct_tree s)
+        → ValidItems (fields_of s) → Valid t }
+    ensures fields { (s : StructFields) → ValidItems (fields_of s)
         → All Valid (field_types (children s)) × All (λ p. Valid (tree p.1)) (struct_pairs s) }
     ensures variant_at { (u : UnionVariants) (i : ℕ) (t : Tree) → slice_get (variant_types (variant_list u)) i ≡ Some t
-        → Valid (union_tree u) → Valid t }
+        → ValidVariants (variants_of u) → Valid t }
     ensures variant_named { (u : UnionVariants) (name : List ℕ) (t : Tree)
-        → variant_named (variant_list u) name ≡ Some t → Valid (union_tree u) → Valid t }
-    ensures variants { (u : UnionVariants) → Valid (union_tree u)
+        → variant_named (variant_list u) name ≡ Some t → ValidVariants (variants_of u) → Valid t }
+    ensures variants { (u : UnionVariants) → ValidVariants (variants_of u)
         → All Valid (variant_types (variant_list u)) × All (λ p. Valid (tree p.1.0)) (union_triples u) }
-    ensures map_parts { (m : MapDType) → Valid (map_tree m) → Valid (map_shown m).0 × Valid (map_shown m).1 }
+    ensures map_parts { (m : MapDType) → ValidMap (map_shown m) → Valid (map_shown m).0 × Valid (map_shown m).1 }
     ensures storage { (e : ExtDTypeRef) → Valid (extension_tree e) → Valid (storage_tree e) }
 {}
 
@@ -328,10 +328,10 @@ pub fn types_in_valid_parts_are_valid()
 #[tactic(auto, using(crate::proofs::lemmas::Validity::removal_valid, crate::proofs::lemmas::Validity::valid_joined, crate::proofs::lemmas::Validity::valid_projected))]
 pub fn selections_of_valid_fields_are_valid()
     ensures projected { (s projection : StructFields) (names : List (List ℕ))
-        → Projects (children s) names (children projection) → Valid (struct_tree s)
-        → Valid (struct_tree projection) }
-    ensures merged { (s t both : StructFields) → children both ≡ children s ++ children t → Valid (struct_tree s)
-        → Valid (struct_tree t) → Valid (struct_tree both) }
+        → Projects (children s) names (children projection) → ValidItems (fields_of s)
+        → ValidItems (fields_of projection) }
+    ensures merged { (s t both : StructFields) → children both ≡ children s ++ children t → ValidItems (fields_of s)
+        → ValidItems (fields_of t) → ValidItems (fields_of both) }
     ensures without { (s rest : StructFields) (i : ℕ) → children rest ≡ remove (children s) i
-        → Valid (struct_tree s) → Valid (struct_tree rest) }
+        → ValidItems (fields_of s) → ValidItems (fields_of rest) }
 {}

@@ -1,10 +1,9 @@
 // SPDX-License-Identifier: Apache-2.0
 // SPDX-FileCopyrightText: Copyright the Vortex contributors
 
-ghost use Rattle.std.specs.Prelude.{◌≡◌, ◌↔◌, ◌&&◌, IsTrue, fold, Some, ◌⊎◌, OnOk, MatchResult};
+ghost use Rattle.std.specs.Prelude.{◌≡◌, ◌↔◌, IsTrue, fold, Some, ◌⊎◌, OnOk, MatchResult};
 ghost use Rattle.dtype_base.specs.declared.vortex_error.VortexError.TheVariants.{OutOfMemory, MapKeyNullable};
 ghost use Rattle.dtype_base.specs.declared.nullability.Nullability.TheVariants.{NonNullable};
-ghost use Rattle.std.proofs.Math.Bool.{beq};
 ghost use Rattle.dtype_base.specs.Errors.{Makes};
 
 use crate::dtype::equality::{NullabilityRule, equal_under};
@@ -34,13 +33,13 @@ struct Entries<T> {
 }
 
 impl MapDType {
-    ghost use Rattle.dtype_types.specs.equality.Equality.{equal_under};
-    ghost use Rattle.dtype_types.specs.equality.Hashes.{inner_writes};
+    ghost use Rattle.dtype_types.specs.equality.Equality.{map_equal_under};
+    ghost use Rattle.dtype_types.specs.equality.Hashes.{map_writes};
     ghost use Rattle.dtype_types.specs.nullability.Merged.{merge, rule_of};
     ghost use Rattle.dtype_types.specs.tree.Erase.{erase};
     ghost use Rattle.dtype_types.specs.parts.Maps.{entries_of, key_tree, value_tree};
     ghost use Rattle.dtype_types.specs.nullability.Nullable.{nullability, IsNullable};
-    ghost use Rattle.dtype_types.specs.tree.TreeOf.{tree, map_shown, map_tree};
+    ghost use Rattle.dtype_types.specs.tree.TreeOf.{tree, map_shown};
 
     /// Returns the map type with this key type and this value type. `keys_sorted` is stored in the type and isn't
     /// checked against anything.
@@ -109,9 +108,7 @@ impl MapDType {
     // Returns whether the key types and the value types of the two are equal under the rule, and their flags are equal.
     #[cycle(equal_under)]
     pub(crate) fn equal_under(&self, other: &MapDType, rule: NullabilityRule) -> bool
-        ensures { result ≡ (equal_under rule (map_shown self.now).0 (map_shown other.now).0
-            && equal_under rule (map_shown self.now).1 (map_shown other.now).1
-            && beq (map_shown self.now).2 (map_shown other.now).2) }
+        ensures { result ≡ map_equal_under rule (map_shown self.now) (map_shown other.now) }
     {
         equal_under(&self.shared.key, &other.shared.key, rule)
             && equal_under(&self.shared.value, &other.shared.value, rule)
@@ -147,7 +144,7 @@ impl MapDType {
     // Hashes the key, the value, and whether the keys are sorted.
     #[cycle(hash)]
     pub(crate) fn hash_into<H: Hasher>(&self, mode: HashMode, state: &mut H)
-        ensures { state.new ≡ fold H.write state.old (inner_writes mode (map_tree self.now)) }
+        ensures { state.new ≡ fold H.write state.old (map_writes mode (map_shown self.now)) }
     {
         hash_into(&self.shared.key, mode, state);
         hash_into(&self.shared.value, mode, state);
@@ -173,14 +170,14 @@ impl MapDType {
 
 #[tactic(auto, using(crate::proofs::lemmas::Equality::equality))]
 impl PartialEq for MapDType {
-    ghost use Rattle.dtype_types.specs.equality.Equality.{same_by};
-    ghost use Rattle.dtype_types.specs.equality.EqualityLaws.{same_by_equiv};
-    ghost use Rattle.dtype_types.specs.tree.TreeOf.{map_shown, map_tree};
+    ghost use Rattle.dtype_types.specs.equality.Equality.{same_map_by};
+    ghost use Rattle.dtype_types.specs.equality.EqualityLaws.{same_map_by_equiv};
+    ghost use Rattle.dtype_types.specs.tree.TreeOf.{map_shown};
     ghost use Rattle.std.specs.Cmp.{partial_equiv_from_equiv};
 
-    ghost eq = { same_by map_tree };
+    ghost eq = { same_map_by map_shown };
 
-    ghost laws = { partial_equiv_from_equiv (same_by_equiv map_tree) };
+    ghost laws = { partial_equiv_from_equiv (same_map_by_equiv map_shown) };
 
     fn eq(&self, other: &MapDType) -> bool
         ensures { IsTrue result ↔ (map_shown self.now ≡ map_shown other.now) }
@@ -190,21 +187,21 @@ impl PartialEq for MapDType {
 }
 
 impl Eq for MapDType {
-    ghost use Rattle.dtype_types.specs.tree.TreeOf.{map_tree};
-    ghost use Rattle.dtype_types.specs.equality.EqualityLaws.{same_by_equiv};
+    ghost use Rattle.dtype_types.specs.tree.TreeOf.{map_shown};
+    ghost use Rattle.dtype_types.specs.equality.EqualityLaws.{same_map_by_equiv};
 
-    ghost laws = { same_by_equiv map_tree };
+    ghost laws = { same_map_by_equiv map_shown };
 }
 
 impl Hash for MapDType {
-    ghost use Rattle.dtype_types.specs.tree.TreeOf.{map_tree};
-    ghost use Rattle.dtype_types.specs.equality.HashLaws.{inner_writes_alike};
-    ghost use Rattle.dtype_types.specs.equality.Hashes.{inner_writes};
+    ghost use Rattle.dtype_types.specs.tree.TreeOf.{map_shown};
+    ghost use Rattle.dtype_types.specs.equality.HashLaws.{map_writes_alike};
+    ghost use Rattle.dtype_types.specs.equality.Hashes.{map_writes};
     ghost use Rattle.dtype_types.specs.declared.dtype.hash.HashMode.TheVariants.{Whole};
 
-    ghost hash_input = { λ x. inner_writes Whole (map_tree x) };
+    ghost hash_input = { λ x. map_writes Whole (map_shown x) };
 
-    ghost respects_eq = { inner_writes_alike map_tree };
+    ghost respects_eq = { map_writes_alike map_shown };
 
     fn hash<H: Hasher>(&self, state: &mut H) {
         self.hash_into(HashMode::Whole, state);

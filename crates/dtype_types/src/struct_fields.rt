@@ -4,6 +4,7 @@
 ghost use Rattle.std.specs.Prelude.{◌≡◌, ◌⊎◌, ◌↔◌, IsTrue, ◌<◌, ◌^◌, ◌++◌, [], length, map, remove, vec_len, ◌+◌, ◌≤◌, IfOk, IsOk, IsOkUnless, slice_get, Some, fold, OnOk, string_bytes, All, IsSome, MatchBool, MatchResult, nat_lt};
 ghost use Rattle.std.specs.Iterator.{IsFiniteIterable};
 ghost use Rattle.std.specs.List.{AllByRecursion, zip};
+ghost use Rattle.std.specs.Map.{values_of};
 ghost use Rattle.std.specs.Option.{option_copied};
 ghost use Rattle.dtype_base.specs.Errors.{Makes};
 ghost use Rattle.dtype_base.specs.MadeFrom.{MadeFrom};
@@ -42,14 +43,14 @@ pub struct StructFields {
 impl StructFields {
     ghost use Rattle.dtype_types.specs.equality.Equality.{items_equal_under};
     ghost use Rattle.dtype_types.specs.nullability.Merged.{merge_items, rule_of};
-    ghost use Rattle.dtype_types.specs.tree.Erase.{erase, erase_items};
+    ghost use Rattle.dtype_types.specs.tree.Erase.{erase_items};
     ghost use Rattle.dtype_types.specs.parts.FieldTypes.{field_tree};
     ghost use Rattle.dtype_types.specs.texts.IndentedText.{indented_text, indented_braces};
     ghost use Rattle.dtype_types.specs.parts.Lookups.{first_named, field_names, field_types, Projects};
     ghost use Rattle.dtype_base.specs.Distinct.{Distinct};
-    ghost use Rattle.dtype_types.specs.equality.Hashes.{inner_writes};
-    ghost use Rattle.dtype_types.specs.tree.TreeOf.{fields_of, struct_dtypes, struct_pairs, children, shown, struct_tree};
-    ghost use Rattle.dtype_types.specs.tree.Valid.{Valid};
+    ghost use Rattle.dtype_types.specs.equality.Hashes.{counted_writes};
+    ghost use Rattle.dtype_types.specs.tree.TreeOf.{fields_of, struct_pairs, children, shown};
+    ghost use Rattle.dtype_types.specs.tree.Valid.{Valid, ValidItems};
     ghost use Rattle.dtype_types.specs.tree.Width.{MeasuresFields};
 
     /// Returns the struct without fields.
@@ -73,7 +74,7 @@ impl StructFields {
     pub fn new(alloc: Global, names: FieldNames, dtypes: Vec<DType>) -> VortexResult<Self>
         requires { length names ≡ vec_len dtypes }
         ensures ok { Makes result (λ s. children s ≡ zip names (map tree dtypes.items)) }
-        ensures valid { All (λ d. Valid (tree d)) dtypes.items → IfOk result (λ s. Valid (struct_tree s)) }
+        ensures valid { All (λ d. Valid (tree d)) dtypes.items → IfOk result (λ s. ValidItems (fields_of s)) }
     {
         let names = IndexedNames::new(alloc, names)?;
         let shared = Rc::new(alloc, Named::new(names, dtypes))?;
@@ -94,7 +95,7 @@ impl StructFields {
     ) -> VortexResult<Self>
         requires { length names ≡ vec_len dtypes }
         ensures ok { Makes result (λ s. children s ≡ zip names (map field_tree dtypes.items)) }
-        ensures valid { All (λ d. Valid (field_tree d)) dtypes.items → IfOk result (λ s. Valid (struct_tree s)) }
+        ensures valid { All (λ d. Valid (field_tree d)) dtypes.items → IfOk result (λ s. ValidItems (fields_of s)) }
     {
         let dtypes = into_dtypes(alloc, dtypes)?;
         Ok(StructFields::new(alloc, names, dtypes)?)
@@ -113,7 +114,7 @@ impl StructFields {
         requires { IsFiniteIterable I.into_iter_gives I.IntoIter.can_next I.IntoIter.remaining fields }
         ensures { Makes result (λ s. MadeFrom (I.into_iter_gives fields) I.IntoIter.next_gives (λ given.
             (children s ≡ map (λ p. (p.0, field_tree p.1)) given)
-            × (All (λ p. Valid (field_tree p.1)) given → Valid (struct_tree s)))) }
+            × (All (λ p. Valid (field_tree p.1)) given → ValidItems (fields_of s)))) }
     {
         let fields = fields.into_iter();
         let (room, _) = fields.size_hint();
@@ -134,7 +135,7 @@ impl StructFields {
 
     // The types, in order.
     fn dtypes(&self) -> &[DType]
-        ensures { result.now ≡ struct_dtypes self.now }
+        ensures { result.now ≡ values_of (struct_pairs self.now) }
     {
         self.shared.dtypes()
     }
@@ -226,7 +227,7 @@ impl StructFields {
     #[tactic(auto, using(crate::proofs::KindLaws::erased_tests))]
     pub fn eq_ignore_nullability(&self, other: &Self) -> bool
         ensures { IsTrue result
-            ↔ (erase (struct_tree self.now) ≡ erase (struct_tree other.now)) }
+            ↔ (erase_items (fields_of self.now) ≡ erase_items (fields_of other.now)) }
     {
         self.equal_under(other, NullabilityRule::Ignored)
     }
@@ -278,7 +279,7 @@ impl StructFields {
     // Hashes the number of fields, and each field.
     #[cycle(hash)]
     pub(crate) fn hash_into<H: Hasher>(&self, mode: HashMode, state: &mut H)
-        ensures { state.new ≡ fold H.write state.old (inner_writes mode (struct_tree self.now)) }
+        ensures { state.new ≡ fold H.write state.old (counted_writes mode (fields_of self.now)) }
     {
         state.write_usize(self.nfields());
         for (name, dtype) in self.pairs() {
@@ -306,7 +307,7 @@ impl StructFields {
             (λ n. first_named (children s) n ≡ first_named (children self.now) n) projection.now) }
         ensures there { IsOk result → AllByRecursion
             (λ n. IsSome (first_named (children self.now) n)) projection.now }
-        ensures valid { Valid (struct_tree self.now) → IfOk result (λ s. Valid (struct_tree s)) }
+        ensures valid { ValidItems (fields_of self.now) → IfOk result (λ s. ValidItems (fields_of s)) }
     {
         let (names, firsts) = self.shared.select(alloc, projection)?;
         let dtypes = self.copies_at(alloc, &firsts)?;
@@ -316,9 +317,9 @@ impl StructFields {
 
     // Returns copies of the types at these positions, in the order of the positions.
     fn copies_at(&self, alloc: Global, positions: &[usize]) -> VortexResult<Vec<DType>>
-        requires { All (λ i. i < length (struct_dtypes self.now)) positions.now }
+        requires { All (λ i. i < length (values_of (struct_pairs self.now))) positions.now }
         ensures { Makes result (λ copies. map Some (map tree copies.items)
-            ≡ map (slice_get (map tree (struct_dtypes self.now))) positions.now) }
+            ≡ map (slice_get (map tree (values_of (struct_pairs self.now)))) positions.now) }
     {
         let dtypes = self.dtypes();
         let mut copies = Vec::with_capacity(alloc, positions.len())?;
@@ -342,8 +343,8 @@ impl StructFields {
             × ¬ (Distinct (field_names (children self.now ++ children other.now))))) }
         ensures distinct { IsOk result
             → Distinct (field_names (children self.now ++ children other.now)) }
-        ensures valid { Valid (struct_tree self.now) → Valid (struct_tree other.now)
-            → IfOk result (λ s. Valid (struct_tree s)) }
+        ensures valid { ValidItems (fields_of self.now) → ValidItems (fields_of other.now)
+            → IfOk result (λ s. ValidItems (fields_of s)) }
     {
         let merged = self.joined(alloc, other)?;
         if !merged.shared.are_distinct() {
@@ -452,14 +453,14 @@ impl StructFields {
 
 #[tactic(auto, using(crate::proofs::lemmas::Equality::equality))]
 impl PartialEq for StructFields {
-    ghost use Rattle.dtype_types.specs.equality.Equality.{same_by};
-    ghost use Rattle.dtype_types.specs.equality.EqualityLaws.{same_by_equiv};
-    ghost use Rattle.dtype_types.specs.tree.TreeOf.{children, struct_tree};
+    ghost use Rattle.dtype_types.specs.equality.Equality.{same_items_by};
+    ghost use Rattle.dtype_types.specs.equality.EqualityLaws.{same_items_by_equiv};
+    ghost use Rattle.dtype_types.specs.tree.TreeOf.{children, fields_of};
     ghost use Rattle.std.specs.Cmp.{partial_equiv_from_equiv};
 
-    ghost eq = { same_by struct_tree };
+    ghost eq = { same_items_by fields_of };
 
-    ghost laws = { partial_equiv_from_equiv (same_by_equiv struct_tree) };
+    ghost laws = { partial_equiv_from_equiv (same_items_by_equiv fields_of) };
 
     fn eq(&self, other: &StructFields) -> bool
         ensures { IsTrue result ↔ (children self.now ≡ children other.now) }
@@ -469,21 +470,21 @@ impl PartialEq for StructFields {
 }
 
 impl Eq for StructFields {
-    ghost use Rattle.dtype_types.specs.tree.TreeOf.{struct_tree};
-    ghost use Rattle.dtype_types.specs.equality.EqualityLaws.{same_by_equiv};
+    ghost use Rattle.dtype_types.specs.tree.TreeOf.{fields_of};
+    ghost use Rattle.dtype_types.specs.equality.EqualityLaws.{same_items_by_equiv};
 
-    ghost laws = { same_by_equiv struct_tree };
+    ghost laws = { same_items_by_equiv fields_of };
 }
 
 impl Hash for StructFields {
-    ghost use Rattle.dtype_types.specs.tree.TreeOf.{struct_tree};
-    ghost use Rattle.dtype_types.specs.equality.HashLaws.{inner_writes_alike};
-    ghost use Rattle.dtype_types.specs.equality.Hashes.{inner_writes};
+    ghost use Rattle.dtype_types.specs.tree.TreeOf.{fields_of};
+    ghost use Rattle.dtype_types.specs.equality.HashLaws.{counted_writes_alike};
+    ghost use Rattle.dtype_types.specs.equality.Hashes.{counted_writes};
     ghost use Rattle.dtype_types.specs.declared.dtype.hash.HashMode.TheVariants.{Whole};
 
-    ghost hash_input = { λ x. inner_writes Whole (struct_tree x) };
+    ghost hash_input = { λ x. counted_writes Whole (fields_of x) };
 
-    ghost respects_eq = { inner_writes_alike struct_tree };
+    ghost respects_eq = { counted_writes_alike fields_of };
 
     fn hash<H: Hasher>(&self, state: &mut H) {
         self.hash_into(HashMode::Whole, state);
@@ -493,13 +494,13 @@ impl Hash for StructFields {
 /// Collects the fields that an iterator yields into a struct, in order, so that `collect` makes one.
 impl FromIterator<(FieldName, FieldDType)> for StructFields {
     ghost use Rattle.dtype_types.specs.parts.FieldTypes.{AreValidFields, field_tree};
-    ghost use Rattle.dtype_types.specs.tree.TreeOf.{children, struct_tree};
-    ghost use Rattle.dtype_types.specs.tree.Valid.{Valid};
+    ghost use Rattle.dtype_types.specs.tree.TreeOf.{children, fields_of};
+    ghost use Rattle.dtype_types.specs.tree.Valid.{Valid, ValidItems};
 
     type Alloc = Global;
 
     ghost from_iter_gives = { λ given s. (children s ≡ map (λ p. (p.0, field_tree p.1)) given)
-        × (AreValidFields given → Valid (struct_tree s)) };
+        × (AreValidFields given → ValidItems (fields_of s)) };
 
     fn from_iter<I: IntoIterator<Item = (FieldName, FieldDType)>>(
         alloc: Global,

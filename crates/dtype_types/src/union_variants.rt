@@ -86,11 +86,12 @@ fn first_tags(alloc: Global, count: usize) -> VortexResult<Vec<u8>>
 impl UnionVariants {
     ghost use Rattle.dtype_types.specs.equality.Equality.{items_equal_under};
     ghost use Rattle.dtype_types.specs.nullability.Merged.{merge_items, rule_of};
-    ghost use Rattle.dtype_types.specs.tree.Erase.{erase, erase_items};
+    ghost use Rattle.dtype_types.specs.tree.Erase.{erase_items};
+    ghost use Rattle.dtype_types.specs.parts.Lists.{types_of};
     ghost use Rattle.dtype_types.specs.parts.Lookups.{variant_named, variant_types, variant_names, variant_tags};
-    ghost use Rattle.dtype_types.specs.equality.Hashes.{inner_writes};
-    ghost use Rattle.dtype_types.specs.tree.TreeOf.{tree, variants_of, variant_list, union_dtypes, union_triples, shown, union_tree};
-    ghost use Rattle.dtype_types.specs.tree.Valid.{Valid};
+    ghost use Rattle.dtype_types.specs.equality.Hashes.{counted_writes};
+    ghost use Rattle.dtype_types.specs.tree.TreeOf.{tree, variants_of, variant_list, union_triples, shown};
+    ghost use Rattle.dtype_types.specs.tree.Valid.{Valid, ValidVariants};
 
     /// Returns the union of these names, types and tags, in order.
     ///
@@ -115,7 +116,7 @@ impl UnionVariants {
     ) -> VortexResult<Self>
         ensures variants { IfOk result
             (λ u. variant_list u ≡ zip names (zip (map tree dtypes.items) type_ids.items)) }
-        ensures valid { All (λ d. Valid (tree d)) dtypes.items → IfOk result (λ u. Valid (union_tree u)) }
+        ensures valid { All (λ d. Valid (tree d)) dtypes.items → IfOk result (λ u. ValidVariants (variants_of u)) }
 
         ensures accepted { OnOk result (MakesUnion names (vec_len dtypes) type_ids.items) }
         ensures errors { IfErr result (λ e.
@@ -144,7 +145,7 @@ impl UnionVariants {
     pub fn new(alloc: Global, names: FieldNames, dtypes: Vec<DType>) -> VortexResult<Self>
         ensures variants { IfOk result (λ u. variant_list u
             ≡ zip names (zip (map tree dtypes.items) (range_with_len 0 (length names)))) }
-        ensures valid { All (λ d. Valid (tree d)) dtypes.items → IfOk result (λ u. Valid (union_tree u)) }
+        ensures valid { All (λ d. Valid (tree d)) dtypes.items → IfOk result (λ u. ValidVariants (variants_of u)) }
 
         ensures accepted { OnOk result
             (MakesUnion names (vec_len dtypes) (range_with_len 0 (length names))) }
@@ -169,7 +170,7 @@ impl UnionVariants {
 
     // The types, in order.
     fn dtypes(&self) -> &[DType]
-        ensures { result.now ≡ union_dtypes self.now }
+        ensures { result.now ≡ types_of (union_triples self.now) }
     {
         self.shared.dtypes()
     }
@@ -264,7 +265,7 @@ impl UnionVariants {
     pub fn child_index_to_tag(&self, index: usize) -> u8
         requires { index < length (variant_tags (variant_list self.now)) }
         ensures at { slice_get (variant_tags (variant_list self.now)) index ≡ Some result }
-        ensures back { Valid (union_tree self.now)
+        ensures back { ValidVariants (variants_of self.now)
             → position (λ t. t == result) (variant_tags (variant_list self.now)) ≡ Some index }
     {
         self.type_ids()[index]
@@ -305,7 +306,7 @@ impl UnionVariants {
     #[tactic(auto, using(crate::proofs::KindLaws::erased_tests))]
     pub fn eq_ignore_nullability(&self, other: &UnionVariants) -> bool
         ensures { IsTrue result
-            ↔ (erase (union_tree self.now) ≡ erase (union_tree other.now)) }
+            ↔ (erase_items (variants_of self.now) ≡ erase_items (variants_of other.now)) }
     {
         self.equal_under(other, NullabilityRule::Ignored)
     }
@@ -313,7 +314,7 @@ impl UnionVariants {
     // Hashes the number of variants, and each variant.
     #[cycle(hash)]
     pub(crate) fn hash_into<H: Hasher>(&self, mode: HashMode, state: &mut H)
-        ensures { state.new ≡ fold H.write state.old (inner_writes mode (union_tree self.now)) }
+        ensures { state.new ≡ fold H.write state.old (counted_writes mode (variants_of self.now)) }
     {
         state.write_usize(self.len());
         for (name, tag, dtype) in self.triples() {
@@ -351,14 +352,14 @@ impl UnionVariants {
 
 #[tactic(auto, using(crate::proofs::lemmas::Equality::equality))]
 impl PartialEq for UnionVariants {
-    ghost use Rattle.dtype_types.specs.equality.Equality.{same_by};
-    ghost use Rattle.dtype_types.specs.equality.EqualityLaws.{same_by_equiv};
-    ghost use Rattle.dtype_types.specs.tree.TreeOf.{variant_list, union_tree};
+    ghost use Rattle.dtype_types.specs.equality.Equality.{same_items_by};
+    ghost use Rattle.dtype_types.specs.equality.EqualityLaws.{same_items_by_equiv};
+    ghost use Rattle.dtype_types.specs.tree.TreeOf.{variant_list, variants_of};
     ghost use Rattle.std.specs.Cmp.{partial_equiv_from_equiv};
 
-    ghost eq = { same_by union_tree };
+    ghost eq = { same_items_by variants_of };
 
-    ghost laws = { partial_equiv_from_equiv (same_by_equiv union_tree) };
+    ghost laws = { partial_equiv_from_equiv (same_items_by_equiv variants_of) };
 
     fn eq(&self, other: &UnionVariants) -> bool
         ensures { IsTrue result ↔ (variant_list self.now ≡ variant_list other.now) }
@@ -368,21 +369,21 @@ impl PartialEq for UnionVariants {
 }
 
 impl Eq for UnionVariants {
-    ghost use Rattle.dtype_types.specs.tree.TreeOf.{union_tree};
-    ghost use Rattle.dtype_types.specs.equality.EqualityLaws.{same_by_equiv};
+    ghost use Rattle.dtype_types.specs.tree.TreeOf.{variants_of};
+    ghost use Rattle.dtype_types.specs.equality.EqualityLaws.{same_items_by_equiv};
 
-    ghost laws = { same_by_equiv union_tree };
+    ghost laws = { same_items_by_equiv variants_of };
 }
 
 impl Hash for UnionVariants {
-    ghost use Rattle.dtype_types.specs.tree.TreeOf.{union_tree};
-    ghost use Rattle.dtype_types.specs.equality.HashLaws.{inner_writes_alike};
-    ghost use Rattle.dtype_types.specs.equality.Hashes.{inner_writes};
+    ghost use Rattle.dtype_types.specs.tree.TreeOf.{variants_of};
+    ghost use Rattle.dtype_types.specs.equality.HashLaws.{counted_writes_alike};
+    ghost use Rattle.dtype_types.specs.equality.Hashes.{counted_writes};
     ghost use Rattle.dtype_types.specs.declared.dtype.hash.HashMode.TheVariants.{Whole};
 
-    ghost hash_input = { λ x. inner_writes Whole (union_tree x) };
+    ghost hash_input = { λ x. counted_writes Whole (variants_of x) };
 
-    ghost respects_eq = { inner_writes_alike union_tree };
+    ghost respects_eq = { counted_writes_alike variants_of };
 
     fn hash<H: Hasher>(&self, state: &mut H) {
         self.hash_into(HashMode::Whole, state);

@@ -9,8 +9,8 @@ ghost use Rattle.std.specs.Option.{option_map};
 ghost use Rattle.vortex_dtype.specs.Lookups.{first_named};
 ghost use Rattle.vortex_dtype.specs.Types.Nullability.TheVariants.{Nullable};
 ghost use Rattle.vortex_dtype.specs.Types.VortexError.TheVariants.{OutOfMemory};
-ghost use Rattle.vortex_dtype.specs.Valid.{Valid};
-ghost use Rattle.vortex_dtype.specs.TreeOf.{tree, struct_tree, children, fields_of};
+ghost use Rattle.vortex_dtype.specs.Valid.{Valid, ValidItems};
+ghost use Rattle.vortex_dtype.specs.TreeOf.{tree, fields_of, children};
 ghost use Rattle.vortex_dtype.specs.Tree.{fields, primitive, struct};
 ghost use Rattle.vortex_dtype.specs.Meaning.{Admits, AdmitsItems};
 ghost use Rattle.vortex_dtype.specs.Session.{meaning};
@@ -47,7 +47,7 @@ pub fn with_column(
 ) -> VortexResult<DType>
     ensures made { IfOk result (λ d.
         tree d ≡ struct (fields (children columns.now ++ (name, primitive numbers Nullable) ∷ [])) n) }
-    ensures valid { Valid (struct_tree columns.now) → IfOk result (λ d. Valid (tree d)) }
+    ensures valid { ValidItems (fields_of columns.now) → IfOk result (λ d. Valid (tree d)) }
 {
     let names = FieldNames::from_vec(vec![in alloc; name]?);
     let dtypes = vec![in alloc; DType::Primitive(numbers, Nullability::Nullable)]?;
@@ -64,7 +64,7 @@ pub fn column_through_message(
     columns: &StructFields,
     name: &str,
 ) -> VortexResult<Option<DType>>
-    ensures { Valid (struct_tree columns.now)
+    ensures { ValidItems (fields_of columns.now)
         → AdmitsItems (meaning (λ b. rewrites (b.vtable, b.value)) session.now) (fields_of columns.now)
         → IfOk result (λ r. option_map tree r ≡ first_named (children columns.now) name.now) }
 {

@@ -7,9 +7,9 @@
 ghost use Rattle.std.specs.Prelude.{◌≡◌, IfOk, Some, map};
 ghost use Rattle.vortex_dtype.specs.FieldTypes.{AreValidFields, field_tree};
 ghost use Rattle.vortex_dtype.specs.Tree.{Fields, pairs, struct};
-ghost use Rattle.vortex_dtype.specs.TreeOf.{children, fields_of, shown, struct_tree, tree};
+ghost use Rattle.vortex_dtype.specs.TreeOf.{children, fields_of, shown, tree};
 ghost use Rattle.vortex_dtype.specs.Types.Nullability.{Nullability};
-ghost use Rattle.vortex_dtype.specs.Valid.{Valid};
+ghost use Rattle.vortex_dtype.specs.Valid.{ValidItems};
 
 use std::alloc::Global;
 use vortex_dtype::{DType, FieldDType, FieldName, Nullability, StructFields, VortexResult};
@@ -42,7 +42,7 @@ pub fn collect_fields(
     fields: Vec<(FieldName, FieldDType)>,
 ) -> VortexResult<StructFields>
     ensures made { IfOk result (λ s. children s ≡ map (λ p. (p.0, field_tree p.1)) fields.items) }
-    ensures valid { AreValidFields fields.items → IfOk result (λ s. Valid (struct_tree s)) }
+    ensures valid { AreValidFields fields.items → IfOk result (λ s. ValidItems (fields_of s)) }
 {
     Ok(fields.into_iter().collect(alloc)?)
 }

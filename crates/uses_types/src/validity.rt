@@ -7,8 +7,8 @@
 
 ghost use Rattle.std.specs.Prelude.{◌≡◌, ◌<◌, All, IfOk, IfSome, length, option_and_then, slice_get, vec_len};
 ghost use Rattle.std.specs.Option.{option_map};
-ghost use Rattle.dtype_types.specs.tree.Valid.{Valid};
-ghost use Rattle.dtype_types.specs.tree.TreeOf.{tree, shown, struct_tree};
+ghost use Rattle.dtype_types.specs.tree.Valid.{Valid, ValidItems};
+ghost use Rattle.dtype_types.specs.tree.TreeOf.{tree, shown, fields_of};
 ghost use Rattle.dtype_types.specs.tree.Kinds.{any_size_list_element, list_element, struct_fields};
 ghost use Rattle.dtype_types.specs.parts.Lookups.{field_types};
 
@@ -46,7 +46,7 @@ pub fn into_element(dtype: DType) -> Option<Box<DType>>
 #[tactic(auto, using(vortex_dtype::proofs::parts::valid_made))]
 pub fn struct_of(alloc: Global, names: FieldNames, dtypes: Vec<DType>) -> VortexResult<StructFields>
     requires { length names ≡ vec_len dtypes }
-    ensures { All (λ d. Valid (tree d)) dtypes.items → IfOk result (λ s. Valid (struct_tree s)) }
+    ensures { All (λ d. Valid (tree d)) dtypes.items → IfOk result (λ s. ValidItems (fields_of s)) }
 {
     StructFields::new(alloc, names, dtypes)
 }

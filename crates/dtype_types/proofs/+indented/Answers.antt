@@ -11,7 +11,7 @@ use Rattle.dtype_types.proofs.Texts.{leading, leading_all, one_written, all_writ
 use Rattle.dtype_types.specs.texts.IndentedText.{indented, indented_braces, indented_fields}
 use Rattle.std.specs.List.{join_by}
 use Rattle.dtype_types.specs.tree.Tree.{fields}
-use Rattle.dtype_types.specs.tree.TreeOf.{tree, children, struct_dtypes, fields_of, with_trees}
+use Rattle.dtype_types.specs.tree.TreeOf.{tree, children, struct_pairs, fields_of, with_trees}
 use Rattle.std.specs.Map.{values_of}
 use Rattle.dtype_types.specs.parts.Lists.{borrowed_pair}
 use Rattle.dtype_types.specs.declared.dtype.DType.{size-DType}
@@ -40,7 +40,7 @@ struct_fields::StructFields::write_indented-loop-name-preserved t c =
     ∙ simp append_assoc in
     let rest = indented_fields inner (fields (with_trees c.next.new.self)) in record {
       utf8 = search rules;
-      within = no_deeper (most size-DType (struct_dtypes c.args.self.now)) (values_of c.loop-name.name-iterator) (values_of c.next.new.self) c.in-Some.dtype.now (ap values_of next) c.loop-name.invariant.within;
+      within = no_deeper (most size-DType (values_of (struct_pairs c.args.self.now))) (values_of c.loop-name.name-iterator) (values_of c.next.new.self) c.in-Some.dtype.now (ap values_of next) c.loop-name.invariant.within;
       written = ap (λ xs. xs ++ leading (codes ",\n") (codes ",\n") rest) ended ∙ one_written (codes ",\n") separator start _ x _ rest c.loop-name.invariant.written (ap (λ ps. indented_fields inner (fields (with_trees ps))) next);
     }
 

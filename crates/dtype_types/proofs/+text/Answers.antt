@@ -15,7 +15,7 @@ use Rattle.dtype_types.specs.parts.Unions.{are_consecutive}
 use Rattle.dtype_types.specs.texts.Text.{text, item_texts, tag_text}
 use Rattle.std.specs.Map.{values_of}
 use Rattle.dtype_types.specs.parts.Lists.{types_of, borrowed_pair, borrowed_triple}
-use Rattle.dtype_types.specs.tree.TreeOf.{variant_list, struct_dtypes, fields_of, union_dtypes, variants_of, tree, with_trees, with_tagged_trees}
+use Rattle.dtype_types.specs.tree.TreeOf.{variant_list, struct_pairs, fields_of, union_triples, variants_of, tree, with_trees, with_tagged_trees}
 use Rattle.dtype_types.specs.declared.dtype.DType.{size-DType}
 use Rattle.dtype_types.specs.texts.TextOf.{struct_text, union_text}
 use Rattle.dtype_types.proofs.+text.Goals as goal
@@ -30,7 +30,7 @@ struct_fields::StructFieldsDisplay::fmt-loop-name-init g t c = record {
 pub struct_fields::StructFieldsDisplay::fmt-loop-name-preserved : goal.struct_fields::StructFieldsDisplay::fmt-loop-name-preserved
 struct_fields::StructFieldsDisplay::fmt-loop-name-preserved g t c = let next = next_of borrowed_pair c.loop-name.name-iterator c.next.new.self c.next.result (c.in-Some.name, c.in-Some.dtype) c.in-Some.is c.next.ensures.steps in record {
   utf8 = search rules;
-  within = no_deeper (most size-DType (struct_dtypes c.args.self.now)) (values_of c.loop-name.name-iterator) (values_of c.next.new.self) c.in-Some.dtype.now (ap values_of next) c.loop-name.invariant.within;
+  within = no_deeper (most size-DType (values_of (struct_pairs c.args.self.now))) (values_of c.loop-name.name-iterator) (values_of c.next.new.self) c.in-Some.dtype.now (ap values_of next) c.loop-name.invariant.within;
   written = λ plain.
       let n = escaped c.in-Some.name.now in
       let d = text (tree c.in-Some.dtype.now) in
@@ -67,7 +67,7 @@ union_variants::UnionVariantsDisplay::fmt-loop-name-init g t c = record {
 pub union_variants::UnionVariantsDisplay::fmt-loop-name-preserved : goal.union_variants::UnionVariantsDisplay::fmt-loop-name-preserved
 union_variants::UnionVariantsDisplay::fmt-loop-name-preserved g t c = let next = next_of borrowed_triple c.loop-name.name-iterator c.next.new.self c.next.result (c.in-Some.name, c.in-Some.tag, c.in-Some.dtype) c.in-Some.is c.next.ensures.steps in record {
   utf8 = search rules;
-  within = no_deeper (most size-DType (union_dtypes c.args.self.now)) (types_of c.loop-name.name-iterator) (types_of c.next.new.self) c.in-Some.dtype.now (ap types_of next) c.loop-name.invariant.within;
+  within = no_deeper (most size-DType (types_of (union_triples c.args.self.now))) (types_of c.loop-name.name-iterator) (types_of c.next.new.self) c.in-Some.dtype.now (ap types_of next) c.loop-name.invariant.within;
   written = λ plain.
       let k = are_consecutive (variant_tags (triples (variants_of c.args.self.now))) in
       let n = escaped c.in-Some.name.now in

@@ -14,18 +14,16 @@ use Rattle.std.specs.Map.{lookup}
 use Rattle.std.proofs.lemmas.Bool.Decides.{Decides-like}
 use Rattle.std.proofs.lemmas.Slice.Eq.{bytes_eq-Decides, slice_eq-Decides}
 use Rattle.std.proofs.Common.{sym, ap, ◌∙◌}
-use Rattle.dtype_types.specs.equality.EqualityLaws.{equal_under-Decides}
+use Rattle.dtype_types.specs.equality.EqualityLaws.{equal_under-Decides, items_equal-Decides, map_equal-Decides}
 use Rattle.dtype_types.specs.parts.FieldTypes.{field_tree}
-use Rattle.dtype_base.specs.declared.nullability.Nullability.TheVariants.{NonNullable}
 use Rattle.dtype_types.specs.declared.dtype.equality.NullabilityRule.TheVariants.{Compared}
-use Rattle.dtype_types.specs.equality.Equality.{equal_under, same_by}
+use Rattle.dtype_types.specs.equality.Equality.{equal_under, same_by, same_items_by, same_map_by}
 use Rattle.dtype_types.specs.parts.Lookups.{field_names}
-use Rattle.dtype_types.specs.tree.Erase.{erase, erase_items}
-use Rattle.dtype_types.specs.tree.Tree.{Tree, fields, map_of, struct, triples, union, variants, rest_of}
-use Rattle.dtype_types.specs.tree.TreeOf.{MapParts, children, extension_tree, map_shown, map_tree, struct_tree, tree, union_tree, variant_list}
+use Rattle.dtype_types.specs.tree.Erase.{erase_items}
+use Rattle.dtype_types.specs.tree.Tree.{Tree, a_struct, a_union, fields, pairs, triples, variants, rest_of}
+use Rattle.dtype_types.specs.tree.TreeOf.{children, extension_tree, map_shown, fields_of, tree, variants_of, variant_list}
 use Rattle.dtype_types.specs.equality.HashLaws.{erased_fed}
-use Rattle.dtype_types.proofs.lemmas.Structs.{same_pairs}
-use Rattle.dtype_types.proofs.lemmas.TreeLaws.{triples_variants}
+use Rattle.dtype_types.proofs.lemmas.TreeLaws.{pairs_of, triples_variants}
 use Rattle.dtype_types.specs.declared.dtype.DType.{DType}
 use Rattle.dtype_types.specs.declared.extension.ExtDTypeRef.{ExtDTypeRef}
 use Rattle.dtype_types.specs.declared.field_dtype.FieldDType.{FieldDType}
@@ -33,22 +31,14 @@ use Rattle.dtype_types.specs.declared.map.MapDType.{MapDType}
 use Rattle.dtype_types.specs.declared.struct_fields.StructFields.{StructFields}
 use Rattle.dtype_types.specs.declared.union_variants.UnionVariants.{UnionVariants}
 
-pub structs_Decides : (a b : StructFields) → Decides (same_by struct_tree a b) (children a ≡ children b)
-structs_Decides a b = Decides-like _ (same_pairs (children a) (children b) NonNullable NonNullable) (λ e. ap (λ ps. struct (fields ps) NonNullable) e) (equal_under-Decides (struct_tree a) (struct_tree b))
+pub structs_Decides : (a b : StructFields) → Decides (same_items_by fields_of a b) (children a ≡ children b)
+structs_Decides a b = Decides-like _ (λ e. sym (pairs_of (children a)) ∙ ap pairs e ∙ pairs_of (children b)) (λ e. ap fields e) (items_equal-Decides a_struct (fields_of a) (fields_of b))
 
--- unions that are equal have the same variants
-same_triples : (ps qs : List (List ℕ × (Tree × ℕ))) → union (variants ps) NonNullable ≡ union (variants qs) NonNullable → ps ≡ qs
-same_triples ps qs e = let alike : variants ps ≡ variants qs = cc in sym (triples_variants ps) ∙ ap triples alike ∙ triples_variants qs
+pub unions_Decides : (a b : UnionVariants) → Decides (same_items_by variants_of a b) (variant_list a ≡ variant_list b)
+unions_Decides a b = Decides-like _ (λ e. sym (triples_variants (variant_list a)) ∙ ap triples e ∙ triples_variants (variant_list b)) (λ e. ap variants e) (items_equal-Decides a_union (variants_of a) (variants_of b))
 
-pub unions_Decides : (a b : UnionVariants) → Decides (same_by union_tree a b) (variant_list a ≡ variant_list b)
-unions_Decides a b = Decides-like _ (same_triples (variant_list a) (variant_list b)) (λ e. ap (λ ps. union (variants ps) NonNullable) e) (equal_under-Decides (union_tree a) (union_tree b))
-
--- maps that are equal have the same parts
-same_map_parts : (a b : MapParts) → map_of a.0 a.1 a.2 NonNullable ≡ map_of b.0 b.1 b.2 NonNullable → a ≡ b
-same_map_parts (k, v, s) (l, w, t) e = cc
-
-pub maps_Decides : (a b : MapDType) → Decides (same_by map_tree a b) (map_shown a ≡ map_shown b)
-maps_Decides a b = Decides-like _ (same_map_parts (map_shown a) (map_shown b)) (λ e. ap (λ m. map_of m.0 m.1 m.2 NonNullable) e) (equal_under-Decides (map_tree a) (map_tree b))
+pub maps_Decides : (a b : MapDType) → Decides (same_map_by map_shown a b) (map_shown a ≡ map_shown b)
+maps_Decides a b = map_equal-Decides (map_shown a) (map_shown b)
 
 pub extensions_Decides : (a b : ExtDTypeRef) → Decides (same_by extension_tree a b) (extension_tree a ≡ extension_tree b)
 extensions_Decides a b = equal_under-Decides (extension_tree a) (extension_tree b)
@@ -84,7 +74,7 @@ erased_names (p ∷ ps) (q ∷ qs) e =
     let names = erased_names ps qs rest in cc
 erased_names _ _ e = cc
 
-pub erased_fields : (s t : StructFields) → erase (struct_tree s) ≡ erase (struct_tree t) → field_names (children s) ≡ field_names (children t)
-erased_fields s t e = erased_names (children s) (children t) cc
+pub erased_fields : (s t : StructFields) → erase_items (fields_of s) ≡ erase_items (fields_of t) → field_names (children s) ≡ field_names (children t)
+erased_fields s t e = erased_names (children s) (children t) e
 
 pub ruleset equality = (name_Decides, names_Decide, types_Decide, type_lists_Decide, equal_keys, structs_Decides, unions_Decides, maps_Decides, extensions_Decides, field_types_Decides, erased_fields, erased_fed)

@@ -16,14 +16,14 @@ use Rattle.dtype_types.proofs.lemmas.TreeLaws.{triples_variants}
 use Rattle.dtype_types.proofs.lemmas.ValidLists.{variants_are}
 use Rattle.dtype_types.specs.tree.Tree.{Tree, triples, variants}
 use Rattle.dtype_types.specs.parts.Unions.{AreConsecutive, are_consecutive}
-use Rattle.dtype_types.specs.tree.Valid.{Valid}
+use Rattle.dtype_types.specs.tree.Valid.{ValidVariants}
 use Rattle.dtype_types.specs.parts.Lookups.{variant_tags}
-use Rattle.dtype_types.specs.tree.TreeOf.{union_tree, variant_list}
+use Rattle.dtype_types.specs.tree.TreeOf.{variants_of, variant_list}
 use Rattle.std.specs.Cmp.Lexicographic.{bytes_decides}
 use Rattle.std.proofs.lemmas.Bool.Decides.{Decides-eqb, same_from_decides}
 use Rattle.dtype_types.specs.declared.union_variants.UnionVariants.{UnionVariants}
 
-pub position_of_tag : (u : UnionVariants) → Valid (union_tree u) → (i tag : ℕ) → slice_get (variant_tags (variant_list u)) i ≡ Some tag → position (λ g. g == tag) (variant_tags (variant_list u)) ≡ Some i
+pub position_of_tag : (u : UnionVariants) → ValidVariants (variants_of u) → (i tag : ℕ) → slice_get (variant_tags (variant_list u)) i ≡ Some tag → position (λ g. g == tag) (variant_tags (variant_list u)) ≡ Some i
 position_of_tag u h i tag here =
     let gs = variant_tags (variant_list u) in
     let within = slice_get_within gs i tag here in

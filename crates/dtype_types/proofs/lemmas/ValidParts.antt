@@ -10,8 +10,8 @@ use Rattle.std.specs.declared.alloc.Global.{Global}
 use Rattle.std.specs.declared.boxed.Box.{Box}
 use Rattle.std.proofs.lemmas.Option.{same_Some}
 use Rattle.dtype_base.specs.declared.nullability.Nullability.TheVariants.{NonNullable}
-use Rattle.dtype_types.specs.tree.Valid.{Valid, ValidItems}
-use Rattle.dtype_types.specs.tree.TreeOf.{tree, extension_tree, map_tree, union_tree, struct_tree, shown, children, variant_list, map_shown, extension_id, extension_metadata, storage_tree}
+use Rattle.dtype_types.specs.tree.Valid.{Valid, ValidItems, ValidMap, ValidVariants}
+use Rattle.dtype_types.specs.tree.TreeOf.{tree, extension_tree, map_shown, variants_of, fields_of, shown, children, variant_list, extension_id, extension_metadata, storage_tree}
 use Rattle.dtype_types.specs.tree.Kinds.{list_element, fixed_size_list_element, any_size_list_element, map_parts, struct_fields, union_variants, extension_parts}
 use Rattle.dtype_types.specs.nullability.Nullable.{nullability}
 use Rattle.dtype_types.specs.tree.Tree.{Tree, Fields, Variants, no_items, field, item, fields, pairs, variants, triples, list, fixed_size_list, map_of, struct, union, extension}
@@ -66,15 +66,15 @@ owned_any_size_element t r is h = of_moved (λ b. tree b.value) (λ b. Valid (tr
 
 -- ---- a map's parts
 
-pub map_parts_valid : (t : Tree) (m : MapDType) → map_parts t ≡ Some (map_shown m) → Valid t → Valid (map_tree m)
+pub map_parts_valid : (t : Tree) (m : MapDType) → map_parts t ≡ Some (map_shown m) → Valid t → ValidMap (map_shown m)
 map_parts_valid (map_of k v b n) m is h = subst (λ (p : Tree × Tree × Bool). (nullability p.0 ≡ NonNullable) × Valid p.0 × Valid p.1) (same_Some (k, v, b) (map_shown m) is) h
 map_parts_valid _ m is h = cc
 
-pub borrowed_map : (t : Tree) (r : Option (Bor MapDType)) → shown map_shown r ≡ map_parts t → Valid t → IfSome r (λ m. Valid (map_tree m.now))
-borrowed_map t r is h = of_lent map_shown (λ a. Valid (map_tree a)) (map_parts t) (λ a e. map_parts_valid t a e h) r is
+pub borrowed_map : (t : Tree) (r : Option (Bor MapDType)) → shown map_shown r ≡ map_parts t → Valid t → IfSome r (λ m. ValidMap (map_shown m.now))
+borrowed_map t r is h = of_lent map_shown (λ a. ValidMap (map_shown a)) (map_parts t) (λ a e. map_parts_valid t a e h) r is
 
-pub owned_map : (t : Tree) (r : Option MapDType) → option_map map_shown r ≡ map_parts t → Valid t → IfSome r (λ d. Valid (map_tree d))
-owned_map t r is h = of_moved map_shown (λ a. Valid (map_tree a)) (map_parts t) (λ a e. map_parts_valid t a e h) r is
+pub owned_map : (t : Tree) (r : Option MapDType) → option_map map_shown r ≡ map_parts t → Valid t → IfSome r (λ d. ValidMap (map_shown d))
+owned_map t r is h = of_moved map_shown (λ a. ValidMap (map_shown a)) (map_parts t) (λ a e. map_parts_valid t a e h) r is
 
 -- ---- a struct's fields
 
@@ -82,15 +82,15 @@ pub fields_of_pairs : (fs : Fields) → fields (pairs fs) ≡ fs
 fields_of_pairs no_items = refl
 fields_of_pairs (item n t _ rest) = ap (field n t) (fields_of_pairs rest)
 
-pub struct_fields_valid : (t : Tree) (s : StructFields) → struct_fields t ≡ Some (children s) → Valid t → Valid (struct_tree s)
+pub struct_fields_valid : (t : Tree) (s : StructFields) → struct_fields t ≡ Some (children s) → Valid t → ValidItems (fields_of s)
 struct_fields_valid (struct fs n) s is h = subst ValidItems (sym (fields_of_pairs fs) ∙ ap fields (same_Some (pairs fs) (children s) is)) h
 struct_fields_valid _ s is h = cc
 
-pub borrowed_struct : (t : Tree) (r : Option (Bor StructFields)) → shown children r ≡ struct_fields t → Valid t → IfSome r (λ s. Valid (struct_tree s.now))
-borrowed_struct t r is h = of_lent children (λ a. Valid (struct_tree a)) (struct_fields t) (λ a e. struct_fields_valid t a e h) r is
+pub borrowed_struct : (t : Tree) (r : Option (Bor StructFields)) → shown children r ≡ struct_fields t → Valid t → IfSome r (λ s. ValidItems (fields_of s.now))
+borrowed_struct t r is h = of_lent children (λ a. ValidItems (fields_of a)) (struct_fields t) (λ a e. struct_fields_valid t a e h) r is
 
-pub owned_struct : (t : Tree) (r : Option StructFields) → option_map children r ≡ struct_fields t → Valid t → IfSome r (λ d. Valid (struct_tree d))
-owned_struct t r is h = of_moved children (λ a. Valid (struct_tree a)) (struct_fields t) (λ a e. struct_fields_valid t a e h) r is
+pub owned_struct : (t : Tree) (r : Option StructFields) → option_map children r ≡ struct_fields t → Valid t → IfSome r (λ d. ValidItems (fields_of d))
+owned_struct t r is h = of_moved children (λ a. ValidItems (fields_of a)) (struct_fields t) (λ a e. struct_fields_valid t a e h) r is
 
 -- ---- a union's variants
 
@@ -98,15 +98,15 @@ variants_of_triples : (vs : Variants) → variants (triples vs) ≡ vs
 variants_of_triples no_items = refl
 variants_of_triples (item n t g rest) = ap (item n t g) (variants_of_triples rest)
 
-pub union_variants_valid : (t : Tree) (u : UnionVariants) → union_variants t ≡ Some (variant_list u) → Valid t → Valid (union_tree u)
+pub union_variants_valid : (t : Tree) (u : UnionVariants) → union_variants t ≡ Some (variant_list u) → Valid t → ValidVariants (variants_of u)
 union_variants_valid (union vs n) u is h = subst (λ ws. Valid (union ws NonNullable)) (sym (variants_of_triples vs) ∙ ap variants (same_Some (triples vs) (variant_list u) is)) h
 union_variants_valid _ u is h = cc
 
-pub borrowed_union : (t : Tree) (r : Option (Bor UnionVariants)) → shown variant_list r ≡ union_variants t → Valid t → IfSome r (λ u. Valid (union_tree u.now))
-borrowed_union t r is h = of_lent variant_list (λ a. Valid (union_tree a)) (union_variants t) (λ a e. union_variants_valid t a e h) r is
+pub borrowed_union : (t : Tree) (r : Option (Bor UnionVariants)) → shown variant_list r ≡ union_variants t → Valid t → IfSome r (λ u. ValidVariants (variants_of u.now))
+borrowed_union t r is h = of_lent variant_list (λ a. ValidVariants (variants_of a)) (union_variants t) (λ a e. union_variants_valid t a e h) r is
 
-pub owned_union : (t : Tree) (r : Option UnionVariants) → option_map variant_list r ≡ union_variants t → Valid t → IfSome r (λ d. Valid (union_tree d))
-owned_union t r is h = of_moved variant_list (λ a. Valid (union_tree a)) (union_variants t) (λ a e. union_variants_valid t a e h) r is
+pub owned_union : (t : Tree) (r : Option UnionVariants) → option_map variant_list r ≡ union_variants t → Valid t → IfSome r (λ d. ValidVariants (variants_of d))
+owned_union t r is h = of_moved variant_list (λ a. ValidVariants (variants_of a)) (union_variants t) (λ a e. union_variants_valid t a e h) r is
 
 -- ---- an extension
 

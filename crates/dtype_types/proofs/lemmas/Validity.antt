@@ -12,8 +12,8 @@ use Rattle.std.proofs.lemmas.Option.{same_Some}
 use Rattle.dtype_base.specs.declared.nullability.Nullability.{Nullability}
 use Rattle.dtype_base.specs.declared.nullability.Nullability.TheVariants.{NonNullable}
 use Rattle.dtype_types.specs.parts.FieldTypes.{given_fields, field_tree}
-use Rattle.dtype_types.specs.tree.Valid.{Valid, ValidItems}
-use Rattle.dtype_types.specs.tree.TreeOf.{tree, extension_tree, map_tree, union_tree, struct_tree, map_shown, struct_pairs, union_triples, children, variant_list, with_trees, with_tagged_trees, shown}
+use Rattle.dtype_types.specs.tree.Valid.{Valid, ValidItems, ValidMap, ValidVariants}
+use Rattle.dtype_types.specs.tree.TreeOf.{tree, extension_tree, map_shown, variants_of, fields_of, struct_pairs, union_triples, children, variant_list, with_trees, with_tagged_trees, shown}
 use Rattle.dtype_types.specs.parts.Lookups.{first_named, variant_named, field_types, variant_types}
 use Rattle.dtype_types.specs.parts.Maps.{entries_of}
 use Rattle.dtype_types.specs.nullability.Nullable.{nullability, set_null}
@@ -32,25 +32,25 @@ use Rattle.dtype_types.specs.declared.map.MapDType.{MapDType}
 
 -- ---- a type of a part, and back
 
-pub struct_valid : (s : StructFields) (n : Nullability) → Valid (struct_tree s) → Valid (tree (Struct s n))
+pub struct_valid : (s : StructFields) (n : Nullability) → ValidItems (fields_of s) → Valid (tree (Struct s n))
 struct_valid s n h = subst Valid (sym (tree_struct s n)) h
 
-pub union_valid : (u : UnionVariants) (n : Nullability) → Valid (union_tree u) → Valid (tree (Union u n))
+pub union_valid : (u : UnionVariants) (n : Nullability) → ValidVariants (variants_of u) → Valid (tree (Union u n))
 union_valid u n h = subst Valid (sym (tree_union u n)) h
 
-pub map_valid : (m : MapDType) (n : Nullability) → Valid (map_tree m) → Valid (tree (Map m n))
+pub map_valid : (m : MapDType) (n : Nullability) → ValidMap (map_shown m) → Valid (tree (Map m n))
 map_valid m n h = subst Valid (sym (tree_map m n)) h
 
 pub extension_valid : (e : ExtDTypeRef) → Valid (extension_tree e) → Valid (tree (Extension e))
 extension_valid e h = subst Valid (sym (tree_extension e)) h
 
-pub valid_struct : (d : DType) (s : StructFields) (n : Nullability) → d ≡ Struct s n → Valid (tree d) → Valid (struct_tree s)
+pub valid_struct : (d : DType) (s : StructFields) (n : Nullability) → d ≡ Struct s n → Valid (tree d) → ValidItems (fields_of s)
 valid_struct d s n is h = subst Valid (ap tree is ∙ tree_struct s n) h
 
-pub valid_union : (d : DType) (u : UnionVariants) (n : Nullability) → d ≡ Union u n → Valid (tree d) → Valid (union_tree u)
+pub valid_union : (d : DType) (u : UnionVariants) (n : Nullability) → d ≡ Union u n → Valid (tree d) → ValidVariants (variants_of u)
 valid_union d u n is h = subst Valid (ap tree is ∙ tree_union u n) h
 
-pub valid_map : (d : DType) (m : MapDType) (n : Nullability) → d ≡ Map m n → Valid (tree d) → Valid (map_tree m)
+pub valid_map : (d : DType) (m : MapDType) (n : Nullability) → d ≡ Map m n → Valid (tree d) → ValidMap (map_shown m)
 valid_map d m n is h = subst Valid (ap tree is ∙ tree_map m n) h
 
 pub valid_extension : (d : DType) (e : ExtDTypeRef) → d ≡ Extension e → Valid (tree d) → Valid (extension_tree e)
@@ -103,10 +103,10 @@ valid_projected ps (q ∷ qs) (n ∷ names) h e =
 
 -- ---- for callers
 
-pub field_valid : (s : StructFields) (i : ℕ) (r : Option (Bor DType)) → shown tree r ≡ slice_get (field_types (children s)) i → Valid (struct_tree s) → IfSome r (λ d. Valid (tree d.now))
+pub field_valid : (s : StructFields) (i : ℕ) (r : Option (Bor DType)) → shown tree r ≡ slice_get (field_types (children s)) i → ValidItems (fields_of s) → IfSome r (λ d. Valid (tree d.now))
 field_valid s i r is h = of_lent tree (λ d. Valid (tree d)) (slice_get (field_types (children s)) i) (λ d e. type_at_valid (children s) i (tree d) e h) r is
 
-pub named_field_valid : (s : StructFields) (n : List ℕ) (r : Option (Bor DType)) → shown tree r ≡ first_named (children s) n → Valid (struct_tree s) → IfSome r (λ d. Valid (tree d.now))
+pub named_field_valid : (s : StructFields) (n : List ℕ) (r : Option (Bor DType)) → shown tree r ≡ first_named (children s) n → ValidItems (fields_of s) → IfSome r (λ d. Valid (tree d.now))
 named_field_valid s n r is h = of_lent tree (λ d. Valid (tree d)) (first_named (children s) n) (λ d e. type_named_valid (children s) n (tree d) e h) r is
 
 -- the type of a variant, at its position and by its name, as that of a field
@@ -114,29 +114,29 @@ untagged_valid : (vs : List (List ℕ × (Tree × ℕ))) → ValidItems (variant
 untagged_valid [] h = tt
 untagged_valid (v ∷ vs) h = (h.0, untagged_valid vs h.1)
 
-pub variant_at_valid : (u : UnionVariants) (i : ℕ) (t : Tree) → slice_get (variant_types (variant_list u)) i ≡ Some t → Valid (union_tree u) → Valid t
+pub variant_at_valid : (u : UnionVariants) (i : ℕ) (t : Tree) → slice_get (variant_types (variant_list u)) i ≡ Some t → ValidVariants (variants_of u) → Valid t
 variant_at_valid u i t e h = let vs = variant_list u in type_at_valid (untagged vs) i t (ap (λ ts. slice_get ts i) (untagged_types vs) ∙ e) (untagged_valid vs h.1)
 
-pub variant_named_valid : (u : UnionVariants) (n : List ℕ) (t : Tree) → variant_named (variant_list u) n ≡ Some t → Valid (union_tree u) → Valid t
+pub variant_named_valid : (u : UnionVariants) (n : List ℕ) (t : Tree) → variant_named (variant_list u) n ≡ Some t → ValidVariants (variants_of u) → Valid t
 variant_named_valid u n t e h = let vs = variant_list u in type_named_valid (untagged vs) n t (untagged_named vs n ∙ e) (untagged_valid vs h.1)
 
-pub variant_valid : (u : UnionVariants) (i : ℕ) (r : Option (Bor DType)) → shown tree r ≡ slice_get (variant_types (variant_list u)) i → Valid (union_tree u) → IfSome r (λ d. Valid (tree d.now))
+pub variant_valid : (u : UnionVariants) (i : ℕ) (r : Option (Bor DType)) → shown tree r ≡ slice_get (variant_types (variant_list u)) i → ValidVariants (variants_of u) → IfSome r (λ d. Valid (tree d.now))
 variant_valid u i r is h = of_lent tree (λ d. Valid (tree d)) (slice_get (variant_types (variant_list u)) i) (λ d e. variant_at_valid u i (tree d) e h) r is
 
-pub named_variant_valid : (u : UnionVariants) (n : List ℕ) (r : Option (Bor DType)) → shown tree r ≡ variant_named (variant_list u) n → Valid (union_tree u) → IfSome r (λ d. Valid (tree d.now))
+pub named_variant_valid : (u : UnionVariants) (n : List ℕ) (r : Option (Bor DType)) → shown tree r ≡ variant_named (variant_list u) n → ValidVariants (variants_of u) → IfSome r (λ d. Valid (tree d.now))
 named_variant_valid u n r is h = of_lent tree (λ d. Valid (tree d)) (variant_named (variant_list u) n) (λ d e. variant_named_valid u n (tree d) e h) r is
 
 -- all types of fields, and of variants, in what holds them and as trees
-pub pairs_valid : (s : StructFields) → Valid (struct_tree s) → All (λ p. Valid (tree p.1)) (struct_pairs s)
+pub pairs_valid : (s : StructFields) → ValidItems (fields_of s) → All (λ p. Valid (tree p.1)) (struct_pairs s)
 pairs_valid s h = All-from_recursion (λ p. Valid (tree p.1)) (struct_pairs s) (each_pair (struct_pairs s) h)
 
-pub triples_valid : (u : UnionVariants) → Valid (union_tree u) → All (λ p. Valid (tree p.1.0)) (union_triples u)
+pub triples_valid : (u : UnionVariants) → ValidVariants (variants_of u) → All (λ p. Valid (tree p.1.0)) (union_triples u)
 triples_valid u h = All-from_recursion (λ p. Valid (tree p.1.0)) (union_triples u) (each_triple (union_triples u) h.1)
 
-pub field_types_valid : (s : StructFields) → Valid (struct_tree s) → All Valid (field_types (children s))
+pub field_types_valid : (s : StructFields) → ValidItems (fields_of s) → All Valid (field_types (children s))
 field_types_valid s h = All-map Valid (λ p. p.1) (children s) (All-map (λ p. Valid p.1) _ (struct_pairs s) (pairs_valid s h))
 
-pub variant_types_valid : (u : UnionVariants) → Valid (union_tree u) → All Valid (variant_types (variant_list u))
+pub variant_types_valid : (u : UnionVariants) → ValidVariants (variants_of u) → All Valid (variant_types (variant_list u))
 variant_types_valid u h = All-map Valid (λ p. p.1.0) (variant_list u) (All-map (λ p. Valid p.1.0) _ (union_triples u) (triples_valid u h))
 
 -- the struct of valid types
@@ -145,14 +145,14 @@ zip_valid [] ds h = tt
 zip_valid (n ∷ ns) [] h = tt
 zip_valid (n ∷ ns) (d ∷ ds) h = (h.0, zip_valid ns ds h.1)
 
-pub struct_of_valid : (s : StructFields) (ns : List (List ℕ)) (ds : List DType) → children s ≡ zip ns (map tree ds) → All (λ d. Valid (tree d)) ds → Valid (struct_tree s)
+pub struct_of_valid : (s : StructFields) (ns : List (List ℕ)) (ds : List DType) → children s ≡ zip ns (map tree ds) → All (λ d. Valid (tree d)) ds → ValidItems (fields_of s)
 struct_of_valid s ns ds e h = subst (λ ps. ValidItems (fields ps)) (sym e) (zip_valid ns ds (recursion_from_All (λ d. Valid (tree d)) ds h))
 
 pub valid_held : (ps : List (List ℕ × DType)) (ns : List (List ℕ)) (ds : List DType) → ps ≡ zip ns ds → All (λ d. Valid (tree d)) ds → ValidItems (fields (with_trees ps))
 valid_held ps ns ds e h = subst (λ qs. ValidItems (fields qs)) (sym (ap with_trees e ∙ trees_zip ns ds)) (zip_valid ns ds (recursion_from_All (λ d. Valid (tree d)) ds h))
 
 -- fields but for one
-pub removal_valid : (s r : StructFields) (i : ℕ) → children r ≡ remove (children s) i → Valid (struct_tree s) → Valid (struct_tree r)
+pub removal_valid : (s r : StructFields) (i : ℕ) → children r ≡ remove (children s) i → ValidItems (fields_of s) → ValidItems (fields_of r)
 removal_valid s r i e h = subst (λ ps. ValidItems (fields ps)) (sym e) (valid_removed (children s) i h)
 
 -- a type with another nullability
@@ -165,7 +165,7 @@ pub set_valid : (t u : Tree) (n : Nullability) → set_null t n ≡ Some u → V
 set_valid t u n e h = subst (λ o. IfSome o Valid) e (valid_set t n h)
 
 -- a map is made of its key and its value
-pub made_map_valid : (m : MapDType) (k v : Tree) (b : Bool) → map_shown m ≡ (k, v, b) → nullability k ≡ NonNullable → Valid k → Valid v → Valid (map_tree m)
+pub made_map_valid : (m : MapDType) (k v : Tree) (b : Bool) → map_shown m ≡ (k, v, b) → nullability k ≡ NonNullable → Valid k → Valid v → ValidMap (map_shown m)
 made_map_valid m k v b e n h g = subst (λ (p : Tree × Tree × Bool). (nullability p.0 ≡ NonNullable) × Valid p.0 × Valid p.1) (sym e) (n, h, g)
 
 -- a type that is made of valid ones

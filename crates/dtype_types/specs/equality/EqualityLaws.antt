@@ -24,8 +24,9 @@ use Rattle.dtype_types.specs.declared.dtype.equality.NullabilityRule.TheVariants
 use Rattle.dtype_types.specs.nullability.Nullable.{nullability}
 use Rattle.dtype_types.specs.nullability.Sub.{Sub, Wherever, WhereverItems}
 use Rattle.dtype_types.specs.tree.Tree.{Tree, no_items, item, null, bool, primitive, decimal, utf8, binary, list, fixed_size_list, map_of, struct, union, variant, extension, Holder, a_struct, a_union, Tag, Items, rest_of, first_tag}
+use Rattle.dtype_types.specs.tree.TreeOf.{MapParts}
 use Rattle.dtype_types.specs.tree.Erase.{erase, erase_items}
-use Rattle.dtype_types.specs.equality.Equality.{Asks, equal_under, items_equal_under, allows, same_ptype, same_tag, same_by}
+use Rattle.dtype_types.specs.equality.Equality.{Asks, equal_under, items_equal_under, map_equal_under, allows, same_ptype, same_tag, same_by, same_items_by, same_map_by}
 
 allows-Decides : (s : NullabilityRule) (m n : Nullability) → Decides (allows s m n) (Asks s m n)
 allows-Decides Ignored m n = (λ e. tt, λ h. refl)
@@ -157,9 +158,22 @@ equal_under-Decides a b =
     Decides-like _ (λ h. equal_by (Asks Compared) (Asks Ignored) (λ m n e _. e) a b h.0 h.1 (everywhere (Asks Ignored) (λ m n. tt) b a (sym h.0)))
     (λ e. subst (Alike Compared a) e (refl, reflexive (Asks Compared) (λ n. refl) a)) (alike-Decides Compared a b)
 
+pub items_equal-Decides : (h : Holder) (xs ys : Items h) → Decides (items_equal_under Compared xs ys) (xs ≡ ys)
+items_equal-Decides a_struct xs ys = Decides-like _ (λ e. cc e) (λ e. ap (λ fs. struct fs NonNullable) e) (equal_under-Decides (struct xs NonNullable) (struct ys NonNullable))
+items_equal-Decides a_union xs ys = Decides-like _ (λ e. cc e) (λ e. ap (λ vs. union vs NonNullable) e) (equal_under-Decides (union xs NonNullable) (union ys NonNullable))
+
+pub map_equal-Decides : (m n : MapParts) → Decides (map_equal_under Compared m n) (m ≡ n)
+map_equal-Decides (k, v, s) (l, w, t) = Decides-like _ (λ e. cc e) (λ e. ap (λ (m : MapParts). map_of m.0 m.1 m.2 NonNullable) e) (equal_under-Decides (map_of k v s NonNullable) (map_of l w t NonNullable))
+
 -- ---- `==` of types and of their parts, as an equivalence
 
 pub same_by_equiv : {X : Type 0} (seen : X → Tree) → IsEquivalence (same_by seen)
 same_by_equiv seen = on_equiv seen (decided (equal_under Compared) equal_under-Decides)
+
+pub same_items_by_equiv : {X : Type 0} {h : Holder} (seen : X → Items h) → IsEquivalence (same_items_by seen)
+same_items_by_equiv {X} {h} seen = on_equiv seen (decided (λ xs ys. items_equal_under Compared xs ys) (items_equal-Decides h))
+
+pub same_map_by_equiv : {X : Type 0} (seen : X → MapParts) → IsEquivalence (same_map_by seen)
+same_map_by_equiv seen = on_equiv seen (decided (map_equal_under Compared) map_equal-Decides)
 
 pub ruleset exact_tests = (equal_under-Decides, equal_erased-Decides)

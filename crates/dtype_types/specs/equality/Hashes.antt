@@ -17,6 +17,7 @@ use Rattle.dtype_types.specs.declared.dtype.kinds.Kind.TheVariants as kind
 use Rattle.dtype_types.specs.declared.dtype.hash.HashMode.{HashMode}
 use Rattle.dtype_types.specs.declared.dtype.hash.HashMode.TheVariants.{Whole, Erased}
 use Rattle.dtype_types.specs.tree.Tree.{Tree, no_items, item, null, bool, primitive, decimal, utf8, binary, list, fixed_size_list, map_of, struct, union, variant, extension, Items, Holder, a_struct, a_union, Tag}
+use Rattle.dtype_types.specs.tree.TreeOf.{MapParts}
 
 -- 1 for a nullable type, where nullabilities aren't ignored
 abbrev pub nullable_mark : HashMode → Nullability → ℕ
@@ -75,6 +76,14 @@ hash_writes t = hash_of Whole t
 abbrev pub hash_writes_ignoring_nullability : Tree → HashWrites
 hash_writes_ignoring_nullability t = hash_of Erased t
 
--- what a type feeds after the byte of its kind: what a part of it feeds, of the non-nullable type made of the part
+-- what the fields of a struct, or the variants of a union, feed: how many there are, and then each
+abbrev pub counted_writes : HashMode → {h : Holder} → Items h → HashWrites
+counted_writes s xs = fed.usize (item_count xs) ++ item_writes s xs
+
+-- what a map's key, its value and its flag feed
+abbrev pub map_writes : HashMode → MapParts → HashWrites
+map_writes s m = hash_of s m.0 ++ (hash_of s m.1 ++ fed.bool m.2)
+
+-- what a type feeds after the byte of its kind: what an extension's parts feed
 abbrev pub inner_writes : HashMode → Tree → HashWrites
 inner_writes s t = drop 1 (hash_of s t)

@@ -5,10 +5,11 @@
 use Rattle.std.specs.Prelude.{ℕ, List, codes}
 use Rattle.std.specs.List.{join_by}
 use Rattle.dtype_types.specs.parts.Lookups.{variant_tags}
-use Rattle.dtype_types.specs.tree.Tree.{triples}
+use Rattle.dtype_base.specs.declared.nullability.Nullability.TheVariants.{NonNullable}
+use Rattle.dtype_types.specs.tree.Tree.{map_of, struct, triples}
 use Rattle.dtype_types.specs.parts.Unions.{are_consecutive}
 use Rattle.dtype_types.specs.texts.Text.{text, item_texts}
-use Rattle.dtype_types.specs.tree.TreeOf.{variants_of, struct_tree, map_tree, extension_tree}
+use Rattle.dtype_types.specs.tree.TreeOf.{variants_of, fields_of, map_shown, extension_tree}
 use Rattle.dtype_types.specs.declared.struct_fields.StructFields.{StructFields}
 use Rattle.dtype_types.specs.declared.union_variants.UnionVariants.{UnionVariants}
 use Rattle.dtype_types.specs.declared.map.MapDType.{MapDType}
@@ -16,11 +17,11 @@ use Rattle.dtype_types.specs.declared.extension.ExtDTypeRef.{ExtDTypeRef}
 
 -- the text of a map: that of the non-nullable type
 unfoldable pub map_text : MapDType → List ℕ
-map_text m = text (map_tree m)
+map_text m = text (map_of (map_shown m).0 (map_shown m).1 (map_shown m).2 NonNullable)
 
 -- the text of a struct: that of the non-nullable type
 unfoldable pub struct_text : StructFields → List ℕ
-struct_text s = text (struct_tree s)
+struct_text s = text (struct (fields_of s) NonNullable)
 
 -- the variants of a union, separated by commas
 unfoldable pub union_text : UnionVariants → List ℕ

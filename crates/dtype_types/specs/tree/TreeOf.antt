@@ -5,9 +5,6 @@
 -- a union's variants as triples of a name, a type and a tag. From the declaration of `DType` and its parts.
 use Rattle.std.specs.Prelude.{ℕ, List, map, Option, Some, None, Bool as Flag}
 use Rattle.std.specs.Borrow.{Bor}
-use Rattle.dtype_base.specs.declared.nullability.Nullability.TheVariants.{NonNullable}
-use Rattle.std.specs.Map.{values_of}
-use Rattle.dtype_types.specs.parts.Lists.{types_of}
 use Rattle.dtype_types.specs.tree.Tree.{Tree, Fields, fields, Variants, variants, null, bool, primitive, decimal, utf8, binary, list, fixed_size_list, map_of, struct, union, variant, extension}
 use Rattle.dtype_types.specs.declared.dtype.DType.{DType}
 use Rattle.dtype_types.specs.declared.dtype.DType.TheOpen as o
@@ -74,10 +71,6 @@ with_trees ps = map (λ p. (p.0, tree p.1)) ps
 abbrev pub children : StructFields → List (List ℕ × Tree)
 children s = with_trees (struct_pairs s)
 
--- the types of a struct's fields
-abbrev pub struct_dtypes : StructFields → List DType
-struct_dtypes s = values_of (struct_pairs s)
-
 -- a union's variants, as it holds them
 abbrev pub union_triples : UnionVariants → List (List ℕ × (DType × ℕ))
 union_triples u = u.shared.value
@@ -89,10 +82,6 @@ with_tagged_trees ps = map (λ p. (p.0, (tree p.1.0, p.1.1))) ps
 -- a union's variants: names, trees and tags
 abbrev pub variant_list : UnionVariants → List (List ℕ × (Tree × ℕ))
 variant_list u = with_tagged_trees (union_triples u)
-
--- the types of a union's variants
-abbrev pub union_dtypes : UnionVariants → List DType
-union_dtypes u = types_of (union_triples u)
 
 -- an extension's id
 abbrev pub extension_id : ExtDTypeRef → List ℕ
@@ -130,15 +119,3 @@ fields_of s = fields (children s)
 -- the variants of a union, as they are in a tree
 abbrev pub variants_of : UnionVariants → Variants
 variants_of u = variants (variant_list u)
-
--- the non-nullable type made of a struct
-abbrev pub struct_tree : StructFields → Tree
-struct_tree s = struct (fields_of s) NonNullable
-
--- the non-nullable type made of a union
-abbrev pub union_tree : UnionVariants → Tree
-union_tree u = union (variants_of u) NonNullable
-
--- the non-nullable type made of a map
-abbrev pub map_tree : MapDType → Tree
-map_tree m = map_of (map_shown m).0 (map_shown m).1 (map_shown m).2 NonNullable

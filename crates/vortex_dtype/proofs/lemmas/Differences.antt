@@ -16,9 +16,9 @@ use Rattle.dtype_messages.specs.declared.pb.DType.{DType as TypeMessage}
 use Rattle.dtype_messages.specs.declared.pb.Field.{Field as PathPart}
 use Rattle.dtype_messages.specs.declared.pb.FieldPath.{FieldPath as PathMessage}
 use Rattle.dtype_messages.proofs.lemmas.Equality.{dtype_Decides, part_Decides, path_Decides}
-use Rattle.dtype_types.specs.equality.Equality.{same_by}
+use Rattle.dtype_types.specs.equality.Equality.{same_by, same_items_by, same_map_by}
 use Rattle.dtype_types.specs.parts.FieldTypes.{field_tree}
-use Rattle.dtype_types.specs.tree.TreeOf.{children, extension_tree, map_shown, map_tree, shown, struct_tree, tree, union_tree, variant_list}
+use Rattle.dtype_types.specs.tree.TreeOf.{children, extension_tree, map_shown, shown, fields_of, tree, variants_of, variant_list}
 use Rattle.dtype_types.specs.declared.dtype.DType.{DType}
 use Rattle.dtype_types.specs.declared.extension.ExtDTypeRef.{ExtDTypeRef}
 use Rattle.dtype_types.specs.declared.field_dtype.FieldDType.{FieldDType}
@@ -33,14 +33,14 @@ use Rattle.dtype_types.specs.equality.EqualityLaws.{equal_under-Decides}
 pub types_differ : (a b : DType) → Decides (not (same_by tree a b)) (tree a ≢ tree b)
 types_differ a b = Decides-not (same_by tree a b) (equal_under-Decides (tree a) (tree b))
 
-pub structs_differ : (a b : StructFields) → Decides (not (same_by struct_tree a b)) (children a ≢ children b)
-structs_differ a b = Decides-not (same_by struct_tree a b) (structs_Decides a b)
+pub structs_differ : (a b : StructFields) → Decides (not (same_items_by fields_of a b)) (children a ≢ children b)
+structs_differ a b = Decides-not (same_items_by fields_of a b) (structs_Decides a b)
 
-pub unions_differ : (a b : UnionVariants) → Decides (not (same_by union_tree a b)) (variant_list a ≢ variant_list b)
-unions_differ a b = Decides-not (same_by union_tree a b) (unions_Decides a b)
+pub unions_differ : (a b : UnionVariants) → Decides (not (same_items_by variants_of a b)) (variant_list a ≢ variant_list b)
+unions_differ a b = Decides-not (same_items_by variants_of a b) (unions_Decides a b)
 
-pub maps_differ : (a b : MapDType) → Decides (not (same_by map_tree a b)) (map_shown a ≢ map_shown b)
-maps_differ a b = Decides-not (same_by map_tree a b) (maps_Decides a b)
+pub maps_differ : (a b : MapDType) → Decides (not (same_map_by map_shown a b)) (map_shown a ≢ map_shown b)
+maps_differ a b = Decides-not (same_map_by map_shown a b) (maps_Decides a b)
 
 pub extensions_differ : (a b : ExtDTypeRef) → Decides (not (same_by extension_tree a b)) (extension_tree a ≢ extension_tree b)
 extensions_differ a b = Decides-not (same_by extension_tree a b) (extensions_Decides a b)

@@ -7,7 +7,7 @@ use Rattle.std.proofs.Common.{◌≡◌, ◌∙◌, ℕ, List, [], ◌∷◌, �
 use Rattle.dtype_base.specs.declared.nullability.Nullability.{Nullability}
 use Rattle.dtype_types.specs.tree.Kinds.{struct_fields}
 use Rattle.dtype_types.specs.tree.Tree.{Tree, Fields, fields, pairs, struct}
-use Rattle.dtype_types.specs.tree.TreeOf.{children, struct_pairs, struct_tree, tree, with_trees}
+use Rattle.dtype_types.specs.tree.TreeOf.{children, struct_pairs, fields_of, tree, with_trees}
 use Rattle.dtype_types.specs.tree.Valid.{Valid, ValidItems}
 use Rattle.dtype_types.specs.declared.struct_fields.StructFields.{StructFields}
 use Rattle.dtype_types.specs.declared.dtype.DType.TheVariants.{Struct}
@@ -21,8 +21,8 @@ pub pairs_listed : (t : Tree) (fs : Fields) (n : Nullability) → t ≡ struct f
 pairs_listed t fs n e = ap struct_fields e
 
 -- the fields of such a struct
-pub children_listed : (s : StructFields) (fs : Fields) (n : Nullability) → struct_tree s ≡ struct fs n → children s ≡ pairs fs
-children_listed s fs n e = let alike : fields (children s) ≡ fs = cc in sym (pairs_of (children s)) ∙ ap pairs alike
+pub children_listed : (s : StructFields) (fs : Fields) → fields_of s ≡ fs → children s ≡ pairs fs
+children_listed s fs e = sym (pairs_of (children s)) ∙ ap pairs e
 
 -- a struct that is made a type, and a copy of it, has its fields
 pub has_fields : (s : StructFields) (n : Nullability) → struct_fields (tree (Struct s n)) ≡ Some (children s)

@@ -17,8 +17,8 @@ use Rattle.dtype_base.specs.FieldNames.{first_place}
 use Rattle.dtype_paths.proofs.lemmas.DistinctLists.{distinct-below}
 use Rattle.dtype_types.specs.parts.Lookups.{field_names, first_named, variant_names, variant_tags}
 use Rattle.dtype_types.specs.tree.Tree.{Tree}
-use Rattle.dtype_types.specs.tree.TreeOf.{union_tree, variant_list}
-use Rattle.dtype_types.specs.tree.Valid.{Valid}
+use Rattle.dtype_types.specs.tree.TreeOf.{variants_of, variant_list}
+use Rattle.dtype_types.specs.tree.Valid.{ValidVariants}
 use Rattle.dtype_types.specs.declared.union_variants.UnionVariants.{UnionVariants}
 use Rattle.dtype_types.proofs.lemmas.DistinctFields.{named_alone, named_gone}
 use Rattle.dtype_types.proofs.lemmas.JoinedFields.{named_before}
@@ -71,14 +71,14 @@ pub tag_at_is_among : (gs : List ℕ) (i g : ℕ) → slice_get gs i ≡ Some g 
 tag_at_is_among gs i g e = (i, slice_get_within gs i g e, get_or_from_slice_get gs i g g e)
 
 -- a valid union has from 1 to 256 variants
-pub some_variants : (u : UnionVariants) → Valid (union_tree u) → 1 ≤ length (variant_list u)
+pub some_variants : (u : UnionVariants) → ValidVariants (variants_of u) → 1 ≤ length (variant_list u)
 some_variants u h = at_least_one (variant_list u) (subst (λ vs. variant_names vs ≢ []) (triples_variants (variant_list u)) (variants_are _ h.0).0.0.2)
   where
     at_least_one : (vs : List (List ℕ × (Tree × ℕ))) → variant_names vs ≢ [] → 1 ≤ length vs
     at_least_one [] h = absurd (h refl)
     at_least_one (v ∷ vs) h = omega arith
 
-pub few_variants : (u : UnionVariants) → Valid (union_tree u) → length (variant_list u) ≤ 256
+pub few_variants : (u : UnionVariants) → ValidVariants (variants_of u) → length (variant_list u) ≤ 256
 few_variants u h =
     let gs = variant_tags (variant_list u) in
     let is = subst (λ vs. Distinct (variant_tags vs) × Bytes (variant_tags vs)) (triples_variants (variant_list u)) ((variants_are _ h.0).0.1, (variants_are _ h.0).1) in

@@ -3,13 +3,14 @@
 
 use Rattle.std.proofs.Common.{◌++◌, [], ◌∷◌, Some, get_or, map, ap, ◌∙◌, arith}
 use Rattle.std.proofs.lemmas.List.{get_or_default, map_push}
-use Rattle.dtype_types.specs.tree.TreeOf.{struct_dtypes, tree}
+use Rattle.std.specs.Map.{values_of}
+use Rattle.dtype_types.specs.tree.TreeOf.{struct_pairs, tree}
 use Rattle.dtype_types.proofs.Selected.{copies_more, tree_read}
 use Rattle.dtype_types.proofs.struct_fields.StructFields.copies_at.Goals as goal
 
 pub loop-position-preserved : goal.loop-position-preserved
 loop-position-preserved c =
-    let ds = struct_dtypes c.args.self.now in
+    let ds = values_of (struct_pairs c.args.self.now) in
     let positions = c.args.positions.now in
     let copies = c.loop-position.copies.items in
     let k = c.loop-position.position-index in

@@ -8,7 +8,7 @@ use Rattle.std.proofs.lemmas.Result.{MatchResult-weaker}
 use Rattle.dtype_types.specs.declared.field_dtype.FieldDType.{FieldDType}
 use Rattle.dtype_types.specs.parts.FieldTypes.{AreValidFields, field_tree}
 use Rattle.dtype_types.specs.tree.Valid.{Valid, ValidItems}
-use Rattle.dtype_types.specs.tree.TreeOf.{children, struct_tree}
+use Rattle.dtype_types.specs.tree.TreeOf.{children, fields_of}
 use Rattle.dtype_types.specs.tree.Tree.{fields}
 use Rattle.dtype_types.proofs.lemmas.Validity.{valid_given}
 use Rattle.dtype_types.proofs.struct_fields.StructFields.from_iter.Goals as goal
@@ -27,7 +27,7 @@ returns g c =
         whole.0,
         whole.1,
         whole.2,
-        subst (λ (xs : List (List ℕ × FieldDType)). (children s ≡ map (λ p. (p.0, field_tree p.1)) xs) × (AreValidFields xs → Valid (struct_tree s))) (sym whole.3.0)
+        subst (λ (xs : List (List ℕ × FieldDType)). (children s ≡ map (λ p. (p.0, field_tree p.1)) xs) × (AreValidFields xs → ValidItems (fields_of s))) (sym whole.3.0)
             (made, λ v. subst (λ ps. ValidItems (fields ps)) (sym made) (valid_given given (recursion_from_All (λ (p : List ℕ × FieldDType). Valid (field_tree p.1)) given v))),
       ),
     ))

@@ -3,7 +3,8 @@
 
 use Rattle.std.proofs.Common.{◌<◌, length, ap, sym, subst, ◌∙◌}
 use Rattle.std.specs.List.{All}
-use Rattle.dtype_types.specs.tree.TreeOf.{children, struct_dtypes, struct_pairs, with_trees}
+use Rattle.std.specs.Map.{values_of}
+use Rattle.dtype_types.specs.tree.TreeOf.{children, struct_pairs, with_trees}
 use Rattle.dtype_types.proofs.lemmas.Validity.{valid_projected}
 use Rattle.dtype_types.proofs.Selected.{as_many_copies, places_within, projected_alike, projected_known, projects}
 use Rattle.dtype_types.proofs.struct_fields.StructFields.project.Goals as goal
@@ -11,7 +12,7 @@ use Rattle.dtype_types.proofs.struct_fields.StructFields.project.Goals as goal
 pub copies_at-requires : goal.copies_at-requires
 copies_at-requires c =
     let s = c.args.self.now in
-    subst (All (λ i. i < length (struct_dtypes s))) (sym c.deref-2.ensures.value) (places_within (struct_pairs s) c.deref.result.now c.args.projection.now _ c.deref.ensures c.in_ok-names.ensures.1)
+    subst (All (λ i. i < length (values_of (struct_pairs s)))) (sym c.deref-2.ensures.value) (places_within (struct_pairs s) c.deref.result.now c.args.projection.now _ c.deref.ensures c.in_ok-names.ensures.1)
 
 pub new-requires : goal.new-requires
 new-requires c =

@@ -2,11 +2,14 @@
 // SPDX-FileCopyrightText: Copyright the Vortex contributors
 
 //! Tests of `dtype_paths`, one module per topic: what no golden test of the console shows, such as the macro, very long
-//! paths, very many paths, and random values against models. They use public items only; what holds of every value is proved in the crates themselves.
+//! paths, very many paths, and random values against models. They use public items only; what holds of every value is
+//! proved in the crates themselves. `hash_map_layout` tests what `dtype_paths` supposes of the standard library.
 #![tactic(auto)]
 
 #[cfg(test)]
 mod fixtures;
+#[cfg(test)]
+mod hash_map_layout;
 #[cfg(test)]
 mod path_model;
 #[cfg(test)]

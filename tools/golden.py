@@ -6,11 +6,13 @@
 that are short, as a transcript: each line behind `> ` with its answer below it, and comments and blank lines as they
 are. tools/data/long_lines has the others (tools/long_lines.py says in which form).
 
-    tools/golden.py    writes crates/dtype_console/stdin, which are the lines of stdout without the answers"""
+    tools/golden.py            writes crates/dtype_console/stdin, which are the lines of stdout without the answers
+    tools/golden.py PROGRAM    asks a program these lines, and fails where it answers one in another way"""
+import os
 import sys
 
 import long_lines
-from repository import lines_of
+from repository import FROM, Report, answers_of, lines_of
 
 TRANSCRIPT, STDIN = "crates/dtype_console/stdout", "crates/dtype_console/stdin"
 # The files with golden tests, each with what has its lines in full.
@@ -57,7 +59,19 @@ def faults():
             yield TRANSCRIPT, f"a line is longer than {long_lines.LONG} characters; {long_lines.FILE} has such lines: {line[:80]}"
 
 
+def asked(program):
+    """Asks a program all golden tests, and returns the status: 0 if it answers each as expected."""
+    report, expected = Report("golden"), rows()
+    answers, _ = answers_of(program, [line for line, _ in expected])
+    report.check([f"{len(answers)} answers to {len(expected)} lines"] if len(answers) != len(expected) else [])
+    report.check([f"{line[:200]}: {answer[:200]}, not {wanted[:200]}" for (line, wanted), answer in zip(expected, answers)
+                  if answer != wanted], len(expected))
+    return report.end()
+
+
 if __name__ == "__main__":
-    if sys.argv[1:]:
+    if sys.argv[2:]:
         sys.exit(__doc__)
+    elif sys.argv[1:]:
+        sys.exit(asked(os.path.join(FROM, sys.argv[1])))
     write_lines(STDIN, stdin())

@@ -16,6 +16,8 @@ KIT = "[ $1 = version ] && echo rattle-kit-1 || echo '  rt ci     {}'"
 # A driver that says the same of all that it can read, and golden files of two lines.
 READS, ROWS = "sed 's/^name_eq a$/unreadable at {1}/; t; s/.*/{0}/'", "rows_from_original bin/driver"
 GOLDEN = "# A name.\n> name a\ntrue\n> name_eq a\nunreadable at 10: expected a name\n"
+# A program that answers these two lines.
+ANSWERS = "cat >/dev/null; echo {}; echo unreadable at 10: expected a name"
 # Lines in the form of tools/data/long_lines, and what they are in full.
 LONG_LINES = [
     ("> nfields {«#=u8|, |0..2»}", "> nfields {0=u8, 1=u8, 2=u8}"),
@@ -45,6 +47,9 @@ RUNS = [
      "gate: the kit at hand, rattle-kit-1, proves everything from nothing in each run"),
     ("bin/rt", "", "faults", 2, "isn't built"),
     ("bin/driver", "exit 0", ROWS, 1, "0 answers to 2 lines"),
+    ("bin/driver", ANSWERS.format("true"), "golden.py bin/driver", 0, "3 passed, 0 failed\n"),
+    ("bin/driver", ANSWERS.format("false"), "golden.py bin/driver", 1, "golden: name a: false, not true\n2 passed, 1 failed\n"),
+    ("bin/driver", "echo true", "golden.py bin/driver", 1, "golden: 1 answers to 2 lines"),
     ("bin/driver", READS.format("true", 10), ROWS, 0, "2 passed, 0 failed\n"),
     ("bin/driver", READS.format("false", 10), ROWS, 1, "rows_from_original: name a: false\n1 passed, 1 failed\n"),
     ("bin/driver", READS.format("true", 9), f"{ROWS} --write", 1,
@@ -228,6 +233,12 @@ class RefusedMemory(Planted):
         self.run_with()
         told = "refused_memory: 24 allocations of 3 golden tests failed in turn\n4 passed, 0 failed\n"
         self.assertEqual(self.run_tool("refused_memory"), (0, told))
+
+    def test_runs_one_program_alone(self):
+        self.run_with()
+        for program, last in (("tests_allocations", "1 passed, 0 failed"), ("dtype_console", "3 passed, 0 failed")):
+            self.assertEqual(self.run_tool("refused_memory", program)[1].splitlines()[-1], last)
+        self.assertEqual(self.run_tool("refused_memory", "dtype_demo")[0], 2)
 
     def test_tells_an_answer_that_is_wrong_without_memory(self):
         self.run_with(refused='"b"')

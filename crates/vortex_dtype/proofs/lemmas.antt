@@ -12,6 +12,8 @@ pub mod Differences
 pub mod StorageKinds
 pub mod NamesAmong
 pub mod EachAmong
+pub mod EachRegistered
+pub mod MergedAll
 pub mod AddedColumns
 pub mod Widened
 pub mod Intersected

@@ -12,6 +12,10 @@ pub use Rattle.dtype_paths.proofs.lemmas.Stepping.{one_column}
 pub use Rattle.dtype_paths.proofs.lemmas.Steps.{one_step}
 -- two lists side by side
 pub use Rattle.vortex_dtype.proofs.lemmas.Zipped.{zipped}
+-- the ids of a session, each of many
+pub use Rattle.vortex_dtype.proofs.lemmas.EachRegistered.{each_registered}
+-- several types that a loop merges
+pub use Rattle.vortex_dtype.proofs.lemmas.MergedAll.{merging_all}
 -- a type and a cursor that are stepped together, and its lemmas one by one, for answers that a caller writes
 pub use Rattle.dtype_projection.proofs.lemmas.Descending.{descending, opened_after, opened_nowhere, opened_uncontained}
 -- Single lemmas, each for the line of one function. The set of paths that a loop has collected, and how many names a lookup

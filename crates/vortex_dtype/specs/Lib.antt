@@ -17,6 +17,8 @@ pub mod Written
 pub mod Accepts
 pub mod PathMessage
 pub mod Names
+pub mod Registered
+pub mod MergedAll
 pub mod Types
 pub use Rattle.dtype_base.specs.BinaryDigits
 pub use Rattle.dtype_base.specs.Bytes

@@ -28,14 +28,6 @@ pub fn is_read(asked: &FieldPathSet, column: &FieldPath) -> VortexResult<bool>
     )
 }
 
-/// Whether a query asks for something in a column.
-#[tactic(auto, using(vortex_dtype::proofs::parts::stepping_into))]
-pub fn asks_in(asked: &FieldPathSet, column: &Field) -> bool
-    ensures { IsTrue result ↔ ((q : List Field) × IsTrue (set.contains asked.now (column.now ∷ q))) }
-{
-    asked.cursor().step(column).is_some()
-}
-
 /// Whether a query reads a column whole.
 #[tactic(auto, using(vortex_dtype::proofs::rulesets::set_cursors))]
 pub fn reads_whole(asked: &FieldPathSet, column: &Field) -> bool

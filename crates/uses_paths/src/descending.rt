@@ -5,7 +5,7 @@
 //! keeps.
 #![tactic(auto, using(vortex_dtype::proofs::parts::descending))]
 
-ghost use Rattle.std.specs.Prelude.{◌≡◌, ◌∷◌, [], IfSome, false, option_and_then};
+ghost use Rattle.std.specs.Prelude.{◌≡◌, option_and_then};
 ghost use Rattle.std.specs.FinSet as set;
 ghost use Rattle.vortex_dtype.specs.Along.{along};
 ghost use Rattle.vortex_dtype.specs.At.{step};
@@ -35,18 +35,6 @@ pub fn type_after<'a>(dtype: &'a DType, field: &Field) -> Option<&'a DType>
         Field::Name(name) => dtype.as_struct_fields_opt()?.field(name.as_str()),
         Field::ElementType => dtype.as_any_size_list_element_opt(),
     }
-}
-
-/// The element of a list with what is asked of it: together what the projection has there.
-pub fn element_piece<'a>(
-    list: &'a DType,
-    here: &FieldPathCursor<'a>,
-) -> Option<(&'a DType, FieldPathCursor<'a>)>
-    requires { contains_below here.now [] ≡ false }
-    ensures { IfSome result (λ r. projected (tree r.0.now) (contains_below r.1)
-        ≡ option_and_then (λ u. along u (Field.ElementType ∷ [])) (projected (tree list.now) (contains_below here.now))) }
-{
-    Some((list.as_any_size_list_element_opt()?, here.element()?))
 }
 
 /// The type after some steps.

@@ -8,9 +8,9 @@
 //!
 //! - Which columns a query opens: `asked`, `binding` (those that a table lacks), `paths`, `path_sets`, `path_lists`,
 //!   `projections`, `merging` (several files read as one), `intersecting` (two schemas that are both kept).
-//! - What is read further down: `masks`, `mask_lists`, `cursors`, `named` (the columns that are wanted, one by one),
-//!   `descending` (a table and a query at once).
-//! - What is stored: `messages`, `path_messages`, `stored` (schemas written and read back).
+//! - What is read further down: `masks`, `cursors`, `named` (the columns that are wanted, one by one), `descending` (a table
+//!   and a query at once).
+//! - What is stored: `messages` (of types and paths), `stored` (schemas written and read back).
 //! - Extensions: `sessions`, `plugins`, `dates`.
 #![tactic(auto)]
 
@@ -20,13 +20,11 @@ pub mod cursors;
 pub mod dates;
 pub mod descending;
 pub mod intersecting;
-pub mod mask_lists;
 pub mod masks;
 pub mod merging;
 pub mod messages;
 pub mod named;
 pub mod path_lists;
-pub mod path_messages;
 pub mod path_sets;
 pub mod paths;
 pub mod plugins;

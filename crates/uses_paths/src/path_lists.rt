@@ -40,15 +40,6 @@ pub fn ask_for_other(
     Ok(())
 }
 
-/// The set of one column: nothing else is in it.
-pub fn set_of_one(alloc: Global, column: &FieldPath) -> VortexResult<FieldPathSet>
-    ensures { IfOk result (λ s. (p : List Field) → IsTrue (set.contains s p) → p ≡ column.now) }
-{
-    let mut asked = FieldPathSet::new(alloc);
-    asked.insert(column.try_clone()?)?;
-    Ok(asked)
-}
-
 /// A query with one path more: it covers what it covered, and what begins with that path.
 #[tactic(auto, using(vortex_dtype::proofs::parts::made_coverage))]
 pub fn with_one_more(mut asked: FieldPathSet, path: FieldPath) -> VortexResult<FieldPathSet>

@@ -29,14 +29,6 @@ pub fn cover_of_query(
     FieldPathSet::from_iter(alloc, columns)?.into_iter()
 }
 
-/// The number of paths that are asked for.
-#[tactic(auto, using(vortex_dtype::proofs::rulesets::counting))]
-pub fn number_asked(asked: &FieldPathSet) -> VortexResult<usize>
-    ensures { IfOk result (λ n. n ≡ set.len asked.now) }
-{
-    Ok(asked.iter()?.count())
-}
-
 /// The number of paths that are asked for with one more: one more at most, and no fewer.
 #[tactic(auto, using(vortex_dtype::proofs::rulesets::count_bounds))]
 pub fn number_with(asked: FieldPathSet, path: FieldPath) -> VortexResult<usize>

@@ -7,7 +7,7 @@
 ghost use Rattle.std.specs.Prelude.{◌≡◌, ◌↔◌, ◌++◌, ◌∷◌, [], IfSome, IsTrue, Some};
 ghost use Rattle.std.specs.Option.{option_map};
 ghost use Rattle.vortex_dtype.specs.Along.{along};
-ghost use Rattle.vortex_dtype.specs.At.{At, ExistsIn};
+ghost use Rattle.vortex_dtype.specs.At.{At};
 ghost use Rattle.vortex_dtype.specs.Beginning.{Beginning};
 ghost use Rattle.vortex_dtype.specs.Nullable.{nullability};
 ghost use Rattle.vortex_dtype.specs.TreeOf.{shown, tree};
@@ -39,15 +39,6 @@ pub fn resolve_joined<'a>(path: &FieldPath, rest: &FieldPath, dtype: &'a DType) 
     ensures found { IfSome result (λ u. At (tree dtype.now) (path.now ++ rest.now) (tree u.now)) }
 {
     rest.resolve(path.resolve(dtype)?)
-}
-
-/// Whether a longer path exists, and so its beginning.
-pub fn beginning_exists(path: &FieldPath, longer: &FieldPath, dtype: &DType) -> bool
-    requires { Beginning path.now longer.now }
-    ensures { IsTrue result → ExistsIn (tree dtype.now) path.now }
-{
-    let _path = path;
-    longer.exists_in(dtype)
 }
 
 /// The type of the elements of the list along a path: the type one step further, or none where there is none.

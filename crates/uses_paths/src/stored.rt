@@ -4,22 +4,17 @@
 //! Schemas stored and read back.
 #![tactic(auto, using(vortex_dtype::proofs::rulesets::messages, vortex_dtype::proofs::rulesets::sessions, vortex_dtype::proofs::rulesets::equality))]
 
-ghost use Rattle.std.specs.Prelude.{◌≡◌, ◌++◌, [], ◌∷◌, IfOk, IsOkUnless, Some};
+ghost use Rattle.std.specs.Prelude.{◌≡◌, IfOk, IsOkUnless};
 ghost use Rattle.std.specs.Option.{option_map};
 ghost use Rattle.vortex_dtype.specs.Lookups.{first_named};
-ghost use Rattle.vortex_dtype.specs.Types.Nullability.TheVariants.{Nullable};
 ghost use Rattle.vortex_dtype.specs.Types.VortexError.TheVariants.{OutOfMemory};
 ghost use Rattle.vortex_dtype.specs.Valid.{Valid, ValidItems};
 ghost use Rattle.vortex_dtype.specs.TreeOf.{tree, fields_of, children};
-ghost use Rattle.vortex_dtype.specs.Tree.{fields, primitive, struct};
 ghost use Rattle.vortex_dtype.specs.Meaning.{Admits, AdmitsItems};
 ghost use Rattle.vortex_dtype.specs.Session.{meaning};
 
 use std::alloc::Global;
-use vortex_dtype::{
-    DType, DTypeProto, DTypeSession, ExtDTypePlugin, FieldName, FieldNames, Nullability, PType,
-    StructFields, VortexResult,
-};
+use vortex_dtype::{DType, DTypeProto, DTypeSession, ExtDTypePlugin, StructFields, VortexResult};
 
 /// A type stored as a message and read back: the same type, where the session admits it. Refuses
 /// 0 (OutOfMemory) alone there.
@@ -35,24 +30,6 @@ pub fn stored_and_read_back(
 {
     let stored = dtype.to_proto(alloc)?;
     DType::from_proto(alloc, &stored, session)
-}
-
-/// The struct of these fields and one column more after them, of nullable numbers.
-pub fn with_column(
-    alloc: Global,
-    columns: &StructFields,
-    n: Nullability,
-    name: FieldName,
-    numbers: PType,
-) -> VortexResult<DType>
-    ensures made { IfOk result (λ d.
-        tree d ≡ struct (fields (children columns.now ++ (name, primitive numbers Nullable) ∷ [])) n) }
-    ensures valid { ValidItems (fields_of columns.now) → IfOk result (λ d. Valid (tree d)) }
-{
-    let names = FieldNames::from_vec(vec![in alloc; name]?);
-    let dtypes = vec![in alloc; DType::Primitive(numbers, Nullability::Nullable)]?;
-    let column = StructFields::new(alloc, names, dtypes)?;
-    Ok(DType::Struct(columns.disjoint_merge(alloc, &column)?, n))
 }
 
 /// The type of a column as a receiver reads it, or `None` where there is no such column: the column's type, where the

@@ -20,15 +20,6 @@ pub fn can_append(dtype: &DType, more: &DType) -> bool
     more.eq_with_nullability_subset(dtype)
 }
 
-/// Whether an array may be appended to what may itself be appended to a third: then to the third too.
-pub fn can_append_through(first: &DType, second: &DType, third: &DType) -> bool
-    requires { Sub (tree second.now) (tree third.now) }
-    ensures { IsTrue result → Sub (tree first.now) (tree third.now) }
-{
-    let _third = third;
-    first.eq_with_nullability_subset(second)
-}
-
 /// Whether each of two arrays may be appended to the other. Then their types are equal.
 #[tactic(auto, using(vortex_dtype::proofs::parts::sub_antisymmetric))]
 pub fn can_append_both_ways(first: &DType, second: &DType) -> bool

@@ -1,20 +1,19 @@
 // SPDX-License-Identifier: Apache-2.0
 // SPDX-FileCopyrightText: Copyright the Vortex contributors
 
-//! A binder of expressions: the types of column references, of projections and of joins.
+//! A binder of expressions: the types of column references and of joins.
 #![tactic(auto, using(vortex_dtype::proofs::rulesets::null_values))]
 
 ghost use Rattle.std.specs.Prelude.{IfNone, IfOk, IfSome};
-ghost use Rattle.dtype_types.specs.parts.Lookups.{Projects};
 ghost use Rattle.dtype_types.specs.tree.Tree.{Tree};
-ghost use Rattle.dtype_types.specs.tree.TreeOf.{children, tree};
+ghost use Rattle.dtype_types.specs.tree.TreeOf.{tree};
 ghost use Rattle.dtype_types.specs.values.Value.{AddsNull, Of, Value};
 ghost use Rattle.vortex_dtype.specs.At.{At};
 ghost use Rattle.vortex_dtype.specs.Found.{FoundIn};
 
 use std::alloc::Global;
 use vortex_dtype::laws::paths::resolution_is_exact_for_values;
-use vortex_dtype::{DType, FieldName, FieldPath, StructFields, VortexResult};
+use vortex_dtype::{DType, FieldPath, VortexResult};
 
 /// Returns the type at the path of a column in a table, or `None` if there is none. Each value that is read at that
 /// path is a value of that type.
@@ -26,17 +25,6 @@ pub fn bind_column<'a>(column: &FieldPath, table: &'a DType) -> Option<&'a DType
 {
     resolution_is_exact_for_values();
     column.resolve(table)
-}
-
-/// The fields of `select names from source`.
-pub fn select(
-    alloc: Global,
-    source: &StructFields,
-    names: &[FieldName],
-) -> VortexResult<StructFields>
-    ensures { IfOk result (λ s. Projects (children source.now) names.now (children s)) }
-{
-    source.project(alloc, names)
 }
 
 /// The type of a column in an outer join: its values, and null.

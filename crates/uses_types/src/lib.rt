@@ -11,10 +11,9 @@
 //! projections, messages and sessions.
 //!
 //! - Pages: `orders` is the code of `docs/TUTORIAL.md`, and `guide` that of `docs/GUIDE.md`.
-//! - By user: `arrays` (how wide a row is), `appending` (what may be appended), `binder` (column references).
+//! - By user: `arrays` (how wide a row and a decimal are), `appending` (what may be appended), `binder` (column references).
 //! - By topic: `structs`, `fields`, `over_fields`, `loops` (to copy), `lookups` (how many comparisons), `presence`,
-//!   `wanted` (many names), `unions`, `equality`, `nullabilities`, `validity`, `numbers`, `registered` (sessions that a
-//!   contract names).
+//!   `wanted` (many names), `unions`, `equality`, `nullabilities`, `validity`, `registered` (sessions that a contract names).
 #![tactic(auto)]
 
 pub mod appending;
@@ -26,7 +25,6 @@ pub mod guide;
 pub mod lookups;
 pub mod loops;
 pub mod nullabilities;
-pub mod numbers;
 pub mod orders;
 pub mod over_fields;
 pub mod presence;

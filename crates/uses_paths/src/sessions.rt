@@ -1,11 +1,13 @@
 // SPDX-License-Identifier: Apache-2.0
 // SPDX-FileCopyrightText: Copyright the Vortex contributors
 
-//! Sessions: what is known after registrations, what is kept of metadata, and which errors come.
+//! Sessions: what is known after registrations, of which ids it is known, what is kept of metadata, and which errors come.
 #![tactic(auto, using(vortex_dtype::proofs::rulesets::sessions, vortex_dtype::proofs::rulesets::messages))]
 
-ghost use Rattle.std.specs.Prelude.{◌≡◌, ℕ, List, Contains, IfOk, IsSome, Some, map};
+ghost use Rattle.std.specs.Prelude.{◌≡◌, ◌↔◌, ℕ, List, All, Contains, IfNone, IfOk, IfSome, IsSome, IsTrue, Some, map};
 ghost use Rattle.vortex_dtype.specs.Meaning.{keeps};
+ghost use Rattle.vortex_dtype.specs.Names.{IsAmong};
+ghost use Rattle.vortex_dtype.specs.Registered.{IsRegistered};
 ghost use Rattle.vortex_dtype.specs.Session.{meaning};
 ghost use Rattle.vortex_dtype.specs.TreeOf.{extension_metadata, tree};
 ghost use Rattle.vortex_dtype.specs.Valid.{Valid};
@@ -22,6 +24,39 @@ pub fn known_ids(session: &DTypeSession) -> VortexResult<Vec<&str>>
         → IfOk result (λ ids. Contains (map (λ i. i.now) ids.items) id) }
 {
     Ok(session.registered()?)
+}
+
+/// Returns whether the session has a plugin for each of the ids.
+#[tactic(auto, using(vortex_dtype::proofs::parts::each_registered))]
+pub fn knows_all(session: &DTypeSession, ids: &[&str]) -> VortexResult<bool>
+    ensures { IfOk result (λ all. IsTrue all ↔ All (λ id. IsRegistered
+        (meaning (λ b. rewrites (b.vtable, b.value)) session.now) id.now) ids.now) }
+{
+    let known = session.registered()?;
+    Ok(ids.iter().all(|id| is_listed(&known, *id)))
+}
+
+/// Returns the first id for which the session has no plugin, or `None` if it has one for each.
+#[tactic(auto, using(vortex_dtype::proofs::parts::each_registered))]
+pub fn unknown_id<'a>(session: &DTypeSession, ids: &[&'a str]) -> VortexResult<Option<&'a str>>
+    ensures unknown { IfOk result (λ r. IfSome r (λ id. ¬ (IsRegistered
+        (meaning (λ b. rewrites (b.vtable, b.value)) session.now) id.now))) }
+    ensures all { IfOk result (λ r. IfNone r (All (λ id. IsRegistered
+        (meaning (λ b. rewrites (b.vtable, b.value)) session.now) id.now) ids.now)) }
+{
+    let known = session.registered()?;
+    match ids.iter().find(|id| !is_listed(&known, **id)) {
+        Some(id) => Ok(Some(*id)),
+        None => Ok(None),
+    }
+}
+
+// Returns whether the list has the id.
+#[tactic(auto, using(vortex_dtype::proofs::parts::each_registered))]
+fn is_listed(known: &[&str], id: &str) -> bool
+    ensures { IsTrue result ↔ IsAmong (map (λ k. k.now) known.now) id.now }
+{
+    known.contains(&id)
 }
 
 /// An extension read by the second of two plugins of one id: as the second writes it back.

@@ -3,11 +3,11 @@
 
 //! Examples of what a reader of files does with the library: functions as users write them, each with a contract of its
 //! own. They are like those of `uses_types`, in a crate of their own, so that the gate proves the two side by side.
-//! `proofs/` contains the measures of the recursions of `descending`, the invariants of the loops of `cursors` and
-//! `path_sets`, and proofs by hand for two functions of `descending`. The tactics find all else.
+//! `proofs/` contains the measures of the recursions of `descending`, the invariants of the loops of `cursors`,
+//! `merging` and `path_sets`, and proofs by hand for two functions of `descending`. The tactics find all else.
 //!
 //! - Which columns a query opens: `asked`, `binding` (those that a table lacks), `paths`, `path_sets`, `path_lists`,
-//!   `projections`, `merging` (several files read as one), `intersecting` (two schemas that are both kept).
+//!   `projections`, `merging` (several files read as one, and rows written for two readers).
 //! - What is read further down: `masks`, `cursors`, `named` (the columns that are wanted, one by one), `descending` (a table
 //!   and a query at once).
 //! - What is stored: `messages` (of types and paths), `stored` (schemas written and read back).
@@ -19,7 +19,6 @@ pub mod binding;
 pub mod cursors;
 pub mod dates;
 pub mod descending;
-pub mod intersecting;
 pub mod masks;
 pub mod merging;
 pub mod messages;

@@ -1,17 +1,19 @@
 // SPDX-License-Identifier: Apache-2.0
 // SPDX-FileCopyrightText: Copyright the Vortex contributors
 
-//! Loops to copy, each with its invariant in `proofs/loops`: a fold with a number, a search, a filter into a list, a rename,
-//! columns that are bound, and a list of children. `over_fields` has a count and a test of all.
+//! Loops to copy, each with its invariant in `proofs/loops`: a search, names that are changed, a struct of which the names
+//! are changed, and columns that are bound. `over_fields` has a count and a test of all.
 ghost use Rattle.std.specs.Prelude.{◌≡◌, Any, IfNone, IfOk, IfSome, None, Some, find, map};
 ghost use Rattle.dtype_types.specs.parts.Lookups.{field_types};
 ghost use Rattle.dtype_types.specs.tree.Kinds.{is_nested};
 ghost use Rattle.dtype_types.specs.tree.TreeOf.{children, tree};
 ghost use Rattle.vortex_dtype.specs.Along.{along};
-ghost use Rattle.uses_types.specs.Loops.{renaming};
+ghost use Rattle.uses_types.specs.Loops.{renamed_fields, renaming};
 
 use std::alloc::Global;
-use vortex_dtype::{DType, FieldName, FieldNames, FieldPath, StructFields, VortexResult};
+use vortex_dtype::{
+    DType, FieldDType, FieldName, FieldNames, FieldPath, StructFields, VortexResult,
+};
 
 /// The first column that holds others.
 pub fn first_nested(table: &StructFields) -> Option<&DType>
@@ -41,6 +43,24 @@ pub fn renamed(
         list.push(kept.try_clone(alloc)?)?;
     }
     Ok(list)
+}
+
+/// Returns the table in which each column `from` is called `to`. The types and their order are as before.
+pub fn rename_column(
+    alloc: Global,
+    table: &StructFields,
+    from: &FieldName,
+    to: &FieldName,
+) -> VortexResult<StructFields>
+    ensures { IfOk result (λ s. children s ≡ renamed_fields from.now to.now (children table.now)) }
+{
+    let mut fields = Vec::new(alloc);
+    for (name, dtype) in table.pairs() {
+        let kept = if *name == *from { to } else { name };
+        let column = FieldDType::from(dtype.try_clone(alloc)?);
+        fields.push((kept.try_clone(alloc)?, column))?;
+    }
+    Ok(StructFields::from_iter(alloc, fields)?)
 }
 
 /// The types of some columns, or `None` exactly where the table lacks one.

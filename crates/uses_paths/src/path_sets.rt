@@ -78,3 +78,16 @@ pub fn asked_by_both(one: &FieldPathSet, other: Vec<FieldPath>) -> VortexResult<
     both.extend(other)?;
     Ok(both)
 }
+
+/// Returns the columns to open for a query and for one column more. That column is under one of them, and so is each column
+/// that the query covers.
+#[tactic(auto, using(vortex_dtype::proofs::parts::covered_paths))]
+pub fn open_with(asked: FieldPathSet, column: FieldPath) -> VortexResult<vec::IntoIter<FieldPath>>
+    ensures column { IfOk result (λ r. IsTrue (covers (set_of (into_iter_items r)) column)) }
+    ensures query { (p : List Field) → IsTrue (covers asked p)
+        → IfOk result (λ r. IsTrue (covers (set_of (into_iter_items r)) p)) }
+{
+    let mut more = asked;
+    more.insert(column)?;
+    Ok(more.into_iter()?)
+}

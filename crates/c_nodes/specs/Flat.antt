@@ -3,7 +3,7 @@
 
 -- The flat form of a message tree: its nodes in order, each message before its texts, its tags and its parts, and the
 -- bytes of its texts in the same order. The fields of a node and their order are a choice of ours.
-use Rattle.std.specs.Prelude.{ℕ, ℤ, pos, List, [], ◌∷◌, ◌++◌, ◌+◌, length, map, Option, Some, None, Bool, true, false}
+use Rattle.std.specs.Prelude.{◌≡◌, ℕ, ℤ, pos, List, [], ◌∷◌, ◌++◌, ◌+◌, length, map, Option, Some, None, Bool, true, false}
 use Rattle.std.specs.List.{flat_map}
 use Rattle.std.specs.String.{string_bytes}
 use Rattle.std.specs.declared.alloc.Global.{Global}
@@ -130,7 +130,10 @@ abbrev mutual
   all_texts no_message = []
   all_texts (more m ms) = flat_texts m ++ all_texts ms
 
--- the messages of a struct, a union and an extension, by the fields of the plain data
+-- the messages of a map, a struct, a union and an extension, by the fields of the plain data
+abbrev pub map_with : Option (Box DType Global) → Option (Box DType Global) → Bool → Bool → Message
+map_with key value o f = map_of (child_message key) (child_message value) o f
+
 abbrev pub struct_of : List (String Global) → List DType → Bool → Message
 struct_of names dtypes f = struct (map string_bytes names) (messages (map message dtypes)) f
 
@@ -139,3 +142,7 @@ union_of names tags dtypes f = union (map string_bytes names) (messages (map mes
 
 abbrev pub extension_of : String Global → Option (Vec ℕ Global) → Option (Box DType Global) → Message
 extension_of id metadata storage = extension (string_bytes id) (child_message storage) (bytes_of metadata)
+
+-- these nodes or bytes are added behind those that were there
+abbrev pub GrowsBy : {X : Type 0} → List X → List X → List X → Type 0
+GrowsBy added old new = new ≡ old ++ added

@@ -1,6 +1,9 @@
 // SPDX-License-Identifier: Apache-2.0
 // SPDX-FileCopyrightText: Copyright the Vortex contributors
 
+ghost use Rattle.std.specs.Prelude.{◌≡◌};
+ghost use Rattle.c_nodes.specs.declared.fault.NodeFault.TheVariants.{OutOfMemory};
+
 use std::alloc::{AllocError, AllocFailed};
 
 /// Why nodes and texts aren't a message, or a message has none.
@@ -17,12 +20,16 @@ pub enum NodeFault {
 }
 
 impl From<AllocError> for NodeFault {
+    ghost from_gives = { λ _ e. e ≡ OutOfMemory };
+
     fn from(_error: AllocError) -> NodeFault {
         NodeFault::OutOfMemory
     }
 }
 
 impl<T: Drop> From<AllocFailed<T>> for NodeFault {
+    ghost from_gives = { λ _ e. e ≡ OutOfMemory };
+
     fn from(_error: AllocFailed<T>) -> NodeFault {
         NodeFault::OutOfMemory
     }

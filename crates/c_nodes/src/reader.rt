@@ -2,11 +2,13 @@
 // SPDX-FileCopyrightText: Copyright the Vortex contributors
 
 // Messages from nodes and texts. What is read is taken from the front of both.
-ghost use Rattle.std.specs.Prelude.{◌≡◌, ◌∷◌, ◌++◌, [], length, map, IfOk, string_bytes};
+ghost use Rattle.std.specs.Prelude.{◌≡◌, ◌≢◌, ◌≤◌, ◌<◌, ◌∷◌, ◌++◌, [], length, map, IfErr, IfOk, string_bytes};
 ghost use Rattle.std.specs.List.{flat_map};
 ghost use Rattle.dtype_messages.specs.Message.{messages};
 ghost use Rattle.dtype_messages.specs.MessageOf.{message, kind_message, child_message, bytes_of};
 ghost use Rattle.c_nodes.specs.Flat.{flat_nodes, flat_texts, part_nodes, part_texts, all_nodes, all_texts, count, bytes_nodes, bytes_texts, is_present, has_bytes, text_node, tag_node};
+ghost use Rattle.c_nodes.specs.Depth.{depth, depth_all, depth_child, holders};
+ghost use Rattle.c_nodes.specs.declared.fault.NodeFault.TheVariants.{TooDeep};
 
 use crate::{Node, NodeFault, node};
 use dtype_messages::pb;
@@ -35,6 +37,8 @@ struct Rest<'a> {
 pub fn message_of(alloc: Global, nodes: &[Node], texts: &[u8]) -> Result<pb::DType, NodeFault>
     ensures nodes { IfOk result (λ m. flat_nodes (message m) ≡ nodes.now) }
     ensures texts { IfOk result (λ m. flat_texts (message m) ≡ texts.now) }
+    ensures depth { IfOk result (λ m. depth (message m) ≤ 128) }
+    ensures too_deep { IfErr result (λ e. e ≡ TooDeep → 128 < holders nodes.now) }
 {
     let mut rest = Rest { nodes, texts };
     let message = read(alloc, &mut rest, MAX_LEVELS)?;
@@ -50,6 +54,7 @@ impl<'a> Rest<'a> {
     fn node(&mut self) -> Result<Node, NodeFault>
         ensures nodes { IfOk result (λ n. self.old.nodes.now ≡ n ∷ self.new.nodes.now) }
         ensures texts { self.new.texts.now ≡ self.old.texts.now }
+        ensures errors { IfErr result (λ e. e ≢ TooDeep) }
     {
         match self.nodes.split_first() {
             Some((first, rest)) => {
@@ -64,6 +69,7 @@ impl<'a> Rest<'a> {
     fn text(&mut self) -> Result<&'a [u8], NodeFault>
         ensures nodes { IfOk result (λ t. self.old.nodes.now ≡ text_node t.now ∷ self.new.nodes.now) }
         ensures texts { IfOk result (λ t. self.old.texts.now ≡ t.now ++ self.new.texts.now) }
+        ensures errors { IfErr result (λ e. e ≢ TooDeep) }
     {
         let node = self.node()?;
         expect(&node, &node::sized_node(node.number))?;
@@ -75,6 +81,7 @@ impl<'a> Rest<'a> {
         ensures length { IfOk result (λ t. length t.now ≡ wanted) }
         ensures texts { IfOk result (λ t. self.old.texts.now ≡ t.now ++ self.new.texts.now) }
         ensures nodes { self.new.nodes.now ≡ self.old.nodes.now }
+        ensures errors { IfErr result (λ e. e ≢ TooDeep) }
     {
         let wanted = wanted as usize;
         if wanted > self.texts.len() {
@@ -89,6 +96,7 @@ impl<'a> Rest<'a> {
     fn name(&mut self, alloc: Global) -> Result<String, NodeFault>
         ensures nodes { IfOk result (λ s. self.old.nodes.now ≡ text_node (string_bytes s) ∷ self.new.nodes.now) }
         ensures texts { IfOk result (λ s. self.old.texts.now ≡ string_bytes s ++ self.new.texts.now) }
+        ensures errors { IfErr result (λ e. e ≢ TooDeep) }
     {
         match str::from_utf8(self.text()?) {
             Ok(text) => Ok(String::from_str(alloc, text)?),
@@ -101,6 +109,7 @@ impl<'a> Rest<'a> {
         ensures length { IfOk result (λ v. length (map string_bytes v.items) ≡ wanted) }
         ensures nodes { IfOk result (λ v. self.old.nodes.now ≡ map text_node (map string_bytes v.items) ++ self.new.nodes.now) }
         ensures texts { IfOk result (λ v. self.old.texts.now ≡ flat_map (λ n. n) (map string_bytes v.items) ++ self.new.texts.now) }
+        ensures errors { IfErr result (λ e. e ≢ TooDeep) }
     {
         let mut names = Vec::with_capacity(alloc, self.at_most(wanted)?)?;
         for _at in 0..wanted {
@@ -114,6 +123,7 @@ impl<'a> Rest<'a> {
         ensures length { IfOk result (λ v. length v.items ≡ wanted) }
         ensures nodes { IfOk result (λ v. self.old.nodes.now ≡ map tag_node v.items ++ self.new.nodes.now) }
         ensures texts { IfOk result (λ v. self.old.texts.now ≡ self.new.texts.now) }
+        ensures errors { IfErr result (λ e. e ≢ TooDeep) }
     {
         let mut tags = Vec::with_capacity(alloc, self.at_most(wanted)?)?;
         for _at in 0..wanted {
@@ -125,7 +135,9 @@ impl<'a> Rest<'a> {
     }
 
     // Returns this number, unless there aren't as many nodes.
-    fn at_most(&self, wanted: u32) -> Result<usize, NodeFault> {
+    fn at_most(&self, wanted: u32) -> Result<usize, NodeFault>
+        ensures { IfErr result (λ e. e ≢ TooDeep) }
+    {
         let wanted = wanted as usize;
         if wanted > self.nodes.len() {
             return Err(NodeFault::OutOfRange);
@@ -138,6 +150,7 @@ impl<'a> Rest<'a> {
         ensures there { IfOk result (λ b. has_bytes (bytes_of b) ≡ is_there) }
         ensures nodes { IfOk result (λ b. self.old.nodes.now ≡ bytes_nodes (bytes_of b) ++ self.new.nodes.now) }
         ensures texts { IfOk result (λ b. self.old.texts.now ≡ bytes_texts (bytes_of b) ++ self.new.texts.now) }
+        ensures errors { IfErr result (λ e. e ≢ TooDeep) }
     {
         if !is_there {
             return Ok(None);
@@ -148,7 +161,8 @@ impl<'a> Rest<'a> {
 
 // Returns an error unless the node is the one that is expected.
 fn expect(node: &Node, expected: &Node) -> Result<(), NodeFault>
-    ensures { IfOk result (λ _. node.now ≡ expected.now) }
+    ensures same { IfOk result (λ _. node.now ≡ expected.now) }
+    ensures errors { IfErr result (λ e. e ≢ TooDeep) }
 {
     if *node == *expected {
         Ok(())
@@ -162,6 +176,8 @@ fn expect(node: &Node, expected: &Node) -> Result<(), NodeFault>
 fn read(alloc: Global, rest: &mut Rest<'_>, levels: u32) -> Result<pb::DType, NodeFault>
     ensures nodes { IfOk result (λ m. rest.old.nodes.now ≡ flat_nodes (message m) ++ rest.new.nodes.now) }
     ensures texts { IfOk result (λ m. rest.old.texts.now ≡ flat_texts (message m) ++ rest.new.texts.now) }
+    ensures depth { IfOk result (λ m. depth (message m) ≤ levels) }
+    ensures too_deep { IfErr result (λ e. e ≡ TooDeep → levels < holders rest.old.nodes.now) }
 {
     let node = rest.node()?;
     if node.kind == 0 {
@@ -176,6 +192,7 @@ fn read(alloc: Global, rest: &mut Rest<'_>, levels: u32) -> Result<pb::DType, No
 
 // Reads a kind, of which this is the first node.
 #[cycle(reading)]
+#[tactic(auto, using(std::proofs::lemmas::Grind::common_steps, crate::proofs::Lists::holders_more))]
 fn read_kind(
     alloc: Global,
     node: &Node,
@@ -184,6 +201,8 @@ fn read_kind(
 ) -> Result<pb::DtypeType, NodeFault>
     ensures nodes { IfOk result (λ k. node.now ∷ rest.old.nodes.now ≡ flat_nodes (kind_message k) ++ rest.new.nodes.now) }
     ensures texts { IfOk result (λ k. rest.old.texts.now ≡ flat_texts (kind_message k) ++ rest.new.texts.now) }
+    ensures depth { IfOk result (λ k. depth (kind_message k) ≤ levels) }
+    ensures too_deep { IfErr result (λ e. e ≡ TooDeep → levels < holders (node.now ∷ rest.old.nodes.now)) }
 {
     match node.kind {
         7 => read_list(alloc, node, rest, levels),
@@ -200,6 +219,8 @@ fn read_kind(
 fn leaf(node: &Node) -> Result<pb::DtypeType, NodeFault>
     ensures nodes { IfOk result (λ k. flat_nodes (kind_message k) ≡ node.now ∷ []) }
     ensures texts { IfOk result (λ k. flat_texts (kind_message k) ≡ []) }
+    ensures depth { IfOk result (λ k. depth (kind_message k) ≡ 0) }
+    ensures errors { IfErr result (λ e. e ≢ TooDeep) }
 {
     let nullable = node.nullable == 1;
     match node.kind {
@@ -250,6 +271,8 @@ fn read_list(
 ) -> Result<pb::DtypeType, NodeFault>
     ensures nodes { IfOk result (λ k. node.now ∷ rest.old.nodes.now ≡ flat_nodes (kind_message k) ++ rest.new.nodes.now) }
     ensures texts { IfOk result (λ k. rest.old.texts.now ≡ flat_texts (kind_message k) ++ rest.new.texts.now) }
+    ensures depth { IfOk result (λ k. depth (kind_message k) ≤ levels) }
+    ensures too_deep { IfErr result (λ e. e ≡ TooDeep → levels ≤ holders rest.old.nodes.now) }
 {
     let (has_element, nullable) = (node.has_first == 1, node.nullable == 1);
     expect(node, &node::part_node(7, has_element, 0, nullable))?;
@@ -271,6 +294,8 @@ fn read_fixed(
 ) -> Result<pb::DtypeType, NodeFault>
     ensures nodes { IfOk result (λ k. node.now ∷ rest.old.nodes.now ≡ flat_nodes (kind_message k) ++ rest.new.nodes.now) }
     ensures texts { IfOk result (λ k. rest.old.texts.now ≡ flat_texts (kind_message k) ++ rest.new.texts.now) }
+    ensures depth { IfOk result (λ k. depth (kind_message k) ≤ levels) }
+    ensures too_deep { IfErr result (λ e. e ≡ TooDeep → levels ≤ holders rest.old.nodes.now) }
 {
     let (has_element, nullable) = (node.has_first == 1, node.nullable == 1);
     let size = node.number;
@@ -286,6 +311,7 @@ fn read_fixed(
 
 // Reads a map.
 #[cycle(reading)]
+#[tactic(auto, using(std::proofs::lemmas::Grind::common_steps, crate::proofs::Lists::holders_both))]
 fn read_map(
     alloc: Global,
     node: &Node,
@@ -294,6 +320,8 @@ fn read_map(
 ) -> Result<pb::DtypeType, NodeFault>
     ensures nodes { IfOk result (λ k. node.now ∷ rest.old.nodes.now ≡ flat_nodes (kind_message k) ++ rest.new.nodes.now) }
     ensures texts { IfOk result (λ k. rest.old.texts.now ≡ flat_texts (kind_message k) ++ rest.new.texts.now) }
+    ensures depth { IfOk result (λ k. depth (kind_message k) ≤ levels) }
+    ensures too_deep { IfErr result (λ e. e ≡ TooDeep → levels ≤ holders rest.old.nodes.now) }
 {
     let (has_key, has_value) = (node.has_first == 1, node.has_second == 1);
     let (keys_sorted, nullable) = (node.keys_sorted == 1, node.nullable == 1);
@@ -314,6 +342,7 @@ fn read_map(
 
 // Reads a struct.
 #[cycle(reading)]
+#[tactic(auto, using(std::proofs::lemmas::Grind::common_steps, crate::proofs::Lists::holders_both))]
 fn read_struct(
     alloc: Global,
     node: &Node,
@@ -322,6 +351,8 @@ fn read_struct(
 ) -> Result<pb::DtypeType, NodeFault>
     ensures nodes { IfOk result (λ k. node.now ∷ rest.old.nodes.now ≡ flat_nodes (kind_message k) ++ rest.new.nodes.now) }
     ensures texts { IfOk result (λ k. rest.old.texts.now ≡ flat_texts (kind_message k) ++ rest.new.texts.now) }
+    ensures depth { IfOk result (λ k. depth (kind_message k) ≤ levels) }
+    ensures too_deep { IfErr result (λ e. e ≡ TooDeep → levels ≤ holders rest.old.nodes.now) }
 {
     let nullable = node.nullable == 1;
     expect(
@@ -339,6 +370,7 @@ fn read_struct(
 
 // Reads a union.
 #[cycle(reading)]
+#[tactic(auto, using(std::proofs::lemmas::Grind::common_steps, crate::proofs::Lists::holders_both))]
 fn read_union(
     alloc: Global,
     node: &Node,
@@ -347,6 +379,8 @@ fn read_union(
 ) -> Result<pb::DtypeType, NodeFault>
     ensures nodes { IfOk result (λ k. node.now ∷ rest.old.nodes.now ≡ flat_nodes (kind_message k) ++ rest.new.nodes.now) }
     ensures texts { IfOk result (λ k. rest.old.texts.now ≡ flat_texts (kind_message k) ++ rest.new.texts.now) }
+    ensures depth { IfOk result (λ k. depth (kind_message k) ≤ levels) }
+    ensures too_deep { IfErr result (λ e. e ≡ TooDeep → levels ≤ holders rest.old.nodes.now) }
 {
     let nullable = node.nullable == 1;
     expect(
@@ -366,6 +400,7 @@ fn read_union(
 
 // Reads an extension.
 #[cycle(reading)]
+#[tactic(auto, using(std::proofs::lemmas::Grind::common_steps, crate::proofs::Lists::holders_both, crate::proofs::Lists::holders_least))]
 fn read_extension(
     alloc: Global,
     node: &Node,
@@ -374,6 +409,8 @@ fn read_extension(
 ) -> Result<pb::DtypeType, NodeFault>
     ensures nodes { IfOk result (λ k. node.now ∷ rest.old.nodes.now ≡ flat_nodes (kind_message k) ++ rest.new.nodes.now) }
     ensures texts { IfOk result (λ k. rest.old.texts.now ≡ flat_texts (kind_message k) ++ rest.new.texts.now) }
+    ensures depth { IfOk result (λ k. depth (kind_message k) ≤ levels) }
+    ensures too_deep { IfErr result (λ e. e ≡ TooDeep → levels ≤ holders rest.old.nodes.now) }
 {
     let (has_storage, has_metadata) = (node.has_first == 1, node.has_second == 1);
     expect(node, &node::extension_node(has_storage, has_metadata))?;
@@ -388,6 +425,20 @@ fn read_extension(
     Ok(pb::DtypeType::Extension(Box::new(alloc, extension)?))
 }
 
+// Reads a part, a level deeper.
+#[cycle(reading)]
+fn read_part(alloc: Global, rest: &mut Rest<'_>, levels: u32) -> Result<pb::DType, NodeFault>
+    ensures nodes { IfOk result (λ m. rest.old.nodes.now ≡ flat_nodes (message m) ++ rest.new.nodes.now) }
+    ensures texts { IfOk result (λ m. rest.old.texts.now ≡ flat_texts (message m) ++ rest.new.texts.now) }
+    ensures depth { IfOk result (λ m. depth (message m) < levels) }
+    ensures too_deep { IfErr result (λ e. e ≡ TooDeep → levels ≤ holders rest.old.nodes.now) }
+{
+    match levels.checked_sub(1) {
+        Some(levels) => read(alloc, rest, levels),
+        None => Err(NodeFault::TooDeep),
+    }
+}
+
 // Reads a part, if it is there, a level deeper.
 #[cycle(reading)]
 fn read_child(
@@ -399,20 +450,19 @@ fn read_child(
     ensures there { IfOk result (λ c. is_present (child_message c) ≡ is_there) }
     ensures nodes { IfOk result (λ c. rest.old.nodes.now ≡ part_nodes (child_message c) ++ rest.new.nodes.now) }
     ensures texts { IfOk result (λ c. rest.old.texts.now ≡ part_texts (child_message c) ++ rest.new.texts.now) }
+    ensures depth { IfOk result (λ c. depth_child (child_message c) ≤ levels) }
+    ensures too_deep { IfErr result (λ e. e ≡ TooDeep → levels ≤ holders rest.old.nodes.now) }
 {
     if !is_there {
         return Ok(None);
     }
-    let Some(levels) = levels.checked_sub(1) else {
-        return Err(NodeFault::TooDeep);
-    };
-    let message = read(alloc, rest, levels)?;
+    let message = read_part(alloc, rest, levels)?;
     Ok(Some(Box::new(alloc, message)?))
 }
 
 // Reads this many messages, a level deeper.
 #[cycle(reading)]
-#[tactic(auto, using(std::proofs::lemmas::Grind::common_steps, crate::proofs::Lists::all_nodes_is, crate::proofs::Lists::all_texts_is, crate::proofs::Lists::count_is))]
+#[tactic(auto, using(std::proofs::lemmas::Grind::common_steps, crate::proofs::Lists::all_nodes_is, crate::proofs::Lists::all_texts_is, crate::proofs::Lists::count_is, crate::proofs::Lists::depth_push, crate::proofs::Lists::holders_both))]
 fn read_all(
     alloc: Global,
     rest: &mut Rest<'_>,
@@ -422,13 +472,12 @@ fn read_all(
     ensures number { IfOk result (λ v. count (messages (map message v.items)) ≡ wanted) }
     ensures nodes { IfOk result (λ v. rest.old.nodes.now ≡ all_nodes (messages (map message v.items)) ++ rest.new.nodes.now) }
     ensures texts { IfOk result (λ v. rest.old.texts.now ≡ all_texts (messages (map message v.items)) ++ rest.new.texts.now) }
+    ensures depth { IfOk result (λ v. depth_all (messages (map message v.items)) ≤ levels) }
+    ensures too_deep { IfErr result (λ e. e ≡ TooDeep → levels ≤ holders rest.old.nodes.now) }
 {
-    let Some(levels) = levels.checked_sub(1) else {
-        return Err(NodeFault::TooDeep);
-    };
     let mut protos = Vec::with_capacity(alloc, rest.at_most(wanted)?)?;
     for _at in 0..wanted {
-        protos.push(read(alloc, rest, levels)?)?;
+        protos.push(read_part(alloc, rest, levels)?)?;
     }
     Ok(protos)
 }

@@ -2,11 +2,13 @@
 // SPDX-FileCopyrightText: Copyright the Vortex contributors
 
 // Nodes and texts from messages.
-ghost use Rattle.std.specs.Prelude.{◌≡◌, ◌∷◌, ◌++◌, [], map, IfOk, string_bytes};
+ghost use Rattle.std.specs.Prelude.{◌≡◌, ◌≢◌, ◌≤◌, ◌<◌, ◌∷◌, [], map, IfErr, IfOk, string_bytes};
 ghost use Rattle.std.specs.List.{flat_map};
 ghost use Rattle.dtype_messages.specs.Message.{messages};
 ghost use Rattle.dtype_messages.specs.MessageOf.{message, kind_message, child_message, bytes_of};
-ghost use Rattle.c_nodes.specs.Flat.{flat_nodes, flat_texts, part_nodes, part_texts, all_nodes, all_texts, bytes_nodes, bytes_texts, text_node, tag_node, struct_of, union_of, extension_of};
+ghost use Rattle.c_nodes.specs.Flat.{GrowsBy, flat_nodes, flat_texts, part_nodes, part_texts, all_nodes, all_texts, bytes_nodes, bytes_texts, text_node, tag_node, map_with, struct_of, union_of, extension_of};
+ghost use Rattle.c_nodes.specs.Depth.{depth, depth_all, depth_child};
+ghost use Rattle.c_nodes.specs.declared.fault.NodeFault.TheVariants.{TooDeep};
 
 use crate::reader::MAX_LEVELS;
 use crate::{Node, NodeFault, node};
@@ -31,6 +33,8 @@ struct Flat {
 pub fn nodes_of(alloc: Global, proto: &pb::DType) -> Result<(Vec<Node>, Vec<u8>), NodeFault>
     ensures nodes { IfOk result (λ r. r.0.items ≡ flat_nodes (message proto.now)) }
     ensures texts { IfOk result (λ r. r.1.items ≡ flat_texts (message proto.now)) }
+    ensures depth { IfOk result (λ _. depth (message proto.now) ≤ 128) }
+    ensures too_deep { IfErr result (λ e. e ≡ TooDeep → 128 < depth (message proto.now)) }
 {
     let mut flat = Flat {
         nodes: Vec::new(alloc),
@@ -43,8 +47,9 @@ pub fn nodes_of(alloc: Global, proto: &pb::DType) -> Result<(Vec<Node>, Vec<u8>)
 impl Flat {
     // Adds a node.
     fn node(&mut self, node: Node) -> Result<(), NodeFault>
-        ensures nodes { IfOk result (λ _. self.new.nodes.items ≡ self.old.nodes.items ++ (node ∷ [])) }
+        ensures nodes { IfOk result (λ _. GrowsBy (node ∷ []) self.old.nodes.items self.new.nodes.items) }
         ensures texts { self.new.texts.items ≡ self.old.texts.items }
+        ensures errors { IfErr result (λ e. e ≢ TooDeep) }
     {
         self.nodes.push(node)?;
         Ok(())
@@ -52,8 +57,9 @@ impl Flat {
 
     // Adds a text with its node.
     fn text(&mut self, text: &[u8]) -> Result<(), NodeFault>
-        ensures nodes { IfOk result (λ _. self.new.nodes.items ≡ self.old.nodes.items ++ (text_node text.now ∷ [])) }
-        ensures texts { IfOk result (λ _. self.new.texts.items ≡ self.old.texts.items ++ text.now) }
+        ensures nodes { IfOk result (λ _. GrowsBy (text_node text.now ∷ []) self.old.nodes.items self.new.nodes.items) }
+        ensures texts { IfOk result (λ _. GrowsBy text.now self.old.texts.items self.new.texts.items) }
+        ensures errors { IfErr result (λ e. e ≢ TooDeep) }
     {
         self.node(node::sized_node(number_of(text.len())?))?;
         self.texts.extend_from_slice(text)?;
@@ -62,8 +68,9 @@ impl Flat {
 
     // Adds names with their nodes.
     fn names(&mut self, names: &[String]) -> Result<(), NodeFault>
-        ensures nodes { IfOk result (λ _. self.new.nodes.items ≡ self.old.nodes.items ++ map text_node (map string_bytes names.now)) }
-        ensures texts { IfOk result (λ _. self.new.texts.items ≡ self.old.texts.items ++ flat_map (λ n. n) (map string_bytes names.now)) }
+        ensures nodes { IfOk result (λ _. GrowsBy (map text_node (map string_bytes names.now)) self.old.nodes.items self.new.nodes.items) }
+        ensures texts { IfOk result (λ _. GrowsBy (flat_map (λ n. n) (map string_bytes names.now)) self.old.texts.items self.new.texts.items) }
+        ensures errors { IfErr result (λ e. e ≢ TooDeep) }
     {
         for name in names {
             self.text(name.as_bytes())?;
@@ -73,8 +80,9 @@ impl Flat {
 
     // Adds tags.
     fn tags(&mut self, tags: &[i32]) -> Result<(), NodeFault>
-        ensures nodes { IfOk result (λ _. self.new.nodes.items ≡ self.old.nodes.items ++ map tag_node tags.now) }
+        ensures nodes { IfOk result (λ _. GrowsBy (map tag_node tags.now) self.old.nodes.items self.new.nodes.items) }
         ensures texts { IfOk result (λ _. self.new.texts.items ≡ self.old.texts.items) }
+        ensures errors { IfErr result (λ e. e ≢ TooDeep) }
     {
         for tag in tags {
             self.node(node::tag_node(*tag))?;
@@ -84,8 +92,9 @@ impl Flat {
 
     // Adds the metadata of an extension, if there is any.
     fn metadata(&mut self, metadata: &Option<Vec<u8>>) -> Result<(), NodeFault>
-        ensures nodes { IfOk result (λ _. self.new.nodes.items ≡ self.old.nodes.items ++ bytes_nodes (bytes_of metadata.now)) }
-        ensures texts { IfOk result (λ _. self.new.texts.items ≡ self.old.texts.items ++ bytes_texts (bytes_of metadata.now)) }
+        ensures nodes { IfOk result (λ _. GrowsBy (bytes_nodes (bytes_of metadata.now)) self.old.nodes.items self.new.nodes.items) }
+        ensures texts { IfOk result (λ _. GrowsBy (bytes_texts (bytes_of metadata.now)) self.old.texts.items self.new.texts.items) }
+        ensures errors { IfErr result (λ e. e ≢ TooDeep) }
     {
         match metadata {
             Some(bytes) => self.text(bytes),
@@ -96,8 +105,10 @@ impl Flat {
     // Adds a message, with at most so many levels below it.
     #[cycle(writing)]
     fn message(&mut self, proto: &pb::DType, levels: u32) -> Result<(), NodeFault>
-        ensures nodes { IfOk result (λ _. self.new.nodes.items ≡ self.old.nodes.items ++ flat_nodes (message proto.now)) }
-        ensures texts { IfOk result (λ _. self.new.texts.items ≡ self.old.texts.items ++ flat_texts (message proto.now)) }
+        ensures nodes { IfOk result (λ _. GrowsBy (flat_nodes (message proto.now)) self.old.nodes.items self.new.nodes.items) }
+        ensures texts { IfOk result (λ _. GrowsBy (flat_texts (message proto.now)) self.old.texts.items self.new.texts.items) }
+        ensures depth { IfOk result (λ _. depth (message proto.now) ≤ levels) }
+        ensures too_deep { IfErr result (λ e. e ≡ TooDeep → levels < depth (message proto.now)) }
     {
         match &proto.dtype_type {
             Some(kind) => self.kind(kind, levels),
@@ -108,8 +119,10 @@ impl Flat {
     // Adds the message of a kind.
     #[cycle(writing)]
     fn kind(&mut self, kind: &pb::DtypeType, levels: u32) -> Result<(), NodeFault>
-        ensures nodes { IfOk result (λ _. self.new.nodes.items ≡ self.old.nodes.items ++ flat_nodes (kind_message kind.now)) }
-        ensures texts { IfOk result (λ _. self.new.texts.items ≡ self.old.texts.items ++ flat_texts (kind_message kind.now)) }
+        ensures nodes { IfOk result (λ _. GrowsBy (flat_nodes (kind_message kind.now)) self.old.nodes.items self.new.nodes.items) }
+        ensures texts { IfOk result (λ _. GrowsBy (flat_texts (kind_message kind.now)) self.old.texts.items self.new.texts.items) }
+        ensures depth { IfOk result (λ _. depth (kind_message kind.now) ≤ levels) }
+        ensures too_deep { IfErr result (λ e. e ≡ TooDeep → levels < depth (kind_message kind.now)) }
     {
         match kind {
             pb::DtypeType::Null(_) => self.node(node::plain(1)),
@@ -124,18 +137,21 @@ impl Flat {
             pb::DtypeType::Binary(it) => self.node(node::flagged(6, it.nullable)),
             pb::DtypeType::List(it) => {
                 self.node(node::part_node(7, it.element_type.is_some(), 0, it.nullable))?;
-                self.child(&it.element_type, levels)
+                self.child(&it.element_type, levels)?;
+                Ok(())
             }
             pb::DtypeType::FixedSizeList(it) => {
                 self.node(node::part_node(8, it.element_type.is_some(), it.size, it.nullable))?;
-                self.child(&it.element_type, levels)
+                self.child(&it.element_type, levels)?;
+                Ok(())
             }
-            pb::DtypeType::Map(it) => {
-                let (has_key, has_value) = (it.key_type.is_some(), it.value_type.is_some());
-                self.node(node::map_node(has_key, has_value, it.keys_sorted, it.nullable))?;
-                self.child(&it.key_type, levels)?;
-                self.child(&it.value_type, levels)
-            }
+            pb::DtypeType::Map(it) => self.map(
+                &it.key_type,
+                &it.value_type,
+                it.keys_sorted,
+                it.nullable,
+                levels,
+            ),
             pb::DtypeType::Struct(it) => self.fields(&it.names, &it.dtypes, it.nullable, levels),
             pb::DtypeType::Union(it) => self.variants(
                 &it.names,
@@ -154,9 +170,32 @@ impl Flat {
         }
     }
 
+    // Adds a map.
+    #[cycle(writing)]
+    #[tactic(auto, using(std::proofs::lemmas::Grind::common_steps, crate::proofs::Lists::either_depth))]
+    fn map(
+        &mut self,
+        key: &Option<Box<pb::DType>>,
+        value: &Option<Box<pb::DType>>,
+        keys_sorted: bool,
+        nullable: bool,
+        levels: u32,
+    ) -> Result<(), NodeFault>
+        ensures nodes { IfOk result (λ _. GrowsBy (flat_nodes (map_with key.now value.now keys_sorted nullable)) self.old.nodes.items self.new.nodes.items) }
+        ensures texts { IfOk result (λ _. GrowsBy (flat_texts (map_with key.now value.now keys_sorted nullable)) self.old.texts.items self.new.texts.items) }
+        ensures depth { IfOk result (λ _. depth (map_with key.now value.now keys_sorted nullable) ≤ levels) }
+        ensures too_deep { IfErr result (λ e. e ≡ TooDeep → levels < depth (map_with key.now value.now keys_sorted nullable)) }
+    {
+        let (has_key, has_value) = (key.is_some(), value.is_some());
+        self.node(node::map_node(has_key, has_value, keys_sorted, nullable))?;
+        self.child(key, levels)?;
+        self.child(value, levels)?;
+        Ok(())
+    }
+
     // Adds a struct.
     #[cycle(writing)]
-    #[tactic(auto, using(std::proofs::lemmas::Grind::common_steps, crate::proofs::Lists::all_nodes_is, crate::proofs::Lists::all_texts_is, crate::proofs::Lists::count_is))]
+    #[tactic(auto, using(std::proofs::lemmas::Grind::common_steps, crate::proofs::Lists::all_nodes_is, crate::proofs::Lists::all_texts_is, crate::proofs::Lists::count_is, crate::proofs::Lists::depth_push, crate::proofs::Lists::depth_at))]
     fn fields(
         &mut self,
         names: &[String],
@@ -164,8 +203,10 @@ impl Flat {
         nullable: bool,
         levels: u32,
     ) -> Result<(), NodeFault>
-        ensures nodes { IfOk result (λ _. self.new.nodes.items ≡ self.old.nodes.items ++ flat_nodes (struct_of names.now dtypes.now nullable)) }
-        ensures texts { IfOk result (λ _. self.new.texts.items ≡ self.old.texts.items ++ flat_texts (struct_of names.now dtypes.now nullable)) }
+        ensures nodes { IfOk result (λ _. GrowsBy (flat_nodes (struct_of names.now dtypes.now nullable)) self.old.nodes.items self.new.nodes.items) }
+        ensures texts { IfOk result (λ _. GrowsBy (flat_texts (struct_of names.now dtypes.now nullable)) self.old.texts.items self.new.texts.items) }
+        ensures depth { IfOk result (λ _. depth (struct_of names.now dtypes.now nullable) ≤ levels) }
+        ensures too_deep { IfErr result (λ e. e ≡ TooDeep → levels < depth (struct_of names.now dtypes.now nullable)) }
     {
         let (name_count, types) = (number_of(names.len())?, number_of(dtypes.len())?);
         self.node(node::fields_node(10, name_count, 0, types, nullable))?;
@@ -176,7 +217,7 @@ impl Flat {
 
     // Adds a union.
     #[cycle(writing)]
-    #[tactic(auto, using(std::proofs::lemmas::Grind::common_steps, crate::proofs::Lists::all_nodes_is, crate::proofs::Lists::all_texts_is, crate::proofs::Lists::count_is))]
+    #[tactic(auto, using(std::proofs::lemmas::Grind::common_steps, crate::proofs::Lists::all_nodes_is, crate::proofs::Lists::all_texts_is, crate::proofs::Lists::count_is, crate::proofs::Lists::depth_push, crate::proofs::Lists::depth_at))]
     fn variants(
         &mut self,
         names: &[String],
@@ -185,8 +226,10 @@ impl Flat {
         nullable: bool,
         levels: u32,
     ) -> Result<(), NodeFault>
-        ensures nodes { IfOk result (λ _. self.new.nodes.items ≡ self.old.nodes.items ++ flat_nodes (union_of names.now type_ids.now dtypes.now nullable)) }
-        ensures texts { IfOk result (λ _. self.new.texts.items ≡ self.old.texts.items ++ flat_texts (union_of names.now type_ids.now dtypes.now nullable)) }
+        ensures nodes { IfOk result (λ _. GrowsBy (flat_nodes (union_of names.now type_ids.now dtypes.now nullable)) self.old.nodes.items self.new.nodes.items) }
+        ensures texts { IfOk result (λ _. GrowsBy (flat_texts (union_of names.now type_ids.now dtypes.now nullable)) self.old.texts.items self.new.texts.items) }
+        ensures depth { IfOk result (λ _. depth (union_of names.now type_ids.now dtypes.now nullable) ≤ levels) }
+        ensures too_deep { IfErr result (λ e. e ≡ TooDeep → levels < depth (union_of names.now type_ids.now dtypes.now nullable)) }
     {
         let (name_count, types) = (number_of(names.len())?, number_of(dtypes.len())?);
         let tags = number_of(type_ids.len())?;
@@ -199,7 +242,7 @@ impl Flat {
 
     // Adds an extension.
     #[cycle(writing)]
-    #[tactic(auto, using(std::proofs::lemmas::Grind::common_steps, crate::proofs::Lists::all_nodes_is, crate::proofs::Lists::all_texts_is, crate::proofs::Lists::count_is))]
+    #[tactic(auto, using(std::proofs::lemmas::Grind::common_steps, crate::proofs::Lists::all_nodes_is, crate::proofs::Lists::all_texts_is, crate::proofs::Lists::count_is, crate::proofs::Lists::depth_push, crate::proofs::Lists::depth_at))]
     fn extension(
         &mut self,
         id: &String,
@@ -207,8 +250,10 @@ impl Flat {
         storage: &Option<Box<pb::DType>>,
         levels: u32,
     ) -> Result<(), NodeFault>
-        ensures nodes { IfOk result (λ _. self.new.nodes.items ≡ self.old.nodes.items ++ flat_nodes (extension_of id.now metadata.now storage.now)) }
-        ensures texts { IfOk result (λ _. self.new.texts.items ≡ self.old.texts.items ++ flat_texts (extension_of id.now metadata.now storage.now)) }
+        ensures nodes { IfOk result (λ _. GrowsBy (flat_nodes (extension_of id.now metadata.now storage.now)) self.old.nodes.items self.new.nodes.items) }
+        ensures texts { IfOk result (λ _. GrowsBy (flat_texts (extension_of id.now metadata.now storage.now)) self.old.texts.items self.new.texts.items) }
+        ensures depth { IfOk result (λ _. depth (extension_of id.now metadata.now storage.now) ≤ levels) }
+        ensures too_deep { IfErr result (λ e. e ≡ TooDeep → levels < depth (extension_of id.now metadata.now storage.now)) }
     {
         let (has_storage, has_metadata) = (storage.is_some(), metadata.is_some());
         self.node(node::extension_node(has_storage, has_metadata))?;
@@ -218,33 +263,45 @@ impl Flat {
         Ok(())
     }
 
-    // Adds a part, if there is one, a level deeper.
+    // Adds a part, a level deeper.
     #[cycle(writing)]
-    fn child(&mut self, child: &Option<Box<pb::DType>>, levels: u32) -> Result<(), NodeFault>
-        ensures nodes { IfOk result (λ _. self.new.nodes.items ≡ self.old.nodes.items ++ part_nodes (child_message child.now)) }
-        ensures texts { IfOk result (λ _. self.new.texts.items ≡ self.old.texts.items ++ part_texts (child_message child.now)) }
+    fn part(&mut self, proto: &pb::DType, levels: u32) -> Result<(), NodeFault>
+        ensures nodes { IfOk result (λ _. GrowsBy (flat_nodes (message proto.now)) self.old.nodes.items self.new.nodes.items) }
+        ensures texts { IfOk result (λ _. GrowsBy (flat_texts (message proto.now)) self.old.texts.items self.new.texts.items) }
+        ensures depth { IfOk result (λ _. depth (message proto.now) < levels) }
+        ensures too_deep { IfErr result (λ e. e ≡ TooDeep → levels ≤ depth (message proto.now)) }
     {
-        let Some(proto) = child else {
-            return Ok(());
-        };
         match levels.checked_sub(1) {
             Some(levels) => self.message(proto, levels),
             None => Err(NodeFault::TooDeep),
         }
     }
 
+    // Adds a part, if there is one, a level deeper.
+    #[cycle(writing)]
+    fn child(&mut self, child: &Option<Box<pb::DType>>, levels: u32) -> Result<(), NodeFault>
+        ensures nodes { IfOk result (λ _. GrowsBy (part_nodes (child_message child.now)) self.old.nodes.items self.new.nodes.items) }
+        ensures texts { IfOk result (λ _. GrowsBy (part_texts (child_message child.now)) self.old.texts.items self.new.texts.items) }
+        ensures depth { IfOk result (λ _. depth_child (child_message child.now) ≤ levels) }
+        ensures too_deep { IfErr result (λ e. e ≡ TooDeep → levels < depth_child (child_message child.now)) }
+    {
+        match child {
+            Some(proto) => self.part(proto, levels),
+            None => Ok(()),
+        }
+    }
+
     // Adds messages, a level deeper.
     #[cycle(writing)]
-    #[tactic(auto, using(std::proofs::lemmas::Grind::common_steps, crate::proofs::Lists::all_nodes_is, crate::proofs::Lists::all_texts_is, crate::proofs::Lists::count_is))]
+    #[tactic(auto, using(std::proofs::lemmas::Grind::common_steps, crate::proofs::Lists::all_nodes_is, crate::proofs::Lists::all_texts_is, crate::proofs::Lists::count_is, crate::proofs::Lists::depth_push, crate::proofs::Lists::depth_at))]
     fn all(&mut self, protos: &[pb::DType], levels: u32) -> Result<(), NodeFault>
-        ensures nodes { IfOk result (λ _. self.new.nodes.items ≡ self.old.nodes.items ++ all_nodes (messages (map message protos.now))) }
-        ensures texts { IfOk result (λ _. self.new.texts.items ≡ self.old.texts.items ++ all_texts (messages (map message protos.now))) }
+        ensures nodes { IfOk result (λ _. GrowsBy (all_nodes (messages (map message protos.now))) self.old.nodes.items self.new.nodes.items) }
+        ensures texts { IfOk result (λ _. GrowsBy (all_texts (messages (map message protos.now))) self.old.texts.items self.new.texts.items) }
+        ensures depth { IfOk result (λ _. depth_all (messages (map message protos.now)) ≤ levels) }
+        ensures too_deep { IfErr result (λ e. e ≡ TooDeep → levels < depth_all (messages (map message protos.now))) }
     {
-        let Some(levels) = levels.checked_sub(1) else {
-            return Err(NodeFault::TooDeep);
-        };
         for proto in protos {
-            self.message(proto, levels)?;
+            self.part(proto, levels)?;
         }
         Ok(())
     }
@@ -252,7 +309,8 @@ impl Flat {
 
 // Returns the number, if it fits 32 bits.
 fn number_of(number: usize) -> Result<u32, NodeFault>
-    ensures { IfOk result (λ n. n ≡ number) }
+    ensures number { IfOk result (λ n. n ≡ number) }
+    ensures errors { IfErr result (λ e. e ≢ TooDeep) }
 {
     match u32::try_from(number) {
         Ok(number) => Ok(number),

@@ -1,46 +1,52 @@
 -- SPDX-License-Identifier: Apache-2.0
 -- SPDX-FileCopyrightText: Copyright the Vortex contributors
 
-use Rattle.std.proofs.Common.{◌≡◌, ◌+◌, ◌*◌, ◌++◌, map, length}
+use Rattle.std.proofs.Common.{◌≡◌, ◌≤◌, ◌+◌, ◌*◌, ◌++◌, map, length}
 use Rattle.std.specs.List.{flat_map}
+use Rattle.dtype_messages.specs.Message.{messages}
 use Rattle.dtype_messages.specs.MessageOf.{message}
+use Rattle.c_nodes.specs.Depth.{depth_all}
 use Rattle.c_nodes.specs.Flat.{flat_nodes, flat_texts}
 use Rattle.c_nodes.proofs.reader.+reading.Given as goal
 
 abbrev pub decreases-read : goal.decreases-read
-decreases-read l = l.levels * 5 + 3
+decreases-read l = l.levels * 6 + 4
 
 abbrev pub decreases-read_kind : goal.decreases-read_kind
-decreases-read_kind l = l.levels * 5 + 2
+decreases-read_kind l = l.levels * 6 + 3
 
 abbrev pub decreases-read_list : goal.decreases-read_list
-decreases-read_list l = l.levels * 5 + 1
+decreases-read_list l = l.levels * 6 + 2
 
 abbrev pub decreases-read_fixed : goal.decreases-read_fixed
-decreases-read_fixed l = l.levels * 5 + 1
+decreases-read_fixed l = l.levels * 6 + 2
 
 abbrev pub decreases-read_map : goal.decreases-read_map
-decreases-read_map l = l.levels * 5 + 1
+decreases-read_map l = l.levels * 6 + 2
 
 abbrev pub decreases-read_struct : goal.decreases-read_struct
-decreases-read_struct l = l.levels * 5 + 1
+decreases-read_struct l = l.levels * 6 + 2
 
 abbrev pub decreases-read_union : goal.decreases-read_union
-decreases-read_union l = l.levels * 5 + 1
+decreases-read_union l = l.levels * 6 + 2
 
 abbrev pub decreases-read_extension : goal.decreases-read_extension
-decreases-read_extension l = l.levels * 5 + 1
+decreases-read_extension l = l.levels * 6 + 2
 
 abbrev pub decreases-read_child : goal.decreases-read_child
-decreases-read_child l = l.levels * 5
+decreases-read_child l = l.levels * 6 + 1
+
+abbrev pub decreases-read_part : goal.decreases-read_part
+decreases-read_part l = l.levels * 6
 
 abbrev pub decreases-read_all : goal.decreases-read_all
-decreases-read_all l = l.levels * 5
+decreases-read_all l = l.levels * 6 + 1
 
--- what was read of the messages so far, before what is left, is all that there was
+-- what was read of the messages so far, before what is left, is all that there was, and none of it is too deep
 abbrev pub invariant-read_all-loop-at : goal.invariant-read_all-loop-at
 invariant-read_all-loop-at l = record {
   length : length l.protos.items ≡ l._at;
   nodes : flat_map flat_nodes (map message l.protos.items) ++ l.rest.nodes.now ≡ l.fn.rest.nodes.now;
   texts : flat_map flat_texts (map message l.protos.items) ++ l.rest.texts.now ≡ l.fn.rest.texts.now;
+  depth : depth_all (messages (map message l.protos.items)) ≤ l.levels;
 }

@@ -134,6 +134,14 @@ static void trim(vlt_slot *slot) {
         vlt_free(slot);
 }
 
+/* Puts a struct, so that some slots have structs without a common name, which can be merged. */
+static void put_struct(vlt_slot *out) {
+    static const char *const texts[] = {"{a=i32}", "{b=utf8?, c={a=u8}}", "{\"a b\"=f64}"};
+    const char *text = texts[any(sizeof texts / sizeof *texts)];
+    size_t position = 0;
+    expect(vlt_dtype_from_text((const uint8_t *)text, strlen(text), out, &position) == 0);
+}
+
 #include "random_calls.h"
 
 int main(int count, char **arguments) {
@@ -150,6 +158,8 @@ int main(int count, char **arguments) {
             answered[number] += result <= VLT_NONE || strcmp(call_names[number], "vlt_kind") == 0;
             if (any(40) == 0)
                 vlt_free(any_slot());
+            if (any(32) == 0)
+                put_struct(any_slot());
         }
         most[half] = heap_most_bytes;
     }

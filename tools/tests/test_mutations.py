@@ -16,6 +16,12 @@ BY_SEARCH = "no proof: expected answers in ./proofs/two/one/Answers.antt; `searc
 BY_HAND = "not proved; it stands on `Rattle.fixtures_values.proofs.two.two.Answers.returns`, which antt refuses"
 WRONG_GOAL = "./proofs/two/two/Answers.antt:7:1: error: `returns`: computed as far as they go, the two types differ"
 NO_FIELD = "./proofs/two/two/Answers.antt:7:1: error: `c.two` has no field `three`"
+# The impl of a trait with a law, and what a check says of it.
+IMPL = "\npub trait Wide {\n    const X: u8;\n}\n\nimpl Wide for u8 {\n    const X: u8 = 5;\n}\n"
+WIDER = "file: src/two.rt\nold:     const X: u8 = 5;\nnew:     const X: u8 = 6;\n"
+LAWS = "Rattle.fixtures_values.specs.contracts.two.U8Wide.TheImpl.Laws"
+BY_LAW = f"not proved; antt refuses `wide_law-value` in `{LAWS}`: help: mend the term at the error above"
+UNFINISHED = f"not proved; antt did not finish `{LAWS}`, for what it cites"
 BY_CALL = "no proof: it calls `fixtures_values::two::one`, which is not proved"
 
 
@@ -64,6 +70,12 @@ class Mutations(Planted):
         self.assertEqual(checks.count("\n"), 1)
         self.assertIn("--only fixtures_values::two::one --only fixtures_values::two::two", checks)
 
+    def test_a_method_is_named_by_its_type(self):
+        self.write(f"{CRATE}/src/two.rt", f"{SOURCE}\nimpl Three {{\n    pub fn three() -> u8 {{\n        5\n    }}\n}}\n")
+        said = f"fn fixtures_values::three::Three::three: {BY_SEARCH}"
+        self.assertEqual(self.tried({"a": "file: src/two.rt\nold:         5\nnew:         6\n"}, said)[0], 0)
+        self.assertIn("--only Three::three", self.read("checks"))
+
     def test_mutations_of_one_cycle_are_tried_apart(self):
         self.write(f"{CRATE}/src/two.rt", SOURCE.replace("pub fn", "#[cycle(both)]\npub fn"))
         said = [f"fn fixtures_values::two::one: {BY_SEARCH}", f"fn fixtures_values::two::two: {BY_SEARCH}"]
@@ -75,6 +87,18 @@ class Mutations(Planted):
                 "antt refuses", "./proofs/Sides.antt:7:1: error: `pairs`: `search`: no proof"]
         self.assertEqual(self.tried({"a": ONE}, *said)[1].splitlines()[0],
                          "fixtures_values: a: refused at its proof, at the lemma pairs")
+
+    def test_a_lemma_that_is_missing_in_a_ruleset_is_tried_alone(self):
+        said = ["fn fixtures_values::two::one: no proof: expected answers in ./proofs/two/one/Answers.antt",
+                f"fn fixtures_values::two::two: {BY_SEARCH}",
+                "./proofs/Sides.antt:7:1: error: `pairs`: as printed, the two sides first differ",
+                "./proofs/Sides.antt:9:1: error: `sides` is not admitted: rejected",
+                "./proofs/two/one/Answers.antt:9:1: error: 1 declaration that depends on `pairs`, which was rejected"]
+        self.assertEqual(self.tried({"a": ONE, "b": TWO}, *said), (
+            0, "fixtures_values: b: refused by returns-clause-is\n"
+               "fixtures_values: a: refused at its proof, at the lemma pairs\n"
+               "2 of 2 mutations are refused: 1 at a proof by hand, 1 by a clause\n2 passed, 0 failed\n"))
+        self.assertEqual(self.read("checks").count("\n"), 2)
 
     def test_a_proof_that_names_what_is_gone_fails(self):
         said = [f"fn fixtures_values::two::two: {BY_HAND}", NO_FIELD]
@@ -119,6 +143,21 @@ class Mutations(Planted):
         self.assertIn("it needs a line `fails: FUNCTION`", self.tried({"a": edit})[1])
         said = f"fn fixtures_values::two::one: {BY_SEARCH}"
         self.assertEqual(self.tried({"a": f"fails: one\n{edit}"}, said)[0], 0)
+
+    def test_an_impl_is_checked_with_the_whole_crate_for_its_laws(self):
+        self.write(f"{CRATE}/src/two.rt", SOURCE + IMPL)
+        said = [f"fn fixtures_values::two::one: {BY_SEARCH}", f"impl fixtures_values::two::U8Wide: {BY_LAW}"]
+        self.assertEqual(self.tried({"a": ONE, "b": WIDER}, *said), (
+            0, "fixtures_values: a: refused by returns-clause-is\n"
+               "fixtures_values: b: refused by the law wide_law\n"
+               "2 of 2 mutations are refused: 1 by a clause, 1 by a law\n2 passed, 0 failed\n"))
+        self.assertEqual([it.count("--only") for it in self.read("checks").splitlines()], [1, 0])
+
+    def test_an_impl_whose_laws_were_not_tried_fails(self):
+        self.write(f"{CRATE}/src/two.rt", SOURCE + IMPL)
+        for said, found in ((UNFINISHED, "only what it calls is refused"), ("no holes", "NOT REFUSED")):
+            status, text = self.tried({"b": WIDER}, f"impl fixtures_values::two::U8Wide: {said}")
+            self.assertEqual((status, text.splitlines()[0]), (1, f"fixtures_values: b: {found}"))
 
     def test_a_crate_without_mutations_is_told(self):
         status, said = self.run_tool("mutations", "tests_types")

@@ -50,7 +50,7 @@ pub record IsBitWidth (p b : ℕ) : Type 0 where
 abbrev pub bit_width : ℕ → ℕ
 bit_width p = p * 3322 / 1000 + 1
 
--- the text of a decimal type, as `decimal(10,-5)`
+-- the text of a decimal type, for example `decimal(10,-5)`
 abbrev pub decimal_text : Decimal → List ℕ
 decimal_text d = codes "decimal(" ++ (decimal d.precision ++ (codes "," ++ (signed_decimal d.scale ++ codes ")")))
 
@@ -60,7 +60,7 @@ pub record Storage : Type 0 where
   pub text : List ℕ
   -- the width of a value in bytes
   pub bytes : ℕ
-  -- the most digits of which it has all values
+  -- the greatest number of decimal digits such that every number with so many digits fits the type
   pub digits : ℕ
 
 -- the table of storage types
@@ -72,7 +72,7 @@ storage I64 = record { number = 3; text = codes "i64"; bytes = 8; digits = 18 }
 storage I128 = record { number = 4; text = codes "i128"; bytes = 16; digits = 38 }
 storage I256 = record { number = 5; text = codes "i256"; bytes = 32; digits = greatest_precision }
 
--- the narrowest storage type that has all values of that many digits
+-- the narrowest storage type that can hold every number of that many digits
 abbrev pub smallest_storage : ℕ → Option DecimalType
 smallest_storage digits = find (λ t. nat_le digits (storage t).digits) (I8 ∷ I16 ∷ I32 ∷ I64 ∷ I128 ∷ I256 ∷ [])
 

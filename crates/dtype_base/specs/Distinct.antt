@@ -1,8 +1,8 @@
 -- SPDX-License-Identifier: Apache-2.0
 -- SPDX-FileCopyrightText: Copyright the Vortex contributors
 
--- Lists without repeats, as the names of a union, its tags and the paths of a cover are. From the documentation of
--- `UnionVariants::try_new` and `StructFields::disjoint_merge`.
+-- Lists without repeated elements. For example, the names of a union, its tags and the paths of a cover are such lists.
+-- From the documentation of `UnionVariants::try_new` and `StructFields::disjoint_merge`.
 use Rattle.std.specs.Prelude.{◌≢◌, List, AllPairs}
 
 -- no item is in the list twice

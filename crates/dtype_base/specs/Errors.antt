@@ -1,8 +1,8 @@
 -- SPDX-License-Identifier: Apache-2.0
 -- SPDX-FileCopyrightText: Copyright the Vortex contributors
 
--- The numbers of the errors, by which the documentation and the tests name them; and what a call promises whose only
--- error is a failed allocation.
+-- The numbers of the errors, which the documentation and the tests cite, and what a call ensures whose only error is
+-- `OutOfMemory`.
 use Rattle.std.specs.Prelude.{◌≡◌, ℕ, Result, MatchResult}
 use Rattle.dtype_base.specs.declared.vortex_error.VortexError.{VortexError}
 use Rattle.dtype_base.specs.declared.vortex_error.VortexError.TheVariants.{OutOfMemory, PrecisionZero, PrecisionTooLarge, ScaleTooLarge, ScaleAbovePrecision, NotDecimal, NotPrimitive, NotDecimalPType, BytesLength, MapKeyNullable, UnionTypesLength, UnionTagsLength, UnionEmpty, UnionTagsRepeat, UnionTooMany, UnionNamesRepeat, FieldNotFound, IndexOutOfBounds, DuplicateNames, WidthOverflow, ExactRoot, AllMask, MetadataRefused, ExtensionIdDiffers, Message}
@@ -53,6 +53,6 @@ number_of MetadataRefused = 22
 number_of ExtensionIdDiffers = 23
 number_of (Message fault) = fault_number fault
 
--- the result is an Ok of which P holds, or an allocation failed: nothing else can go wrong
+-- the result is either `Ok` with a value of which P is true, or the error `OutOfMemory`
 abbrev pub Makes : {T : Type 0} → Result T VortexError → (T → Type 0) → Type 0
 Makes result P = MatchResult result P (λ e. e ≡ OutOfMemory)

@@ -1,8 +1,9 @@
 -- SPDX-License-Identifier: Apache-2.0
 -- SPDX-FileCopyrightText: Copyright the Vortex contributors
 
--- Hashes of names, and the buckets in which an index keeps names by their hashes. A choice of ours: any function of a
--- name would do, since the last comparison of a lookup compares texts.
+-- Hashes of names, and the buckets into which an index puts names by their hashes. The hash is a choice of this
+-- project: lookups would be correct with any function of a name, because the last comparison of a lookup compares
+-- texts.
 use Rattle.std.specs.Prelude.{ℕ, zero, suc, ◌+◌, ◌-◌, ◌*◌, ◌/◌, ◌%◌, ◌^◌, List, length, drop, slice_index}
 use Rattle.dtype_base.specs.BinaryDigits.{binary_digits}
 
@@ -26,18 +27,20 @@ words_hash (suc k) n = mixed (words_hash k n) (big_endian 8 (drop (8 * k) n))
 unfoldable pub hash_of : List ℕ → ℕ
 hash_of n = mixed (words_hash ((length n - 1) / 8) n) (big_endian 8 (drop (length n - 8) n))
 
--- a number without its last bits, this many
+-- the number n with its last `bits` bits set to 0
 abbrev pub without_bits : ℕ → ℕ → ℕ
 without_bits bits n = n - n % 2 ^ bits
 
--- The key of a name: its hash without the last bits, this many. An entry of an index keeps a position in their place.
+-- The key of a name: its hash with the last `bits` bits set to 0. An entry of an index contains a position in these
+-- bits.
 unfoldable pub key_of : ℕ → List ℕ → ℕ
 key_of bits n = without_bits bits (hash_of n)
 
--- the bucket of a key, where so many buckets share all numbers of 64 bits evenly
+-- the bucket of a key if the 64-bit numbers are divided evenly among `count` buckets
 abbrev pub bucket_of_key : ℕ → ℕ → ℕ
 bucket_of_key count key = key * count / 2 ^ 64
 
--- The bucket of a name among so many names: as many buckets as names, and keys without the bits that number the names.
+-- The bucket of the name n in an index of `count` names. The index has `count` buckets, and in its keys as many of the
+-- last bits are 0 as `count` has binary digits.
 abbrev pub bucket_of : ℕ → List ℕ → ℕ
 bucket_of count n = bucket_of_key count (key_of (binary_digits count) n)

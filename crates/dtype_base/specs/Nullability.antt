@@ -11,14 +11,14 @@ abbrev pub nullability_of : Bool → Nullability
 nullability_of true = Nullable
 nullability_of false = NonNullable
 
--- the nullability of `a | b`: non-nullable only where both are
+-- the nullability of `a | b`: non-nullable only if both are
 abbrev pub either : Nullability → Nullability → Nullability
 either NonNullable NonNullable = NonNullable
 either NonNullable Nullable = Nullable
 either Nullable NonNullable = Nullable
 either Nullable Nullable = Nullable
 
--- what the text of a type ends with
+-- the text of a nullability, as `Display` prints it
 abbrev pub nullability_text : Nullability → List ℕ
 nullability_text NonNullable = []
 nullability_text Nullable = codes "?"

@@ -10,10 +10,11 @@ use crate::{PType, VortexError, VortexResult};
 use std::fmt;
 use std::marker::Model;
 
-/// The greatest precision of a decimal type, 76. It is the greatest number of decimal digits such that every number of
-/// so many digits fits a signed 256-bit integer.
+/// The greatest precision of a decimal type, 76. Every number of 76 decimal digits fits a signed 256-bit integer, and
+/// not every number of 77 decimal digits does.
 pub const MAX_PRECISION: u8 = 76;
-/// The greatest scale of a decimal type, 76, because a scale is at most the precision.
+/// The greatest scale of a decimal type, 76. It is equal to the greatest precision, because the scale of a decimal type
+/// is at most its precision.
 pub const MAX_SCALE: i8 = MAX_PRECISION as i8;
 
 const _: () = prove!(MAX_PRECISION == 76 && MAX_SCALE == 76);
@@ -21,10 +22,11 @@ const _: () = prove!(MAX_PRECISION == 76 && MAX_SCALE == 76);
 /// A decimal type, for example `decimal(10,2)`: numbers of at most 10 decimal digits, 2 of them after the decimal
 /// point, such as 12345678.90.
 ///
-/// The precision, from 1 to 76, is the greatest number of decimal digits of a value. The scale, from -128 to 76 and at
-/// most the precision, is how many of those digits are after the decimal point. A negative scale -k means that each
-/// value is a multiple of 10^k: its digits are followed by k zeros before the point. The values of `decimal(3,-2)` are
-/// the multiples of 100 from -99900 to 99900.
+/// The precision is the greatest number of decimal digits of a value. It is from 1 to 76.
+///
+/// The scale is the number of those digits that are after the decimal point. It is from -128 to 76, and at most the
+/// precision. A negative scale -k means that the digits of each value are followed by k zeros, so that each value is a
+/// multiple of 10^k. For example, the values of `decimal(3,-2)` are the multiples of 100 from -99900 to 99900.
 #[derive(Clone, Copy, Debug, PartialEq, Eq, Hash)]
 pub struct DecimalDType {
     precision: u8,
@@ -44,7 +46,7 @@ impl Model for DecimalDType {
 }
 
 impl DecimalDType {
-    /// Returns the decimal type of this precision and scale. Every negative scale, down to -128, is accepted.
+    /// Returns the decimal type with this precision and this scale. Every negative scale, down to -128, is accepted.
     ///
     /// # Errors
     ///
@@ -63,8 +65,9 @@ impl DecimalDType {
         Ok(DecimalDType { precision, scale })
     }
 
-    /// Returns the decimal type of this precision and scale. The caller must prove that they are valid: the precision
-    /// is from 1 to 76, and the scale is at most the precision. `try_new` tests this.
+    /// Returns the decimal type with this precision and this scale. The caller must prove that the precision is from 1
+    /// to 76, and that the scale is at most the precision. A caller that can't prove this calls `try_new`, which tests
+    /// it.
     pub fn new(precision: u8, scale: i8) -> Self
         requires { IsDecimalWithin greatest_precision precision scale }
         ensures { result ≡ record { precision = precision; scale = scale } }
@@ -80,8 +83,8 @@ impl DecimalDType {
         self.precision
     }
 
-    /// Returns the scale, from -128 to 76 and at most the precision: the number of digits after the decimal point. A
-    /// negative scale -k means that each value is a multiple of 10^k.
+    /// Returns the scale: the number of digits after the decimal point. It is from -128 to 76, and at most the
+    /// precision. A negative scale -k means that each value is a multiple of 10^k.
     pub fn scale(&self) -> i8
         ensures value { result ≡ self.now.scale }
         ensures valid { IsValidDecimal self.now }
@@ -89,8 +92,9 @@ impl DecimalDType {
         self.scale
     }
 
-    /// Returns the least number of bits in which every number from 0 to 10^p - 1 fits. Here p is the precision. For
-    /// example, it is 4 for precision 1 (the numbers up to 9), and 253 for precision 76. The sign isn't counted.
+    /// Returns the least number of bits that can hold every unsigned number with as many decimal digits as the
+    /// precision. For example, it returns 4 for a precision of 1, because 9 takes 4 bits, and 253 for a precision of
+    /// 76. A sign bit isn't counted.
     pub fn required_bit_width(&self) -> usize
         ensures { IsBitWidth self.now.precision result }
     {
@@ -117,9 +121,9 @@ impl fmt::Display for DecimalDType {
     }
 }
 
-/// Returns `Ok` if the precision is from 1 to `max` and the scale is at most the precision. For `max` 76 these are the
-/// decimal types that `DecimalDType::try_new` accepts. The caller must prove that `max` is at most 127, the greatest
-/// value of an `i8`.
+/// Returns `Ok(())` if the precision is from 1 to `max` and the scale is at most the precision. If `max` is 76, it
+/// accepts the same precisions and scales as `DecimalDType::try_new`. The caller must prove that `max` is at most 127,
+/// the greatest value of an `i8`.
 ///
 /// # Errors
 ///
@@ -152,11 +156,12 @@ pub fn check_precision_and_scale(precision: u8, scale: i8, max: u8) -> VortexRes
     Ok(())
 }
 
-/// A storage type of decimal values: a signed integer type. A value is stored as the integer of its digits, without the
-/// decimal point. For example, 12.34 of the type `decimal(4,2)` is stored as 1234, for which `I16` is wide enough.
+/// A storage type of decimals: a signed integer type in which their values are stored. A value is stored as the integer
+/// that its digits make without the decimal point. For example, the value 12.34 of the type `decimal(4,2)` is stored as
+/// 1234, which fits `I16`.
 ///
-/// Its number, from 0 for `I8` to 5 for `I256`, is the one that Vortex messages use. Storage types are ordered by it,
-/// narrowest first.
+/// Each storage type has a number, from 0 for `I8` to 5 for `I256`, which is the one that Vortex messages use. Storage
+/// types are ordered by their numbers, so that a narrower type is less than a wider one.
 #[derive(Clone, Copy, Debug, PartialEq, Eq, Hash, PartialOrd, Ord)]
 pub enum DecimalType {
     /// An 8-bit signed integer.
@@ -174,9 +179,13 @@ pub enum DecimalType {
 }
 
 impl DecimalType {
-    /// Returns the narrowest storage type in which all values of the decimal type's precision fit. All values of up to
-    /// 2 digits fit `I8`, of up to 4 digits `I16`, of up to 9 digits `I32`, of up to 18 digits `I64`, of up to 38
-    /// digits `I128`, and of up to 76 digits `I256`.
+    /// Returns the narrowest storage type that can hold every value of the decimal type. It depends on the precision:
+    /// - `I8` for a precision of 1 or 2
+    /// - `I16` for a precision of 3 or 4
+    /// - `I32` for a precision from 5 to 9
+    /// - `I64` for a precision from 10 to 18
+    /// - `I128` for a precision from 19 to 38
+    /// - `I256` for a precision from 39 to 76
     pub fn smallest_decimal_value_type(decimal: &DecimalDType) -> DecimalType
         ensures { smallest_storage decimal.now.precision ≡ Some result }
     {
@@ -204,9 +213,9 @@ impl DecimalType {
         }
     }
 
-    /// Returns whether all values of the decimal type's precision fit this storage type. They do exactly if it is the
-    /// smallest that `smallest_decimal_value_type` returns, or a wider one. For example, `I32` is compatible with
-    /// `decimal(4,2)` and `I8` isn't.
+    /// Returns whether this storage type can hold every value of the decimal type. It can exactly if it is the type
+    /// that `smallest_decimal_value_type` returns, or a wider one. For example, `I16` and `I32` can hold every value of
+    /// `decimal(4,2)`, and `I8` can't.
     pub fn is_compatible_decimal_value_type(self, decimal: DecimalDType) -> bool
         ensures digits { IsTrue result ↔ (decimal.precision ≤ (storage self).digits) }
         ensures number { IsTrue result ↔ IsCompatible self decimal.precision }
@@ -231,7 +240,8 @@ impl fmt::Display for DecimalType {
     }
 }
 
-/// Returns the storage type with the same width as a signed integer type. For example, `i32` converts to `I32`.
+/// Returns the storage type of the same width as this signed integer type. For example, `PType::I32` is converted to
+/// `DecimalType::I32`.
 ///
 /// # Errors
 ///

@@ -15,8 +15,8 @@ use std::hash::{Hash, Hasher};
 use std::marker::Model;
 use std::rc::RcStr;
 
-/// The name of a field: a text, which copies of the name share. In contracts a name is the list of the bytes of its
-/// text, and names are ordered by these bytes.
+/// The name of a field, for example `price`. It contains a reference-counted text, which the copies of the name share.
+/// In contracts a name is the list of the bytes of its text, and names are ordered by these bytes.
 #[derive(Debug, Drop)]
 pub struct FieldName {
     inner: RcStr,
@@ -29,7 +29,7 @@ impl Model for FieldName {
 }
 
 impl FieldName {
-    /// Returns the name with a copy of this text.
+    /// Returns the name with this text. The text is copied.
     ///
     /// # Errors
     ///
@@ -42,14 +42,16 @@ impl FieldName {
         })
     }
 
-    /// Returns the name whose text is this shared text, without a copy. Doesn't allocate.
+    /// Returns the name with this shared text. The text isn't copied.
+    ///
+    /// Doesn't allocate.
     pub fn from_inner(text: RcStr) -> Self
         ensures { result ≡ rc_str_bytes text }
     {
         FieldName { inner: text }
     }
 
-    /// Returns a reference to the shared text.
+    /// Returns a reference to the shared text of the name.
     pub fn inner(&self) -> &RcStr
         ensures { rc_str_bytes result.now ≡ self.now }
     {
@@ -63,14 +65,15 @@ impl FieldName {
         self.inner
     }
 
-    /// Returns the text.
+    /// Returns the text of the name.
     pub fn as_str(&self) -> &str
         ensures { result.now ≡ self.now }
     {
         self.inner.as_str()
     }
 
-    /// Returns a new string with the text, unchanged: without the escapes that `Display` writes.
+    /// Returns a new string with the text of the name. The text is unchanged: the string doesn't contain the escapes
+    /// that `Display` prints.
     ///
     /// # Errors
     ///
@@ -81,17 +84,17 @@ impl FieldName {
         Ok(String::from_str(alloc, self.as_str())?)
     }
 
-    /// Returns whether the text of the name is equal to this text.
+    /// Returns whether the text of the name is equal to `text`.
     pub fn eq_str(&self, text: &str) -> bool
         ensures { IsTrue result ↔ (self.now ≡ text.now) }
     {
         self.as_str() == text
     }
 
-    /// Returns a copy of the name, which shares the text.
+    /// Returns a copy of the name. The name and its copy share one text.
     ///
-    /// The call raises a reference count and doesn't allocate, so `_alloc` isn't used. It is a parameter so that the
-    /// signature can stay the same if a later version has to allocate.
+    /// The call raises the reference count of the text and doesn't allocate. `_alloc` isn't used: it is a parameter so
+    /// that the signature can stay the same if a later version has to allocate.
     ///
     /// # Errors
     ///
@@ -124,7 +127,8 @@ impl Eq for FieldName {
     ghost laws = { nat_list_eq_equiv };
 }
 
-/// Compares two names by the bytes of their texts, from the first byte on.
+/// Compares two names byte by byte, in the order in which Rust compares two `str`. For example, `B` is less than `a`,
+/// and `a` is less than `ab`.
 impl PartialOrd for FieldName {
     ghost use Rattle.std.specs.Ordering.{nat_cmp};
     ghost use Rattle.std.specs.Cmp.Lexicographic.{slice_cmp, texts_po};
@@ -170,11 +174,14 @@ impl Hash for FieldName {
     }
 }
 
-/// Prints the text, with a backslash before each backslash and each double quote, and with each ASCII control character
-/// escaped: tab, newline and carriage return as `\t`, `\n` and `\r`, and the others by two hexadecimal digits, such as
-/// `\x00`. Other characters are printed unchanged. They include characters that some terminals and editors treat as
-/// control characters or as line ends, such as U+0085, U+009B and U+2028. A program that shows names of unknown origin
-/// must escape these itself.
+/// Prints the text of the name. The following characters are escaped:
+/// - A backslash is printed as `\\`, and a double quote as `\"`.
+/// - A tab is printed as `\t`, a newline as `\n`, and a carriage return as `\r`.
+/// - Every other ASCII control character is printed as `\x` and two hexadecimal digits, for example `\x00`.
+///
+/// All other characters are printed unchanged. They include characters that some terminals and editors treat as control
+/// characters or as line ends, such as U+0085, U+009B and U+2028. A program that shows names of unknown origin must
+/// escape these characters itself.
 impl fmt::Display for FieldName {
     ghost output = { λ n. Some (escaped n) };
 

@@ -15,8 +15,8 @@ use std::hash::{Hash, Hasher};
 use std::marker::Model;
 use std::ops::Index;
 
-/// A list of names, in which a name may occur more than once. In contracts it is the list of the names, and each name
-/// is the list of its bytes.
+/// A list of field names, for example `["a", "b"]`. A name may occur more than once. In contracts it is a list of
+/// names, and each name is the list of its bytes.
 #[derive(Debug, Drop)]
 pub struct FieldNames {
     items: Vec<FieldName>,
@@ -29,7 +29,9 @@ impl Model for FieldNames {
 }
 
 impl FieldNames {
-    /// Returns the empty list. Doesn't allocate.
+    /// Returns the empty list.
+    ///
+    /// Doesn't allocate.
     pub fn empty(alloc: Global) -> Self
         ensures { result ≡ [] }
     {
@@ -38,14 +40,16 @@ impl FieldNames {
         }
     }
 
-    /// Returns the list of these names, in order. Doesn't allocate.
+    /// Returns the list of these names, in the same order.
+    ///
+    /// Doesn't allocate.
     pub fn from_vec(names: Vec<FieldName>) -> Self
         ensures { result ≡ names.items }
     {
         FieldNames { items: names }
     }
 
-    /// Returns the list of names with these texts, in order.
+    /// Returns the list of the names with these texts, in the same order. The texts are copied.
     ///
     /// # Errors
     ///
@@ -84,14 +88,14 @@ impl FieldNames {
         self.items.len()
     }
 
-    /// Returns whether there are no names.
+    /// Returns whether the list is empty.
     pub fn is_empty(&self) -> bool
         ensures { IsTrue result ↔ (self.now ≡ []) }
     {
         self.items.is_empty()
     }
 
-    /// Returns the name at this position, or `None` if the position isn't below the number of names.
+    /// Returns the name at this position, counted from 0, or `None` if the position isn't below the number of names.
     pub fn get(&self, index: usize) -> Option<&FieldName>
         ensures { option_copied result ≡ slice_get self.now index }
     {
@@ -112,7 +116,7 @@ impl FieldNames {
         FieldNamesIntoIter::new(self.items)
     }
 
-    /// Returns whether the list has exactly these texts as its names, in this order.
+    /// Returns whether the texts of the names are exactly these texts, in this order.
     pub fn eq_texts(&self, texts: &[&str]) -> bool
         ensures { IsTrue result ↔ (self.now ≡ map (λ t. t.now) texts.now) }
     {
@@ -128,16 +132,17 @@ impl FieldNames {
         true
     }
 
-    /// Returns the first position of the name, or `None` if the name isn't in the list. It compares one name after
-    /// another. `IndexedNames::find_counted` compares at most 1 plus as many names as the length of the list has binary
-    /// digits, for example at most 11 names if the list contains 1000.
+    /// Returns the first position of the name, counted from 0, or `None` if the name isn't in the list.
+    ///
+    /// The call compares the names of the list with `name` one after another, until one is equal. For lookups in a long
+    /// list, use `IndexedNames`. Its `find_counted` compares at most 11 names in a list of 1000, for example.
     pub fn find(&self, name: &str) -> Option<usize>
         ensures { result ≡ first_place self.now name.now }
     {
         self.items.iter().position(|item| item.eq_str(name))
     }
 
-    /// Returns the names as a slice.
+    /// Returns the names as a slice, in order.
     pub fn as_slice(&self) -> &[FieldName]
         ensures { result.now ≡ self.now }
     {
@@ -200,7 +205,8 @@ impl Hash for FieldNames {
     }
 }
 
-/// Returns the name at a position. The caller must prove that the position is below the number of names.
+/// Returns the name at a position, counted from 0. The caller must prove that the position is below the number of
+/// names.
 impl Index<usize> for FieldNames {
     type Output = FieldName;
 
@@ -237,7 +243,7 @@ impl<'a> IntoIterator for &'a FieldNames {
     }
 }
 
-/// Collects the names that an iterator yields into a list, in order.
+/// Returns the list of the names that an iterator yields, in order.
 impl FromIterator<FieldName> for FieldNames {
     type Alloc = Global;
 
@@ -251,7 +257,8 @@ impl FromIterator<FieldName> for FieldNames {
     }
 }
 
-/// Prints the names in brackets, each escaped and in double quotes, for example `["a", "b"]`.
+/// Prints the names in brackets and separated by commas, for example `["a", "b"]`. Each name is in double quotes, and
+/// is escaped as by its own `Display`.
 impl fmt::Display for FieldNames {
     ghost use Rattle.dtype_base.specs.FieldNames.{names_text};
 

@@ -10,7 +10,8 @@ use std::iter::FusedIterator;
 use std::marker::Model;
 use std::vec;
 
-/// An iterator over the names of a consumed list, in order. In contracts it is the list of the names that are left.
+/// An iterator over the names of a consumed list, in order. In contracts it is the list of the names that it hasn't
+/// yielded yet.
 #[derive(Debug, Drop)]
 pub struct FieldNamesIntoIter {
     inner: vec::IntoIter<FieldName>,

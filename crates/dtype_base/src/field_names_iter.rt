@@ -10,8 +10,8 @@ use std::iter::FusedIterator;
 use std::marker::Model;
 use std::slice;
 
-/// An iterator over references to the names of a list, in order. In contracts it is the list of the names that are
-/// left.
+/// An iterator over references to the names of a list, in order. In contracts it is the list of the names that it
+/// hasn't yielded yet.
 #[derive(Debug, Drop)]
 pub struct FieldNamesIter<'a> {
     inner: slice::Iter<'a, FieldName>,

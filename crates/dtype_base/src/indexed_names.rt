@@ -18,8 +18,8 @@ use crate::{FieldName, FieldNames, VortexError, VortexResult};
 use std::alloc::Global;
 use std::marker::Model;
 
-/// A list of names with an index, so that a lookup compares only a few of them. In contracts it is the list of names,
-/// in which a name may occur more than once.
+/// A list of names with an index. Because of the index, a lookup compares only a few of the names, for example at most
+/// 11 of 1000. A name may occur more than once. In contracts the value is the list of its names.
 #[derive(Debug, Drop)]
 pub struct IndexedNames {
     index: NameIndex,
@@ -40,7 +40,7 @@ impl Model for IndexedNames {
 }
 
 impl IndexedNames {
-    /// Returns these names with an index of them. A name may occur more than once.
+    /// Returns the list of these names, in the same order, with a new index. A name may occur more than once.
     ///
     /// # Errors
     ///
@@ -59,14 +59,22 @@ impl IndexedNames {
         &self.names
     }
 
-    /// Returns the first position of the name, or `None` if it isn't in the list, and the number of names that were
-    /// compared.
+    /// Returns two values: the first position of `name`, or `None` if `name` isn't in the list, and the number of names
+    /// that the lookup compared with `name`.
     ///
-    /// That number is the same for every name, whether it is in the list or not. It is 0 if the list is empty.
-    /// Otherwise there are as many buckets as names, each name is in the bucket of its hash, and the number is that of
-    /// a binary search among as many names as the longest bucket contains: 1 comparison if it contains one name, 2 for
-    /// two names, 3 for three or four names, and 4 for five to eight names. So it is at most 1 plus the number of
-    /// binary digits of the length of the list, even if all names are in one bucket. Doesn't allocate.
+    /// The index distributes the names by their hashes among as many buckets as there are names. The lookup makes a
+    /// binary search among as many names as the longest bucket contains, and the names in the bucket of `name` are
+    /// among them. So the number of compared names is the same for every `name`, whether it is in the list or not:
+    /// - 0 names if the list is empty
+    /// - 1 name if the longest bucket contains one name
+    /// - 2 names if the longest bucket contains two names
+    /// - 3 names if the longest bucket contains three or four names
+    /// - 4 names if the longest bucket contains five to eight names
+    ///
+    /// The number is at most 1 plus the number of binary digits of the length of the list, even if all names are in one
+    /// bucket. For example, it is at most 11 in a list of 1000 names, because 1000 has 10 binary digits.
+    ///
+    /// Doesn't allocate.
     #[tactic(auto, using(crate::proofs::lemmas::Lookups::most_compared, crate::proofs::lemmas::Lookups::found_compared))]
     pub fn find_counted(&self, name: &str) -> (Option<usize>, u64)
         ensures first { result.0 ≡ first_place self.now name.now }
@@ -78,16 +86,16 @@ impl IndexedNames {
         search(names, compared, &self.index, name)
     }
 
-    /// Returns the names in `asked`, in that order and with an index of their own, together with the first position of
-    /// each in this list. A name may occur more than once in `asked`. For example, selecting `b`, `a`, `b` from `a`,
-    /// `b` returns the names `b`, `a`, `b` and the positions 1, 0, 1. The returned names share their texts with the
-    /// originals.
+    /// Returns two lists: the names in `asked`, in the same order and with an index of their own, and for each of these
+    /// names its first position in `self`. A name may occur more than once in `asked`. For example, if `self` is
+    /// `["a", "b"]` and `asked` is `["b", "a", "b"]`, then the call returns the names `["b", "a", "b"]` and the
+    /// positions `[1, 0, 1]`. The returned names share their texts with the names in `asked`.
     ///
     /// # Errors
     ///
-    /// - `FieldNotFound` (16): a name in `asked` isn't in this list. The error contains the position, in `asked`, of
-    ///   the first such name.
-    /// - `OutOfMemory` (0): an allocation fails.
+    /// - `FieldNotFound` (16): a name in `asked` isn't in `self`. The error contains the position in `asked` of the
+    ///   first such name.
+    /// - `OutOfMemory` (0): an allocation fails, or the reference count of a text is at its maximum.
     pub fn select(&self, alloc: Global, asked: &[FieldName]) -> VortexResult<(Self, Vec<usize>)>
         ensures { MatchResult result
             (λ s. (s.0 ≡ asked.now) × (map Some s.1.items ≡ map (first_place self.now) asked.now))
@@ -99,8 +107,9 @@ impl IndexedNames {
         Ok((IndexedNames { names, index }, first_positions))
     }
 
-    /// Returns a copy of the names and of their index, which isn't built again. The copied names share their texts with
-    /// the originals.
+    /// Returns a copy of the list. The copied names share their texts with the originals.
+    ///
+    /// The call copies the index, and doesn't build it again.
     ///
     /// # Errors
     ///
@@ -119,7 +128,9 @@ impl IndexedNames {
         Ok(IndexedNames { names, index })
     }
 
-    /// Returns whether no name occurs more than once. Doesn't allocate.
+    /// Returns whether all names are different, which means that no name occurs more than once.
+    ///
+    /// Doesn't allocate.
     pub fn are_distinct(&self) -> bool
         ensures { IsTrue result ↔ Distinct self.now }
     {

@@ -23,9 +23,9 @@ use crate::{
     MessageFault, Nullability, PType, RESERVED_VALIDITY_FIELD_NAME, VortexError,
 };
 
-/// For all primitive types `p` and `q`, `cmp` orders `p` and `q` in the same way as their numbers. For example, `u8`
-/// (number 0) is less than `i8` (number 4), and `i64` (number 7) is less than `f16` (number 8). With this law a caller
-/// can sort primitive types and know the order that results.
+/// For all primitive types `p` and `q`, `cmp` orders `p` and `q` in the same way as it orders their numbers. For
+/// example, `u8` (number 0) is less than `i8` (number 4), and `i64` (number 7) is less than `f16` (number 8). With this
+/// law a caller can sort primitive types and know the resulting order.
 ///
 /// About [`PType`].
 pub fn primitive_names_are_ordered_by_number()
@@ -33,9 +33,9 @@ pub fn primitive_names_are_ordered_by_number()
         ≡ nat_cmp (ptype_row p).number (ptype_row q).number }
 {}
 
-/// For all storage types `s` and `t`, `cmp` orders `s` and `t` in the same way as their numbers, so a narrower storage
-/// type is less than a wider one. For example, `i64` (number 3) is less than `i128` (number 4). A caller needs this law
-/// to conclude from `s <= t` that `t` is at least as wide as `s`.
+/// For all storage types `s` and `t` of decimals, `cmp` orders `s` and `t` in the same way as it orders their numbers.
+/// So a narrower storage type is less than a wider one. For example, `i64` (number 3) is less than `i128` (number 4). A
+/// caller needs this law to conclude from `s <= t` that `t` is at least as wide as `s`.
 ///
 /// About [`DecimalType`].
 pub fn storage_types_are_ordered_by_number()
@@ -43,10 +43,10 @@ pub fn storage_types_are_ordered_by_number()
         ≡ nat_cmp (storage s).number (storage t).number }
 {}
 
-/// For all `a` and `b` of one of these types, `a == b` is true exactly if `a` and `b` are the same value: two
-/// nullabilities, two primitive types, two storage types, or two decimals. For example, two decimals are equal exactly
-/// if both their precisions and their scales are. With this law a caller can conclude from a test by `==` that two
-/// values are the same in contracts.
+/// For all `a` and `b` that are two nullabilities, two primitive types, two storage types or two decimal types,
+/// `a == b` is true exactly if `a` and `b` are the same value. For example, two decimal types are equal exactly if they
+/// have the same precision and the same scale. With this law a caller can conclude from a test by `==` that two values
+/// are the same in contracts.
 ///
 /// About [`Nullability`], [`PType`], [`DecimalType`] and [`DecimalDType`].
 pub fn equal_where_the_same()
@@ -60,9 +60,10 @@ pub fn equal_where_the_same()
         → Decides (⟦<DecimalDType as PartialEq>⟧.eq a b) (a ≡ b) }
 {}
 
-/// For all `a` and `b` of one of these types, if `b` is what `clone` returns for `a`, then `b` is the same value as
-/// `a`. For example, a clone of `decimal(10,2)` is `decimal(10,2)`. A caller needs this law to conclude that what it
-/// has proved of a value is so of the clone too.
+/// For all `a` and `b` that are two nullabilities, two primitive types, two storage types or two decimal types: if
+/// `a.clone()` returns `b`, then `b` is the same value as `a`. For example, a clone of `decimal(10,2)` is
+/// `decimal(10,2)`. A caller needs this law to conclude that what it has proved about a value is also true of its
+/// clone.
 ///
 /// About [`Nullability`], [`PType`], [`DecimalType`] and [`DecimalDType`].
 pub fn clones_are_the_same()
@@ -76,10 +77,10 @@ pub fn clones_are_the_same()
         → ⟦<DecimalDType as Clone>⟧.is_clone a b → b ≡ a }
 {}
 
-/// For all `a` and `b`, two names with the bytes `a` and `b` are equal by `==` exactly if `a` and `b` are the same
-/// bytes, and two lists of names are equal exactly if they contain the same names in the same order. For example,
-/// `["x", "y"]` isn't equal to `["y", "x"]`. With this law a caller can conclude from a test by `==` that two names or
-/// two lists are the same in contracts.
+/// For all names `a` and `b`, `a == b` is true exactly if their texts have the same bytes. For all lists of names `a`
+/// and `b`, `a == b` is true exactly if they contain the same names in the same order. For example, `["x", "y"]` isn't
+/// equal to `["y", "x"]`. With this law a caller can conclude from a test by `==` that two names or two lists of names
+/// are the same in contracts.
 ///
 /// About [`FieldName`] and [`FieldNames`].
 pub fn names_are_equal_where_their_bytes_are()
@@ -87,10 +88,10 @@ pub fn names_are_equal_where_their_bytes_are()
     ensures lists { (a b : List (List ℕ)) → Decides (⟦<FieldNames as PartialEq>⟧.eq a b) (a ≡ b) }
 {}
 
-/// For all errors `a` and `b`, `a == b` is true exactly if `a` and `b` are the same variant with the same values. The
-/// same is so of two message faults. For example, `FieldNotFound { position: 0 }` isn't equal to
-/// `FieldNotFound { position: 1 }`. With this law a caller can test which error a call returned, and conclude what the
-/// contract of the call says about that error.
+/// For all `a` and `b` that are two errors or two message faults, `a == b` is true exactly if `a` and `b` are the same
+/// variant with the same values. For example, `FieldNotFound { position: 0 }` isn't equal to
+/// `FieldNotFound { position: 1 }`. With this law a caller can test by `==` which error a call returned, and then use
+/// what the contract of the call specifies for that error.
 ///
 /// About [`VortexError`] and [`MessageFault`].
 pub fn errors_are_equal_where_the_same()
@@ -99,9 +100,10 @@ pub fn errors_are_equal_where_the_same()
         → Decides (⟦<MessageFault as PartialEq>⟧.eq a b) (a ≡ b) }
 {}
 
-/// For each slice `bytes` of `u8`, the list of numbers that stands for it in contracts is a list of bytes (`Bytes`):
-/// each number is below 256. For example, the slice of the text `a` is the list of the one number 97. A caller calls
-/// this law when a definition requires bytes, for example for the metadata of a valid extension type.
+/// For each slice `bytes` of `u8`, the list of numbers that stands for the slice in contracts is a list of bytes
+/// (`Bytes`), which means that each number is below 256. For example, the bytes of the text `a` are the list with the
+/// single number 97. A caller calls this law if a definition requires `Bytes`. For example, `Valid` requires it of the
+/// metadata of an extension type.
 ///
 /// About [`FieldName::as_str`].
 pub fn slices_hold_bytes(bytes: &[u8])
@@ -110,9 +112,10 @@ pub fn slices_hold_bytes(bytes: &[u8])
     let _ = bytes;
 }
 
-/// Both iterators over names yield them in order: `next` returns the first of the names that are left, and `None` once
-/// all have been returned. Before the first `None` they yield as many names as `len` returned. For example, an iterator
-/// over `["x", "y"]` returns `x`, then `y`, then `None`. A caller needs this to know which names a `for` loop visits.
+/// For each iterator over names whose remaining names are the list `left`, the calls of `next` return the names in
+/// `left`, in order, and then `None`. This is so for both iterators, the one over references and the one over the names
+/// themselves. For example, the calls of `next` on an iterator over `["x", "y"]` return `x`, then `y`, then `None`. A
+/// caller needs this law to know which names a `for` loop visits, and that the loop ends.
 ///
 /// About [`FieldNames::iter`] and [`FieldNames::into_iter`].
 pub fn names_are_given_in_order()
@@ -124,10 +127,10 @@ pub fn names_are_given_in_order()
         → UpTo (⟦<FieldNamesIntoIter as Iterator>⟧.remaining left) (length left) }
 {}
 
-/// For all lists `names`, names `name` and positions `i`, `first_place names name` is `Some i` exactly if `i` is the
-/// first position of `name` in `names`, and `None` exactly if `name` isn't in `names`. For example, the first position
-/// of `a` in `["b", "a", "a"]` is 1. Every lookup by name returns `first_place`, so this law says what each of them
-/// returns.
+/// For each list `names`, each name `name` and each position `i`, `first_place names name` is `Some i` exactly if `i`
+/// is the first position of `name` in `names`. It is `None` exactly if `name` isn't in `names`. For example, the first
+/// position of `a` in `["b", "a", "a"]` is 1. The contracts of the lookups by name specify their results by
+/// `first_place`, so a caller needs this law to know what a lookup returns.
 ///
 /// About [`FieldNames::find`] and [`IndexedNames::find_counted`].
 pub fn lookups_give_the_first_position()
@@ -137,7 +140,7 @@ pub fn lookups_give_the_first_position()
         → (first_place names name ≡ None) ↔ IsAbsent names name }
 {}
 
-/// For each nullability `n`, if `n` is what `Nullability::default` returns, then `n` is `NonNullable`. For example,
+/// For each nullability `n`, if `Nullability::default()` returns `n`, then `n` is `NonNullable`. For example,
 /// `DType::Bool(Nullability::default())` is `bool` and not `bool?`. A caller needs this law to know the nullability of
 /// a type that is made with the default.
 ///
@@ -146,8 +149,8 @@ pub fn default_nullability_is_non_nullable()
     ensures { (n : Nullability) → ⟦<Nullability as Default>⟧.is_default n → n ≡ NonNullable }
 {}
 
-/// The constant `RESERVED_VALIDITY_FIELD_NAME` is the text `$__vortex_validity`. With this law a caller that compares a
-/// name with the constant can conclude which bytes the name has.
+/// The constant `RESERVED_VALIDITY_FIELD_NAME` is the text `$__vortex_validity`. For example, if a caller has tested
+/// that a name is equal to the constant, it can conclude by this law which bytes the name has.
 ///
 /// About [`RESERVED_VALIDITY_FIELD_NAME`].
 pub fn reserved_field_name_is_its_text()

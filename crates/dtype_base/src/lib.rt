@@ -1,11 +1,14 @@
 // SPDX-License-Identifier: Apache-2.0
 // SPDX-FileCopyrightText: Copyright the Vortex contributors
 
-//! Errors, nullability, primitive types, decimals and field names: the parts of which every Vortex type is made.
+//! The basic types on which the other crates build: errors, nullability, primitive types, decimal types and field
+//! names.
 //!
-//! The contracts specify the following. A name is a text, and a list of names is a list of texts. The properties of
-//! primitive types and of decimals are those of two tables. Each lookup of a name returns its first position. Each
-//! error is returned in exactly the cases that its call documents.
+//! The contracts specify the following:
+//! - A name is a text, and a list of names is a list of texts.
+//! - The properties of primitive types and of decimal types, such as their widths, are those in two tables.
+//! - A lookup of a name returns its first position.
+//! - A call returns an error other than `OutOfMemory` only in the cases that its documentation lists.
 //!
 //! Begin with `VortexError` (all errors of the workspace), then read `Nullability`, `PType`, `DecimalDType`,
 //! `DecimalType`, `FieldName`, `FieldNames` and `IndexedNames`.
@@ -16,9 +19,10 @@
 //! - `Primitives` and `Decimals`: the two tables.
 //! - `Bytes`: which lists of numbers are bytes.
 //! - `FieldNames`: `first_place`, the first position of a name.
-//! - `MadeFrom`: what a call makes of all the items that an iterator yields.
+//! - `MadeFrom`: what a call such as `FieldNames::from_iter` makes of the items that an iterator yields.
 //! - `Distinct`: whether a list has no repeated element.
-//! - `Comparisons`, `NameHashes` and `BinaryDigits`: with how many names a lookup compares the name that it looks for.
+//! - `Comparisons`, `NameHashes` and `BinaryDigits`: how many names a lookup in an index compares with the name that it
+//!   looks for.
 //! - `Escapes`: how a name is printed.
 //!
 //! `specs/private/` contains the definitions about the index of names. No other crate cites them. `laws` states the
@@ -50,6 +54,6 @@ pub use nullability::Nullability;
 pub use ptype::PType;
 pub use vortex_error::{MessageFault, VortexError, VortexResult};
 
-/// The field name that Vortex reserves for the field that says which values of a struct are null. This library doesn't
-/// treat it differently from other names.
+/// The field name `$__vortex_validity`, which Vortex reserves for the field that records which values of a struct are
+/// null. This library doesn't treat it differently from other names.
 pub const RESERVED_VALIDITY_FIELD_NAME: &str = "$__vortex_validity";

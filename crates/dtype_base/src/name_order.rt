@@ -16,7 +16,7 @@ use crate::{FieldName, VortexResult};
 use std::alloc::Global;
 use std::cmp::Ordering;
 
-/// By what the entries of an index are distinguished: by the keys alone if they are all different, and otherwise by the
+/// What distinguishes the entries of an index: their keys alone if these are all different, and otherwise also the
 /// texts of the names.
 #[derive(Clone, Copy, Debug)]
 pub(crate) enum Discriminator {

@@ -6,13 +6,13 @@ ghost use Rattle.std.specs.Prelude.{◌≡◌, ◌↔◌, IsTrue, Some, true, fa
 use std::fmt;
 use std::ops::{BitOr, BitOrAssign};
 
-/// Whether a value of a type may be null.
+/// Whether values of a type may be null. For example, the type `i32?` is nullable, and the type `i32` isn't.
 #[derive(Clone, Copy, Debug, Default, PartialEq, Eq, Hash)]
 pub enum Nullability {
-    /// No value is null.
+    /// No value of the type is null.
     #[default]
     NonNullable,
-    /// A value may be null.
+    /// A value of the type may be null.
     Nullable,
 }
 
@@ -40,7 +40,7 @@ impl Nullability {
     }
 }
 
-/// Returns `NonNullable` if both are, and otherwise `Nullable`.
+/// Returns `NonNullable` if both operands are `NonNullable`, and otherwise `Nullable`.
 impl BitOr for Nullability {
     ghost use Rattle.dtype_base.specs.Nullability.{either};
 
@@ -92,8 +92,8 @@ impl From<Nullability> for bool {
     }
 }
 
-/// Prints `?` for `Nullable`, and nothing for `NonNullable`. The text of a type ends with it: `i32?` is nullable, and
-/// `i32` isn't.
+/// Prints `?` for `Nullable`, and nothing for `NonNullable`. For example, the text of a nullable `i32` is `i32?`, and
+/// the text of a non-nullable one is `i32`.
 impl fmt::Display for Nullability {
     ghost use Rattle.dtype_base.specs.Nullability.{nullability_text};
 

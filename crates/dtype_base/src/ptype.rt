@@ -5,8 +5,11 @@ ghost use Rattle.std.specs.Prelude.{◌≡◌, ◌↔◌, ◌*◌, IsTrue, Some}
 
 use std::fmt;
 
-/// A primitive type: an integer type or a floating-point type of a fixed width. Its number, from 0 for `U8` to 10 for
-/// `F64`, is the one that Vortex messages use. Primitive types are ordered by it.
+/// A primitive type: an integer type or a floating-point type of a fixed width. For example, `I32` is the type of
+/// 32-bit signed integers.
+///
+/// Each primitive type has a number, from 0 for `U8` to 10 for `F64`, which is the one that Vortex messages use.
+/// Primitive types are ordered by their numbers.
 #[derive(Clone, Copy, Debug, PartialEq, Eq, Hash, PartialOrd, Ord)]
 pub enum PType {
     /// An 8-bit unsigned integer.
@@ -86,8 +89,8 @@ impl PType {
         8 * self.byte_width()
     }
 
-    /// Returns the greatest value of the type as a `u64`. For `f16` it is 65504. For `f32` and `f64`, whose greatest
-    /// values are above `u64::MAX`, it is `u64::MAX`.
+    /// Returns the greatest finite value of the type as a `u64`, or `u64::MAX` if that value is above `u64::MAX`. For
+    /// example, it returns 127 for `i8`, 65504 for `f16`, and `u64::MAX` for `f32` and for `f64`.
     pub fn max_value_as_u64(&self) -> u64
         ensures { result ≡ (ptype_row self.now).greatest }
     {
@@ -105,7 +108,8 @@ impl PType {
         }
     }
 
-    /// Returns the signed integer type of the same width. A floating-point type is returned unchanged.
+    /// Returns the signed integer type of the same width, for example `i32` for `u32`. A floating-point type is
+    /// returned unchanged.
     pub fn to_signed(self) -> PType
         ensures { result ≡ (ptype_row self).signed }
     {
@@ -119,7 +123,8 @@ impl PType {
         }
     }
 
-    /// Returns the unsigned integer type of the same width. A floating-point type is returned unchanged.
+    /// Returns the unsigned integer type of the same width, for example `u32` for `i32`. A floating-point type is
+    /// returned unchanged.
     pub fn to_unsigned(self) -> PType
         ensures { result ≡ (ptype_row self).unsigned }
     {
@@ -133,7 +138,8 @@ impl PType {
         }
     }
 
-    /// Returns the narrowest unsigned integer type that the value fits. For 256 it is `u16`.
+    /// Returns the narrowest unsigned integer type that can hold the value. For example, it returns `u8` for 255 and
+    /// `u16` for 256.
     pub fn min_unsigned_ptype_for_value(value: u64) -> PType
         ensures { Some result ≡ narrowest_unsigned value }
     {
@@ -148,7 +154,8 @@ impl PType {
         }
     }
 
-    /// Returns the narrowest signed integer type that the value fits. For -129 it is `i16`.
+    /// Returns the narrowest signed integer type that can hold the value. For example, it returns `i8` for -128 and
+    /// `i16` for -129.
     pub fn min_signed_ptype_for_value(value: i64) -> PType
         ensures { Some result ≡ narrowest_signed value }
     {
@@ -163,8 +170,8 @@ impl PType {
         }
     }
 
-    /// Returns the wider of two unsigned integer types, or `self` if they are equally wide. The caller must prove that
-    /// both are unsigned integer types.
+    /// Returns the wider of `self` and `other`, or `self` if both have the same width. The caller must prove that both
+    /// are unsigned integer types.
     pub fn max_unsigned_ptype(self, other: PType) -> PType
         requires self_kind { IsUnsigned self }
         requires other_kind { IsUnsigned other }
@@ -173,8 +180,8 @@ impl PType {
         self.wider_of(other)
     }
 
-    /// Returns the wider of two signed integer types, or `self` if they are equally wide. The caller must prove that
-    /// both are signed integer types.
+    /// Returns the wider of `self` and `other`, or `self` if both have the same width. The caller must prove that both
+    /// are signed integer types.
     pub fn max_signed_ptype(self, other: PType) -> PType
         requires self_kind { IsSigned self }
         requires other_kind { IsSigned other }

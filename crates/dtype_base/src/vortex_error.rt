@@ -9,11 +9,11 @@ use crate::PType;
 use std::alloc::{AllocError, AllocFailed};
 use thiserror::Error;
 
-/// The result of a call that can fail: its value, or a `VortexError`.
+/// The result of a call that can fail: the value that the call returns if it succeeds, or a `VortexError`.
 pub type VortexResult<T> = Result<T, VortexError>;
 
-/// An error of this workspace. Each variant has a number from 0 to 36, which `number` returns and which the
-/// documentation cites, and carries the values that its text shows. For example,
+/// An error of this workspace. Each error has a number from 0 to 36, which the documentation cites and which `number`
+/// returns. An error contains the values that its text shows. For example, the error
 /// `IndexOutOfBounds { index: 9, fields: 2 }` has the number 17 and prints
 /// `index 9 out of bounds for struct with 2 fields`.
 #[derive(Debug, Drop, PartialEq, Eq, Error)]
@@ -33,16 +33,16 @@ pub enum VortexError {
     /// 4: the scale of a decimal is above its precision.
     #[error("decimal scale {scale} is greater than precision {precision}")]
     ScaleAbovePrecision { scale: i8, precision: u8 },
-    /// 5: the type isn't a decimal.
+    /// 5: the type isn't a decimal type.
     #[error("Cannot convert DType into DecimalType")]
     NotDecimal,
     /// 6: the type isn't a primitive type.
     #[error("Cannot convert DType into PType")]
     NotPrimitive,
-    /// 7: the primitive type can't store decimals: it isn't `i8`, `i16`, `i32` or `i64`.
+    /// 7: the primitive type isn't a storage type of decimals, because it isn't `i8`, `i16`, `i32` or `i64`.
     #[error("cannot convert ptype {ptype} to DecimalType")]
     NotDecimalPType { ptype: PType },
-    /// 8: the number of bytes isn't the width of the integer to be read.
+    /// 8: the number of bytes isn't the width in bytes of the integer that is read from them.
     #[error("bytes have another length")]
     BytesLength,
     /// 9: the key type of a map is nullable.
@@ -66,36 +66,37 @@ pub enum VortexError {
     /// 15: two variants of a union have the same name.
     #[error("union variant names must be distinct")]
     UnionNamesRepeat,
-    /// 16: no field has a name that was selected. `position` is the position of that name among those selected, from 0.
+    /// 16: a selected name isn't the name of a field. `position` is its place in the selection, counted from 0.
     #[error("field {position} of the projection not found")]
     FieldNotFound { position: usize },
     /// 17: the index of a field isn't below the number of fields.
     #[error("index {index} out of bounds for struct with {fields} fields")]
     IndexOutOfBounds { index: usize, fields: usize },
-    /// 18: two structs can't be merged, because a name occurs twice in the two together.
+    /// 18: two structs can't be merged, because a name occurs in both of them, or twice in one of them.
     #[error("Can't merge struct fields with duplicate names")]
     DuplicateNames,
     /// 19: the width of a value in bytes is above `usize::MAX`.
     #[error("element size is bigger than usize")]
     WidthOverflow,
-    /// 20: a mask that selects the root alone can't be stepped into.
+    /// 20: a field mask that selects only the root can't be stepped into.
     #[error("Cannot step into exact root field path")]
     ExactRoot,
-    /// 21: the mask of all paths has no first field.
+    /// 21: the field mask that selects all paths has no starting field.
     #[error("Cannot get starting field from All mask")]
     AllMask,
     /// 22: the plugin or vtable of an extension type doesn't accept the metadata or the storage type.
     #[error("extension metadata or storage refused")]
     MetadataRefused,
-    /// 23: an extension can't be downcast by a vtable that has another id.
+    /// 23: an extension type can't be downcast with a vtable whose id isn't the id of the extension type.
     #[error("extension id differs")]
     ExtensionIdDiffers,
-    /// 24 to 36: a message doesn't describe a type or a path.
+    /// 24 to 36: a protobuf message doesn't describe a type or a path. The `MessageFault` tells what is wrong.
     #[error("{0}")]
     Message(MessageFault),
 }
 
-/// What is wrong with a message. The numbers, 24 to 36, are in the order of the variants.
+/// What is wrong with the protobuf message of a type or of a path. For example, `ListElementMissing` (28) means that
+/// the message of a list has no element type. The numbers of the variants are 24 to 36, in their order.
 #[derive(Debug, Drop, PartialEq, Eq, Error)]
 pub enum MessageFault {
     /// 24: the message of a type has no kind.
@@ -197,7 +198,7 @@ impl VortexError {
     }
 }
 
-/// Converts a failed allocation to `OutOfMemory`.
+/// Returns `OutOfMemory` (0) for a failed allocation.
 impl From<AllocError> for VortexError {
     ghost from_gives = { λ _ e. e ≡ OutOfMemory };
 
@@ -206,7 +207,7 @@ impl From<AllocError> for VortexError {
     }
 }
 
-/// Converts a failed allocation to `OutOfMemory`.
+/// Returns `OutOfMemory` (0) for a failed allocation.
 impl<T: Drop> From<AllocFailed<T>> for VortexError {
     ghost from_gives = { λ _ e. e ≡ OutOfMemory };
 

@@ -1,8 +1,8 @@
 // SPDX-License-Identifier: Apache-2.0
 // SPDX-FileCopyrightText: Copyright the Vortex contributors
 
-//! The laws of the derived `==` on messages, which say when two messages are equal. Each function's contract is the
-//! law, and its body is empty.
+//! The laws of `==` on messages, which state when two messages are equal. Each law is the contract of a function whose
+//! body is empty.
 #![tactic(auto, using(crate::proofs::lemmas::Equality::equality))]
 
 ghost use Rattle.std.specs.Prelude.{◌≡◌};
@@ -15,10 +15,11 @@ use crate::pb::{
     List, Map, Null, PType, Primitive, Struct, Union, Utf8, Variant,
 };
 
-/// For all messages `a` and `b` of types, `a == b` is true exactly if `a` and `b` have the same tree. The same is so of
-/// all kinds `a` and `b`. For example, the messages of `list(i32)` and `list(i32?)` aren't equal. Contracts cite the
-/// tree of a message, so with this law a caller can conclude from a test by `==` that two messages are read as the same
-/// type.
+/// For all `a` and `b` that are two messages of types (`pb::DType`) or two kinds (`pb::DtypeType`), `a == b` is true
+/// exactly if `a` and `b` have the same tree. The tree of a message consists of its kind, its fields and the trees of
+/// the messages inside it. For example, the messages of `list(i32)` and `list(i32?)` aren't equal, because the trees of
+/// their element types differ. Contracts specify by the tree how a message is read, so with this law a caller can
+/// conclude from a test by `==` that two messages are read as the same type.
 ///
 /// About [`pb::DType`].
 pub fn equal_where_trees_are()
@@ -27,10 +28,11 @@ pub fn equal_where_trees_are()
         → Decides (⟦<DtypeType as PartialEq>⟧.eq a b) (kind_message a ≡ kind_message b) }
 {}
 
-/// For all messages `a` and `b` of one of the kinds that have children, `a == b` is true exactly if all their fields
-/// are equal, where children are compared by their trees. For example, two list messages are equal exactly if the trees
-/// of their element types and their flags `nullable` are equal. With this law a caller can compare the struct of one
-/// kind without wrapping it in a `pb::DType`.
+/// For all `a` and `b` that are two `pb::List`, two `pb::FixedSizeList`, two `pb::Map`, two `pb::Struct`, two
+/// `pb::Union` or two `pb::Extension`, `a == b` is true exactly if all fields of `a` and `b` are equal. A message
+/// inside a field is compared by its tree. For example, two list messages are equal exactly if the trees of their
+/// element types are equal and their flags `nullable` are equal. With this law a caller can compare two `pb::List`
+/// without putting each into a `pb::DType`.
 ///
 /// About [`pb::DtypeType`], [`pb::List`], [`pb::FixedSizeList`], [`pb::Map`], [`pb::Struct`], [`pb::Union`] and
 /// [`pb::Extension`].
@@ -49,10 +51,10 @@ pub fn equal_where_contents_are()
         → Decides (⟦<Extension as PartialEq>⟧.eq a b) (extension_content a ≡ extension_content b) }
 {}
 
-/// For all messages `a` and `b` of one of the kinds that have no children, and for all numbers of primitive types,
-/// `a == b` is true exactly if `a` and `b` are the same value. For example, two decimal messages are equal exactly if
-/// their precisions, their scales and their flags `nullable` are equal. With this law a caller can conclude from a test
-/// by `==` that two such messages are the same in contracts.
+/// For all `a` and `b` that are two `pb::Null`, two `pb::Bool`, two `pb::Primitive`, two `pb::Decimal`, two `pb::Utf8`,
+/// two `pb::Binary`, two `pb::Variant` or two `pb::PType`, `a == b` is true exactly if `a` and `b` are the same value.
+/// For example, two decimal messages are equal exactly if their precisions, their scales and their flags `nullable` are
+/// equal. With this law a caller can conclude from a test by `==` that two such messages are the same in contracts.
 ///
 /// About [`pb::Null`], [`pb::Bool`], [`pb::Primitive`], [`pb::Decimal`], [`pb::Utf8`], [`pb::Binary`], [`pb::Variant`]
 /// and [`pb::PType`].
@@ -70,9 +72,10 @@ pub fn equal_where_fields_are()
     ensures numbers { (a b : PType) → Decides (⟦<PType as PartialEq>⟧.eq a b) (a ≡ b) }
 {}
 
-/// For all messages `a` and `b` of paths, `a == b` is true exactly if they contain the same names in the same order.
-/// The same is so of two parts and of two names. For example, the messages of the paths `a.b` and `b.a` aren't equal.
-/// With this law a caller can conclude from a test by `==` that two messages are read as the same path.
+/// For all path messages `a` and `b`, `a == b` is true exactly if their parts contain the same names in the same order.
+/// Two parts are equal exactly if they contain the same name, or if neither of them contains a name. For example, the
+/// messages of the paths `a.b` and `b.a` aren't equal. With this law a caller can conclude from a test by `==` that two
+/// messages are read as the same path.
 ///
 /// About [`pb::FieldPath`].
 pub fn paths_equal_where_names_are()

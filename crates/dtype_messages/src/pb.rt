@@ -1,9 +1,12 @@
 // SPDX-License-Identifier: Apache-2.0
 // SPDX-FileCopyrightText: Copyright the Vortex contributors
 
-//! The messages, with the fields of Vortex's protobuf definition. They may contain anything that protobuf allows:
-//! `DTypeProto` and `FieldPathProto` of `vortex_dtype` read them, return an error for those that don't describe a type
-//! or a path, and write them.
+//! The messages, with the fields of Vortex's protobuf definition.
+//!
+//! A message may contain anything that protobuf allows, for example a list without an element type. `DTypeProto` of
+//! `vortex_dtype` reads the message of a type, and `FieldPathProto` reads the message of a path. They return an error
+//! if the message doesn't describe a type or a path. The comments of the fields name the error that is returned if
+//! nothing else is wrong with the message. `DTypeProto` also writes types as messages.
 //
 // In a contract the message of a type is its tree (`message` of `specs/MessageOf`). Each other struct is its fields,
 // with a tree for each child, and a path is the list of the names that its parts contain.
@@ -18,11 +21,12 @@ use dtype_base::VortexResult;
 use std::alloc::Global;
 use std::string::String;
 
-/// The message of a type. Two messages are equal by `==` exactly if all their fields are equal, at every depth.
+/// The message of a type. For example, the message of `bool?` contains the kind `Bool`, and its flag `nullable` is
+/// true. Two messages are equal by `==` exactly if all their fields are equal, at every depth.
 #[derive(Debug, PartialEq, Eq, Drop)]
 #[cycle(message)]
 pub struct DType {
-    /// The kind. Reading a message without a kind returns `TypeMissing` (24).
+    /// The kind of the type, with its fields. Reading a message without a kind returns the error `TypeMissing` (24).
     pub dtype_type: Option<DtypeType>,
 }
 
@@ -59,164 +63,173 @@ pub enum DtypeType {
     Extension(Box<Extension>),
 }
 
-/// The null type. It has no fields.
+/// The message of the null type. It has no fields.
 #[derive(Debug, PartialEq, Eq, Drop)]
 pub struct Null {}
 
-/// Booleans.
+/// The message of a boolean type.
 #[derive(Debug, PartialEq, Eq, Drop)]
 pub struct Bool {
-    /// Whether a value may be null.
+    /// Whether values of the type may be null.
     pub nullable: bool,
 }
 
-/// Integers or floating-point numbers of a primitive type.
+/// The message of a primitive type, whose values are integers or floating-point numbers.
 #[derive(Debug, PartialEq, Eq, Drop)]
 pub struct Primitive {
-    /// The number of a primitive type, from 0 to 10. Reading any other number returns `PrimitiveNumber` (25).
+    /// The number of the primitive type, from 0 to 10. Reading any other number returns the error `PrimitiveNumber`
+    /// (25).
     pub ptype: i32,
-    /// Whether a value may be null.
+    /// Whether values of the type may be null.
     pub nullable: bool,
 }
 
-/// Decimals of a precision and a scale.
+/// The message of a decimal type, with its precision and its scale.
 #[derive(Debug, PartialEq, Eq, Drop)]
 pub struct Decimal {
     /// The precision: the greatest number of decimal digits of a value, from 1 to 76. Reading a message with another
-    /// precision returns an error: `PrecisionZero` (1) for 0, `PrecisionTooLarge` (2) for 77 to 255, and
-    /// `PrecisionRange` (26) above 255.
+    /// precision returns an error:
+    /// - `PrecisionZero` (1) if the precision is 0
+    /// - `PrecisionTooLarge` (2) if it is from 77 to 255
+    /// - `PrecisionRange` (26) if it is above 255
     pub precision: u32,
-    /// The scale: the number of digits after the decimal point, from -128 to 76 and at most the precision. Reading a
-    /// message with a valid precision and another scale returns an error: `ScaleAbovePrecision` (4) for a scale above
-    /// the precision and at most 76, `ScaleTooLarge` (3) for 77 to 127, and `ScaleRange` (27) below -128 or above 127.
+    /// The scale: the number of digits after the decimal point. It is from -128 to 76, and at most the precision. If
+    /// the precision is valid and the scale isn't, reading the message returns an error:
+    /// - `ScaleAbovePrecision` (4) if the scale is above the precision and at most 76
+    /// - `ScaleTooLarge` (3) if it is from 77 to 127
+    /// - `ScaleRange` (27) if it is below -128 or above 127
     pub scale: i32,
-    /// Whether a value may be null.
+    /// Whether values of the type may be null.
     pub nullable: bool,
 }
 
-/// UTF-8 strings.
+/// The message of a type of UTF-8 strings.
 #[derive(Debug, PartialEq, Eq, Drop)]
 pub struct Utf8 {
-    /// Whether a value may be null.
+    /// Whether values of the type may be null.
     pub nullable: bool,
 }
 
-/// Byte strings.
+/// The message of a type of byte strings.
 #[derive(Debug, PartialEq, Eq, Drop)]
 pub struct Binary {
-    /// Whether a value may be null.
+    /// Whether values of the type may be null.
     pub nullable: bool,
 }
 
-/// Lists of any length.
+/// The message of a list type, whose lists have any length.
 #[derive(Debug, PartialEq, Eq, Drop)]
 #[cycle(message)]
 pub struct List {
-    /// The element type. Reading a list without one returns `ListElementMissing` (28).
+    /// The element type. Reading a list without an element type returns the error `ListElementMissing` (28).
     pub element_type: Option<Box<DType>>,
-    /// Whether a value may be null.
+    /// Whether values of the type may be null.
     pub nullable: bool,
 }
 
-/// Lists of a fixed length.
+/// The message of a fixed-size list type, whose lists all have the same length.
 #[derive(Debug, PartialEq, Eq, Drop)]
 #[cycle(message)]
 pub struct FixedSizeList {
-    /// The element type. Reading a list without one returns `FixedElementMissing` (29).
+    /// The element type. Reading a list without an element type returns the error `FixedElementMissing` (29).
     pub element_type: Option<Box<DType>>,
     /// The number of elements of each list.
     pub size: u32,
-    /// Whether a value may be null.
+    /// Whether values of the type may be null.
     pub nullable: bool,
 }
 
-/// Maps: lists of entries, each a key and a value.
+/// The message of a map type. A map is a list of entries, and each entry is a key and a value.
 #[derive(Debug, PartialEq, Eq, Drop)]
 #[cycle(message)]
 pub struct Map {
-    /// The key type. Reading a map without a key type returns `MapKeyMissing` (30), and with a nullable one
-    /// `MapKeyNullable` (9).
+    /// The key type. Reading a map without a key type returns the error `MapKeyMissing` (30). If the key type is
+    /// nullable, the error is `MapKeyNullable` (9).
     pub key_type: Option<Box<DType>>,
-    /// The value type. Reading a map without a value type returns `MapValueMissing` (31).
+    /// The value type. Reading a map without a value type returns the error `MapValueMissing` (31).
     pub value_type: Option<Box<DType>>,
     /// Whether the keys are declared to be sorted. Nothing checks that they are.
     pub keys_sorted: bool,
-    /// Whether a value may be null.
+    /// Whether values of the type may be null.
     pub nullable: bool,
 }
 
-/// Structs: the names of the fields, and at the same positions their types.
+/// Structs: the names of the fields, and at the same positions their types. For example, the field with the name
+/// `names[1]` has the type `dtypes[1]`.
 #[derive(Debug, PartialEq, Eq, Drop)]
 #[cycle(message)]
 pub struct Struct {
     /// The names of the fields, in order.
     pub names: Vec<String>,
-    /// The types of the fields, in order. Reading a message with more or fewer types than names returns `StructLengths`
-    /// (32).
+    /// The types of the fields, in order. Reading a struct with more or fewer types than names returns the error
+    /// `StructLengths` (32).
     pub dtypes: Vec<DType>,
-    /// Whether a value may be null.
+    /// Whether values of the type may be null.
     pub nullable: bool,
 }
 
-/// Unions: the names of the variants, and at the same positions their types and their tags.
+/// Unions: the names of the variants, and at the same positions their types and their tags. For example, the variant
+/// with the name `names[1]` has the type `dtypes[1]` and the tag `type_ids[1]`.
 #[derive(Debug, PartialEq, Eq, Drop)]
 #[cycle(message)]
 pub struct Union {
-    /// The names of the variants, in order. Reading a union without names returns `UnionEmpty` (12), and one in which a
-    /// name occurs twice returns `UnionNamesRepeat` (15).
+    /// The names of the variants, in order. Reading a union without variants returns the error `UnionEmpty` (12). If
+    /// two variants have the same name, the error is `UnionNamesRepeat` (15).
     pub names: Vec<String>,
-    /// The types of the variants, in order. Reading a message with more or fewer types than names returns
+    /// The types of the variants, in order. Reading a union with more or fewer types than names returns the error
     /// `UnionTypesLength` (10).
     pub dtypes: Vec<DType>,
-    /// The tags of the variants, in order. Reading a tag that isn't from 0 to 255 returns `TypeIdRange` (33), more or
-    /// fewer tags than names returns `UnionTagsLength` (11), and a tag that occurs twice returns `UnionTagsRepeat`
-    /// (13).
+    /// The tags of the variants, in order. Reading the union returns an error:
+    /// - `TypeIdRange` (33) if a tag isn't from 0 to 255
+    /// - `UnionTagsLength` (11) if there are more or fewer tags than names
+    /// - `UnionTagsRepeat` (13) if a tag occurs twice
     pub type_ids: Vec<i32>,
-    /// Whether a value may be null.
+    /// Whether values of the type may be null.
     pub nullable: bool,
 }
 
-/// Values that carry their own types.
+/// The message of a variant type, whose values carry their own types.
 #[derive(Debug, PartialEq, Eq, Drop)]
 pub struct Variant {
-    /// Whether a value may be null.
+    /// Whether values of the type may be null.
     pub nullable: bool,
 }
 
-/// Extension types: an id and metadata over a storage type.
+/// The message of an extension type: its id, its storage type, and metadata.
 #[derive(Debug, PartialEq, Eq, Drop)]
 #[cycle(message)]
 pub struct Extension {
-    /// The id. A session finds the plugin of the extension type by it.
+    /// The id of the extension type. By this id a session finds the plugin that reads the metadata.
     pub id: String,
-    /// The storage type. Reading an extension without a storage type returns `StorageMissing` (34).
+    /// The storage type. Reading an extension without a storage type returns the error `StorageMissing` (34).
     pub storage_dtype: Option<Box<DType>>,
-    /// The metadata. A message without metadata is read as one with empty metadata.
+    /// The metadata. If it is missing, the message is read as if it contained empty metadata.
     pub metadata: Option<Vec<u8>>,
 }
 
 /// The message of a field path: its parts, outermost first.
 #[derive(Debug, PartialEq, Eq, Drop)]
 pub struct FieldPath {
-    /// The parts, outermost first. An empty list stands for the root.
+    /// The parts, outermost first. The message of the root has no parts.
     pub path: Vec<Field>,
 }
 
-/// One part of a path message. It is always a name, because messages have no step into the element of a list.
+/// One part of a path message: the step to the field with a given name. Path messages have no step into the elements
+/// of a list.
 #[derive(Debug, PartialEq, Eq, Drop)]
 pub struct Field {
-    /// The kind. Reading a part without a kind returns `PathPartMissing` (36).
+    /// The kind of the part. Reading a part without a kind returns the error `PathPartMissing` (36).
     pub field_type: Option<FieldType>,
 }
 
-/// The kind of a part of a path message.
+/// The kind of a part of a path message. The only kind is a name.
 #[derive(Debug, PartialEq, Eq, Drop)]
 pub enum FieldType {
     /// A step to the field with this name.
     Name(String),
 }
 
-/// The primitive types, each with its number in messages.
+/// A primitive type as messages refer to it: by a number. For example, the number of `I32` is 6.
 #[derive(Clone, Copy, Debug, PartialEq, Eq)]
 pub enum PType {
     /// 0: unsigned 8-bit integers.
@@ -283,8 +296,10 @@ impl PType {
         }
     }
 
-    /// Returns an equal copy. The call never returns an error, and it doesn't allocate, so `_alloc` isn't used. It is a
-    /// parameter so that the copies of all kinds of messages are made by calls with the same signature.
+    /// Returns `Ok` with an equal copy. The call never returns an error.
+    ///
+    /// The call doesn't allocate, so `_alloc` isn't used. It is a parameter so that `try_clone` has the same parameters
+    /// for all messages.
     pub fn try_clone(&self, _alloc: Global) -> VortexResult<PType>
         ensures { result ≡ Ok self.now }
     {
@@ -333,8 +348,10 @@ impl From<dtype_base::PType> for PType {
 }
 
 impl Null {
-    /// Returns an equal copy. The call never returns an error, and it doesn't allocate, so `_alloc` isn't used. It is a
-    /// parameter so that the copies of all kinds of messages are made by calls with the same signature.
+    /// Returns `Ok` with an equal copy. The call never returns an error.
+    ///
+    /// The call doesn't allocate, so `_alloc` isn't used. It is a parameter so that `try_clone` has the same parameters
+    /// for all messages.
     pub fn try_clone(&self, _alloc: Global) -> VortexResult<Null>
         ensures { result ≡ Ok self.now }
     {
@@ -343,8 +360,10 @@ impl Null {
 }
 
 impl Bool {
-    /// Returns an equal copy. The call never returns an error, and it doesn't allocate, so `_alloc` isn't used. It is a
-    /// parameter so that the copies of all kinds of messages are made by calls with the same signature.
+    /// Returns `Ok` with an equal copy. The call never returns an error.
+    ///
+    /// The call doesn't allocate, so `_alloc` isn't used. It is a parameter so that `try_clone` has the same parameters
+    /// for all messages.
     pub fn try_clone(&self, _alloc: Global) -> VortexResult<Bool>
         ensures { result ≡ Ok self.now }
     {
@@ -355,8 +374,10 @@ impl Bool {
 }
 
 impl Primitive {
-    /// Returns an equal copy. The call never returns an error, and it doesn't allocate, so `_alloc` isn't used. It is a
-    /// parameter so that the copies of all kinds of messages are made by calls with the same signature.
+    /// Returns `Ok` with an equal copy. The call never returns an error.
+    ///
+    /// The call doesn't allocate, so `_alloc` isn't used. It is a parameter so that `try_clone` has the same parameters
+    /// for all messages.
     pub fn try_clone(&self, _alloc: Global) -> VortexResult<Primitive>
         ensures { result ≡ Ok self.now }
     {
@@ -368,8 +389,10 @@ impl Primitive {
 }
 
 impl Decimal {
-    /// Returns an equal copy. The call never returns an error, and it doesn't allocate, so `_alloc` isn't used. It is a
-    /// parameter so that the copies of all kinds of messages are made by calls with the same signature.
+    /// Returns `Ok` with an equal copy. The call never returns an error.
+    ///
+    /// The call doesn't allocate, so `_alloc` isn't used. It is a parameter so that `try_clone` has the same parameters
+    /// for all messages.
     pub fn try_clone(&self, _alloc: Global) -> VortexResult<Decimal>
         ensures { result ≡ Ok self.now }
     {
@@ -382,8 +405,10 @@ impl Decimal {
 }
 
 impl Utf8 {
-    /// Returns an equal copy. The call never returns an error, and it doesn't allocate, so `_alloc` isn't used. It is a
-    /// parameter so that the copies of all kinds of messages are made by calls with the same signature.
+    /// Returns `Ok` with an equal copy. The call never returns an error.
+    ///
+    /// The call doesn't allocate, so `_alloc` isn't used. It is a parameter so that `try_clone` has the same parameters
+    /// for all messages.
     pub fn try_clone(&self, _alloc: Global) -> VortexResult<Utf8>
         ensures { result ≡ Ok self.now }
     {
@@ -394,8 +419,10 @@ impl Utf8 {
 }
 
 impl Binary {
-    /// Returns an equal copy. The call never returns an error, and it doesn't allocate, so `_alloc` isn't used. It is a
-    /// parameter so that the copies of all kinds of messages are made by calls with the same signature.
+    /// Returns `Ok` with an equal copy. The call never returns an error.
+    ///
+    /// The call doesn't allocate, so `_alloc` isn't used. It is a parameter so that `try_clone` has the same parameters
+    /// for all messages.
     pub fn try_clone(&self, _alloc: Global) -> VortexResult<Binary>
         ensures { result ≡ Ok self.now }
     {
@@ -406,8 +433,10 @@ impl Binary {
 }
 
 impl Variant {
-    /// Returns an equal copy. The call never returns an error, and it doesn't allocate, so `_alloc` isn't used. It is a
-    /// parameter so that the copies of all kinds of messages are made by calls with the same signature.
+    /// Returns `Ok` with an equal copy. The call never returns an error.
+    ///
+    /// The call doesn't allocate, so `_alloc` isn't used. It is a parameter so that `try_clone` has the same parameters
+    /// for all messages.
     pub fn try_clone(&self, _alloc: Global) -> VortexResult<Variant>
         ensures { result ≡ Ok self.now }
     {

@@ -8,7 +8,7 @@ ghost use Rattle.dtype_base.specs.Primitives.{ptype_row, IsUnsigned};
 use crate::NativePType;
 use num_traits::PrimInt;
 
-/// A native integer type: one of `u8` to `u64` and `i8` to `i64`.
+/// A native integer type: `u8`, `u16`, `u32`, `u64`, `i8`, `i16`, `i32` or `i64`.
 pub trait IntegerPType: NativePType + PrimInt {
     /// Returns the greatest value of the type as a `u64`, for example 255 for `u8` and 127 for `i8`.
     final fn max_value_as_u64() -> u64
@@ -22,12 +22,13 @@ pub trait IntegerPType: NativePType + PrimInt {
     ghost greatest_law: { Self.high ≡ pos (ptype_row Self.PTYPE).greatest };
 }
 
-/// A native unsigned integer type: one of `u8` to `u64`.
+/// A native unsigned integer type: `u8`, `u16`, `u32` or `u64`.
 pub trait UnsignedPType: IntegerPType {
     ghost unsigned_law: { IsUnsigned Self.PTYPE };
 }
 
-/// A native integer type for the offsets of a list while it is built: `u32`, `i32`, `u64` or `i64`.
+/// A native integer type in which the offsets of a list are stored while the list is built: `u32`, `i32`, `u64` or
+/// `i64`.
 pub trait OffsetBuilderPType: IntegerPType {
     ghost wide_law: { 4 ≤ (ptype_row Self.PTYPE).bytes };
 }

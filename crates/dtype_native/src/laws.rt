@@ -13,9 +13,10 @@ ghost use Rattle.dtype_native.specs.LittleEndian.{ReadsBytes, little_endian};
 
 use crate::{NativeDecimalType, PrecisionScale, TryFromBytes};
 
-/// For each native integer type `T` and each number `x` of it, if the little-endian bytes of `x` are read as a `T`,
-/// then the result is `Ok(x)`. For example, 258 as a `u16` is written as the bytes 2, 1, and these are read as 258. So
-/// a program can store numbers by `to_le_bytes` and load them by `try_from_le_bytes`.
+/// For each native integer type `T` and each value `x` of `T`, `try_from_le_bytes` returns `Ok(x)` for the bytes that
+/// `to_le_bytes` returns for `x`. For example, the `u16` 258 is written as the bytes 2, 1, and these bytes are read as
+/// 258. With this law a caller can conclude that a number that was stored by `to_le_bytes` is loaded unchanged by
+/// `try_from_le_bytes`.
 ///
 /// About [`TryFromBytes::try_from_le_bytes`] and [`ToBytes::to_le_bytes`].
 pub fn written_bytes_read_back<T: TryFromBytes>()
@@ -24,27 +25,31 @@ pub fn written_bytes_read_back<T: TryFromBytes>()
         → r ≡ Ok x }
 {}
 
-/// For each native decimal type `D` and all `a` and `b` of type `PrecisionScale<D>`, `a == b` is true exactly if their
-/// precisions and their scales are the same. For example, precision 4 and scale 2 isn't equal to precision 4 and scale
-/// 1. With this law a caller can conclude from a test by `==` that two values are the same in contracts.
+/// For each native decimal type `D` and all `a` and `b` of type `PrecisionScale<D>`, `a == b` is true exactly if `a`
+/// and `b` have the same precision and the same scale. For example, if both have the precision 4, but `a` has the scale
+/// 2 and `b` has the scale 1, then they aren't equal. With this law a caller can conclude from a test by `==` that two
+/// values are the same in contracts.
 ///
 /// About [`PrecisionScale`].
 pub fn precision_scales_are_equal_where_they_are<D: NativeDecimalType>()
     ensures { (a b : Decimal) → Decides (⟦<PrecisionScale<D> as PartialEq>⟧.eq a b) (a ≡ b) }
 {}
 
-/// For each native decimal type `D` and all `a` and `b` of type `PrecisionScale<D>`, if `b` is what `clone` returns for
-/// `a`, then `b` is the same as `a`. For example, a clone of precision 4 and scale 2 has precision 4 and scale 2. A
-/// caller needs this law to conclude that what it has proved of a value is so of the clone too.
+/// For each native decimal type `D` and all `a` and `b` of type `PrecisionScale<D>`: if `a.clone()` returns `b`, then
+/// `b` is the same value as `a`. For example, if `a` has the precision 4 and the scale 2, then so has its clone. A
+/// caller needs this law to conclude that what it has proved about a value is also true of its clone.
 ///
 /// About [`PrecisionScale`].
 pub fn clones_of_precision_scales_are_the_same<D: NativeDecimalType>()
     ensures { (a b : Decimal) → ⟦<PrecisionScale<D> as Clone>⟧.is_clone a b → b ≡ a }
 {}
 
-/// The constants `NAME` of the native decimal types `i8`, `i16`, `i32`, `i64` and `i128`, which this law returns in
-/// this order, are the texts of the storage types: `i8`, `i16`, `i32`, `i64` and `i128`. A caller needs this law to
-/// prove what is printed by a program that prints such a constant.
+/// The constant `NAME` of each native decimal type is the text of its storage type. For example,
+/// `<i32 as NativeDecimalType>::NAME` is the text `i32`. If a program prints such a constant, a caller needs this law
+/// to prove what is printed.
+///
+/// The function returns the five constants, because its contract specifies them as parts of its result. They are in the
+/// order `i8`, `i16`, `i32`, `i64`, `i128`.
 ///
 /// About [`NativeDecimalType`].
 pub fn names_of_native_decimals_are_their_texts() -> (

@@ -1,21 +1,26 @@
 // SPDX-License-Identifier: Apache-2.0
 // SPDX-FileCopyrightText: Copyright the Vortex contributors
 
-//! The native Rust types behind primitive types and decimals: how their values are written as bytes and compared, which
-//! bounds they have, and for which logical types they stand.
+//! Traits of the native Rust types that stand for primitive types and for decimals: how their values are written as
+//! bytes and compared, which bounds they have, and for which logical types they stand.
 //!
-//! For each native integer type it is proved that its primitive type, its width and its range are those of the table of
-//! primitive types, that its values are written as little-endian bytes and read back from them, and that they are
-//! compared as whole numbers. For each native decimal type it is proved that its bounds are the greatest and the least
-//! number of a given number of digits. For each `match_each_..` function it is proved that the answer that it returns
-//! is one that the visitor allows for the primitive type that was passed.
+//! The following is proved:
+//! - The primitive type, the width and the range of each native integer type are those in the table of primitive types.
+//! - The values of each native integer type are written as little-endian bytes, and read back from them. They are
+//!   compared as whole numbers.
+//! - `max_by_precision` and `min_by_precision` of each native decimal type return the greatest and the least number
+//!   with a given number of digits.
+//! - Each `match_each_..` function returns an answer that the visitor allows for the primitive type that was passed.
 //!
 //! Begin with `NativePType`, `ToBytes` and `PTypeVisitor`. Then read `NativeDecimalType`, `PrecisionScale` and
 //! `NativeDType`.
 //!
-//! The definitions are in `specs/`: `LittleEndian` (bytes), `Offsets` (the narrowest type for an offset), `Digits`
-//! (numbers of a given number of digits) and `NativeTypes` (the type for which a native type stands). `NumberLaws`
-//! contains the proofs of the traits' laws that the impls cite.
+//! The definitions are in `specs/`:
+//! - `LittleEndian`: the bytes of a number.
+//! - `Offsets`: the narrowest type for an offset.
+//! - `Digits`: the numbers with a given number of digits.
+//! - `NativeTypes`: the logical type for which a native type stands.
+//! - `NumberLaws`: the proofs of the laws of the traits, which the impls cite.
 #![tactic(auto)]
 
 mod integer_ptype;

@@ -12,21 +12,22 @@ ghost use Rattle.dtype_native.specs.NumberLaws.{digits_fit};
 use dtype_base::DecimalType;
 use num_traits::{PrimInt, Signed, cast};
 
-/// A native integer type that stores decimal values as integers, without the decimal point: `i8`, `i16`, `i32`, `i64`
-/// or `i128`.
+/// A native integer type in which decimal values are stored: `i8`, `i16`, `i32`, `i64` or `i128`. A value is stored as
+/// an integer, without the decimal point. For example, 12.34 of the type `decimal(4,2)` is stored as 1234.
 pub trait NativeDecimalType: PrimInt + Signed {
     /// The storage type for which this native type stands, for example `DecimalType::I32` for `i32`.
     const DECIMAL_TYPE: DecimalType;
 
     ghost DECIMAL_TYPE: { DecimalType };
 
-    /// The greatest precision for which every number of so many decimal digits fits the type. For `i32` it is 9,
-    /// because 999,999,999 fits and 9,999,999,999 doesn't.
+    /// The greatest precision of the decimals that the type can store. For example, it is 9 for `i32`, because every
+    /// number with 9 decimal digits fits an `i32`, and 9,999,999,999 with 10 digits doesn't.
     const MAX_PRECISION: u8;
 
     ghost MAX_PRECISION: { ℕ };
 
-    /// The greatest scale, which is equal to `MAX_PRECISION`.
+    /// The greatest scale of the decimals that the type can store. It is equal to `MAX_PRECISION`, because a scale is
+    /// at most the precision.
     const MAX_SCALE: i8;
 
     ghost MAX_SCALE: { ℤ };
@@ -34,8 +35,8 @@ pub trait NativeDecimalType: PrimInt + Signed {
     /// The text of the storage type, for example `i32`.
     const NAME: &'static str;
 
-    /// Returns the greatest number of `precision` decimal digits, which is `10^precision - 1`. For example, it is 999
-    /// for a precision of 3, and 0 for a precision of 0. The caller must prove that `precision` is at most
+    /// Returns the greatest number with `precision` decimal digits, which is `10^precision - 1`. For example, it
+    /// returns 999 for a precision of 3, and 0 for a precision of 0. The caller must prove that `precision` is at most
     /// `MAX_PRECISION`.
     #[tactic(auto, using(crate::proofs::Powers::power_below, crate::proofs::Powers::below_power))]
     final fn max_by_precision(precision: u8) -> Self
@@ -45,8 +46,8 @@ pub trait NativeDecimalType: PrimInt + Signed {
         one_below(power_of_ten::<Self>(u32::from(precision)))
     }
 
-    /// Returns the least number of `precision` decimal digits, which is `-(10^precision - 1)`. For example, it is -999
-    /// for a precision of 3, and 0 for a precision of 0. The caller must prove that `precision` is at most
+    /// Returns the least number with `precision` decimal digits, which is `-(10^precision - 1)`. For example, it
+    /// returns -999 for a precision of 3, and 0 for a precision of 0. The caller must prove that `precision` is at most
     /// `MAX_PRECISION`.
     #[tactic(auto, using(crate::proofs::Powers::above_opposite))]
     final fn min_by_precision(precision: u8) -> Self

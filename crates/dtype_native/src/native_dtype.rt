@@ -20,8 +20,8 @@ pub trait NativeDType {
     // The tree of the logical type.
     ghost native_tree: { Tree };
 
-    /// Returns the logical type for which the native type stands. It is nullable exactly if the native type is an
-    /// `Option`.
+    /// Returns the logical type for which the native type stands. The logical type is nullable exactly if the native
+    /// type is an `Option`.
     ///
     /// # Errors
     ///
@@ -133,7 +133,8 @@ impl NativeDType for &[u8] {
     }
 }
 
-/// An `Option<T>` stands for the type of `T`, made nullable.
+/// `Option<T>` stands for the nullable form of the type for which `T` stands. For example, `Option<i32>` stands for
+/// `i32?`.
 impl<T: NativeDType> NativeDType for Option<T> {
     ghost native_tree = { nullable_form T.native_tree };
 
@@ -143,7 +144,8 @@ impl<T: NativeDType> NativeDType for Option<T> {
     }
 }
 
-/// A `Vec<T>` stands for a non-nullable list of the type of `T`.
+/// `Vec<T>` stands for a non-nullable list type. Its element type is the type for which `T` stands. For example,
+/// `Vec<i32>` stands for `list(i32)`.
 impl<T: NativeDType> NativeDType for Vec<T> {
     ghost native_tree = { list T.native_tree NonNullable };
 

@@ -20,7 +20,7 @@ use std::fmt::Display;
 /// The native type of a primitive type. For example, `i32` is the native type of `PType::I32`. Eight types implement
 /// the trait: the integer types `u8` to `u64` and `i8` to `i64`. The floating-point types have no native type here.
 pub trait NativePType: Copy + Default + Display + Ord + Num + NumCast + ToBytes + TryFromBytes {
-    /// The primitive type for which the native type stands.
+    /// The primitive type for which the native type stands, for example `PType::I32` for `i32`.
     const PTYPE: PType;
 
     ghost PTYPE: { PType };
@@ -39,7 +39,7 @@ pub trait NativePType: Copy + Default + Display + Ord + Num + NumCast + ToBytes 
         false
     }
 
-    /// Returns how the two numbers compare: `Less`, `Equal` or `Greater`.
+    /// Returns how `self` compares to `other`. For example, it returns `Less` if `self` is 1 and `other` is 2.
     final fn total_compare(self, other: Self) -> Ordering
         ensures { result ≡ int_cmp (Self.value self) (Self.value other) }
     {
@@ -74,7 +74,7 @@ pub trait NativePType: Copy + Default + Display + Ord + Num + NumCast + ToBytes 
         self.total_compare(other).is_gt()
     }
 
-    /// Returns whether the two numbers are equal.
+    /// Returns whether `self == other`.
     final fn is_eq(self, other: Self) -> bool
         ensures { IsTrue result ↔ (Self.value self ≡ Self.value other) }
     {

@@ -13,7 +13,7 @@ use std::fmt;
 use std::marker::{Model, PhantomData};
 
 /// A decimal type whose values fit the native type `D`. Its precision is from 1 to `D::MAX_PRECISION`, and its scale is
-/// from -128 to the precision. For example, `PrecisionScale<i32>` has precisions from 1 to 9.
+/// from -128 to the precision. For example, the precision of a `PrecisionScale<i32>` is from 1 to 9.
 #[derive_where(Clone, Copy, Debug, PartialEq, Eq, Hash)]
 pub struct PrecisionScale<D: NativeDecimalType> {
     precision: u8,
@@ -32,7 +32,7 @@ impl<D: NativeDecimalType> Model for PrecisionScale<D> {
 }
 
 impl<D: NativeDecimalType> PrecisionScale<D> {
-    /// Returns the decimal type of this precision and scale. Every negative scale, down to -128, is accepted.
+    /// Returns the decimal type with this precision and this scale. Every negative scale, down to -128, is accepted.
     ///
     /// # Errors
     ///
@@ -52,8 +52,8 @@ impl<D: NativeDecimalType> PrecisionScale<D> {
         Ok(Self::new_unchecked(precision, scale))
     }
 
-    /// Returns the decimal type of this precision and scale. The caller must prove that they are valid: `try_new`
-    /// accepts them.
+    /// Returns the decimal type with this precision and this scale. The caller must prove that the precision is from 1
+    /// to `D::MAX_PRECISION`, and that the scale is at most the precision.
     pub fn new(precision: u8, scale: i8) -> Self
         requires { IsDecimalWithin D.MAX_PRECISION precision scale }
         ensures { result ≡ record { precision = precision; scale = scale } }
@@ -61,8 +61,8 @@ impl<D: NativeDecimalType> PrecisionScale<D> {
         Self::new_unchecked(precision, scale)
     }
 
-    /// Returns the decimal type of this precision and scale. It is the same as `new`, and its caller too must prove
-    /// that `try_new` accepts them.
+    /// Returns the same as `new`: the decimal type with this precision and this scale. The caller must prove that the
+    /// precision is from 1 to `D::MAX_PRECISION`, and that the scale is at most the precision.
     pub fn new_unchecked(precision: u8, scale: i8) -> Self
         requires { IsDecimalWithin D.MAX_PRECISION precision scale }
         ensures { result ≡ record { precision = precision; scale = scale } }
@@ -82,8 +82,8 @@ impl<D: NativeDecimalType> PrecisionScale<D> {
         self.precision
     }
 
-    /// Returns the number of digits after the decimal point, from -128 to the precision. If it is -k, each value is a
-    /// multiple of 10^k.
+    /// Returns the scale: the number of digits after the decimal point. It is from -128 to the precision. A negative
+    /// scale -k means that each value is a multiple of 10^k.
     pub fn scale(&self) -> i8
         ensures value { result ≡ self.now.scale }
         ensures within { IsDecimalWithin D.MAX_PRECISION self.now.precision self.now.scale }
@@ -91,8 +91,8 @@ impl<D: NativeDecimalType> PrecisionScale<D> {
         self.scale
     }
 
-    /// Returns whether the value has at most as many decimal digits as the precision, without its sign. For example,
-    /// with a precision of 3 it is true of -999 and false of 1000.
+    /// Returns whether the number of decimal digits of the value is at most the precision. The sign isn't counted. For
+    /// example, if the precision is 3, the call returns `true` for -999 and `false` for 1000.
     pub fn is_valid(&self, value: D) -> bool
         ensures { IsTrue result ↔ HasDigits self.now.precision (D.value value) }
     {
@@ -108,6 +108,7 @@ fn compared<D: NativeDecimalType>(a: D, b: D) -> Ordering
     a.cmp(&b)
 }
 
+/// Prints the native type, the precision and the scale, for example `decimal(i8, p=2, s=1)`.
 impl<D: NativeDecimalType> fmt::Display for PrecisionScale<D> {
     ghost output = { λ d. Some (precision_scale_text (storage D.DECIMAL_TYPE).text d) };
 
@@ -122,6 +123,7 @@ impl<D: NativeDecimalType> fmt::Display for PrecisionScale<D> {
     }
 }
 
+/// Returns the `DecimalDType` with the same precision and the same scale.
 impl<D: NativeDecimalType> From<PrecisionScale<D>> for DecimalDType {
     ghost from_gives = { λ p d. d ≡ p };
 
@@ -130,7 +132,7 @@ impl<D: NativeDecimalType> From<PrecisionScale<D>> for DecimalDType {
     }
 }
 
-/// Returns the `PrecisionScale<D>` with the precision and the scale of this decimal type.
+/// Returns the `PrecisionScale<D>` with the same precision and the same scale as this decimal type.
 ///
 /// # Errors
 ///

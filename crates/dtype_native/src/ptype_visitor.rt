@@ -9,12 +9,14 @@ ghost use Rattle.dtype_native.specs.Offsets.{AnswersLeast};
 
 use dtype_base::PType;
 
-/// What to do for each primitive type: one method for each native integer type, and one method for the three
-/// floating-point types, which takes the type as an argument. A caller implements the trait and passes a visitor to a
-/// `match_each_..` function, which calls the method for the type. In the Rust library the `match_each_..` are macros
-/// whose body is generic over the native type.
+/// A visitor of primitive types. It has one method for each native integer type, and a method `visit_float` that takes
+/// one of the three floating-point types.
+///
+/// A caller implements the trait and passes a primitive type and a visitor to a `match_each_..` function. The function
+/// calls the method for that primitive type and returns what the method returns. In the Rust library, `match_each_..`
+/// are macros, and their body is generic over the native type.
 pub trait PTypeVisitor: Sized {
-    /// The type of what each method returns.
+    /// The type of the value that each method returns.
     type Answer;
 
     // Whether an answer is right for this visitor and this primitive type. The `match_each_..` functions ensure it of
@@ -53,13 +55,14 @@ pub trait PTypeVisitor: Sized {
     fn visit_i64(self) -> Self::Answer
         ensures { answers self I64 result };
 
-    /// Returns the visitor's answer for `F16`, `F32` or `F64`. If `ptype` is another type, the contract doesn't specify
-    /// the result.
+    /// Returns the visitor's answer for the floating-point type `ptype`: `F16`, `F32` or `F64`. If `ptype` is another
+    /// type, the contract doesn't specify the result.
     fn visit_float(self, ptype: PType) -> Self::Answer
         ensures { IsFloat ptype → answers self ptype result };
 }
 
-/// Calls the visitor's method for this primitive type and returns its answer.
+/// Calls the visitor's method for this primitive type and returns its answer. For example, it calls `visit_u8` for
+/// `U8`, and `visit_float` for `F64`.
 pub fn match_each_native_ptype<V: PTypeVisitor>(ptype: PType, visitor: V) -> V::Answer
     ensures { V.answers visitor ptype result }
 {
@@ -127,7 +130,7 @@ pub fn match_each_float_ptype<V: PTypeVisitor>(ptype: PType, visitor: V) -> V::A
 }
 
 /// Calls the visitor's method for this primitive type and returns its answer. The caller must prove that `ptype` isn't
-/// `F16`, the only primitive type without SIMD lanes.
+/// `F16`, because `F16` is the only primitive type without SIMD lanes.
 pub fn match_each_native_simd_ptype<V: PTypeVisitor>(ptype: PType, visitor: V) -> V::Answer
     requires { ptype ≢ F16 }
     ensures { V.answers visitor ptype result }
@@ -135,8 +138,8 @@ pub fn match_each_native_simd_ptype<V: PTypeVisitor>(ptype: PType, visitor: V) -
     match_each_native_ptype(ptype, visitor)
 }
 
-/// Calls the visitor's method for the narrowest of `u8`, `u16`, `u32` and `u64` that the offset `n` fits, and returns
-/// its answer. For example, it calls `visit_u16` for 256.
+/// Calls the visitor's method for the narrowest of `u8`, `u16`, `u32` and `u64` that can hold the offset `n`, and
+/// returns its answer. For example, it calls `visit_u8` for 255 and `visit_u16` for 256.
 pub fn match_smallest_offset_type<V: PTypeVisitor>(n: usize, visitor: V) -> V::Answer
     ensures { AnswersLeast (V.answers visitor) (U8 ∷ U16 ∷ U32 ∷ U64 ∷ []) n result }
 {
@@ -151,8 +154,8 @@ pub fn match_smallest_offset_type<V: PTypeVisitor>(n: usize, visitor: V) -> V::A
     }
 }
 
-/// Calls the visitor's method for `u32` if the offset `n` fits it, and otherwise the method for `u64`, and returns its
-/// answer. The offsets of a list are stored in one of these two types.
+/// Calls `visit_u32` if the offset `n` is at most `u32::MAX`, and otherwise `visit_u64`, and returns the answer of that
+/// method. The offsets of a list are stored in one of these two types.
 pub fn match_smallest_list_offset_type<V: PTypeVisitor>(n: usize, visitor: V) -> V::Answer
     ensures { AnswersLeast (V.answers visitor) (U32 ∷ U64 ∷ []) n result }
 {

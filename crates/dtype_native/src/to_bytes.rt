@@ -10,9 +10,11 @@ ghost use Rattle.dtype_native.specs.NumberLaws.{injective, signed_injective};
 
 use num_traits::Number;
 
-/// A number that is written as a fixed number of bytes, the least significant byte first.
+/// A number that is written as a fixed number of bytes, the least significant byte first. For example, the `u16` 258 is
+/// written as the two bytes 2, 1.
 pub trait ToBytes: Number {
-    /// An array of as many bytes as the type is wide.
+    /// The array that `to_le_bytes` returns. It has as many bytes as the type is wide. For example, it is `[u8; 4]` for
+    /// `i32`.
     type Bytes: Copy;
 
     // The width in bytes.
@@ -21,14 +23,14 @@ pub trait ToBytes: Number {
     // The items of an array, in order.
     ghost bytes_in: { Self.Bytes → List ℕ };
 
-    /// Returns the bytes of the number, the least significant first. A negative number is written in two's complement:
-    /// -2 as an `i16` is the bytes 254, 255.
+    /// Returns the bytes of the number, the least significant byte first. A negative number is written in two's
+    /// complement. For example, the call returns the bytes 254, 255 for the `i16` -2.
     fn to_le_bytes(&self) -> Self::Bytes
         ensures written { bytes_in result ≡ little_endian byte_width (Self.value self.now) }
         ensures count { length (bytes_in result) ≡ byte_width }
         ensures in_range { Self.fits (Self.value self.now) };
 
-    /// Returns the array as a slice.
+    /// Returns the bytes of the array as a slice, in order.
     fn bytes_of(bytes: &Self::Bytes) -> &[u8]
         ensures { result.now ≡ bytes_in bytes.now };
 

@@ -10,9 +10,11 @@ ghost use Rattle.dtype_native.specs.LittleEndian.{ReadsBytes};
 use crate::ToBytes;
 use dtype_base::{VortexError, VortexResult};
 
-/// A number that is read from its bytes, the least significant byte first.
+/// A number that is read from its bytes, the least significant byte first. For example, the bytes 2, 1 are read as the
+/// `u16` 258.
 pub trait TryFromBytes: ToBytes {
-    /// Returns the number with these bytes, the least significant first. Negative numbers are in two's complement.
+    /// Returns the number that `to_le_bytes` writes as these bytes. The least significant byte is first, and a negative
+    /// number is in two's complement. For example, the call returns the `i16` -2 for the bytes 254, 255.
     ///
     /// # Errors
     ///

@@ -179,7 +179,8 @@ pub enum DecimalType {
 }
 
 impl DecimalType {
-    /// Returns the narrowest storage type that can hold every value of the decimal type. It depends on the precision:
+    /// Returns the narrowest storage type that can hold every value of the decimal type. The result depends only on the
+    /// precision:
     /// - `I8` for a precision of 1 or 2
     /// - `I16` for a precision of 3 or 4
     /// - `I32` for a precision from 5 to 9
@@ -213,9 +214,9 @@ impl DecimalType {
         }
     }
 
-    /// Returns whether this storage type can hold every value of the decimal type. It can exactly if it is the type
-    /// that `smallest_decimal_value_type` returns, or a wider one. For example, `I16` and `I32` can hold every value of
-    /// `decimal(4,2)`, and `I8` can't.
+    /// Returns whether this storage type can hold every value of the decimal type. It can exactly if it is at least as
+    /// wide as the type that `smallest_decimal_value_type` returns. For example, `I16` and `I32` can hold every value
+    /// of `decimal(4,2)`, and `I8` can't.
     pub fn is_compatible_decimal_value_type(self, decimal: DecimalDType) -> bool
         ensures digits { IsTrue result ↔ (decimal.precision ≤ (storage self).digits) }
         ensures number { IsTrue result ↔ IsCompatible self decimal.precision }

@@ -63,8 +63,8 @@ impl IndexedNames {
     /// that the lookup compared with `name`.
     ///
     /// The index distributes the names by their hashes among as many buckets as there are names. The lookup makes a
-    /// binary search among as many names as the longest bucket contains, and the names in the bucket of `name` are
-    /// among them. So the number of compared names is the same for every `name`, whether it is in the list or not:
+    /// binary search in the bucket of `name`. Its range is always extended to the length of the longest bucket, so the
+    /// number of compared names is the same for every `name`, whether it is in the list or not:
     /// - 0 names if the list is empty
     /// - 1 name if the longest bucket contains one name
     /// - 2 names if the longest bucket contains two names

@@ -24,10 +24,10 @@ pub enum VortexError {
     /// 1: the precision of a decimal is 0.
     #[error("decimal precision must be between 1 and {max} (inclusive)")]
     PrecisionZero { max: u8 },
-    /// 2: the precision of a decimal is above the greatest that is allowed.
+    /// 2: the precision of a decimal is above `max`, the greatest precision that is allowed.
     #[error("decimal precision {precision} exceeds MAX_PRECISION {max}")]
     PrecisionTooLarge { precision: u8, max: u8 },
-    /// 3: the scale of a decimal is above the greatest that is allowed.
+    /// 3: the scale of a decimal is above `max`, the greatest scale that is allowed.
     #[error("decimal scale {scale} exceeds MAX_SCALE {max}")]
     ScaleTooLarge { scale: i8, max: i8 },
     /// 4: the scale of a decimal is above its precision.

@@ -1,10 +1,10 @@
 -- SPDX-License-Identifier: Apache-2.0
 -- SPDX-FileCopyrightText: Copyright the Vortex contributors
 
--- The parts of a type, and the least of them that has some paths: what a projection is, said without the recursion of
--- `Projected`. A part is what a column reader can open of a stored type: a choice of its columns, which leaves the rest of
--- the schema as it is stored (Parquet's projection masks). Of columns with equal names a path leads to the first
--- (`step` of `dtype_paths`), so a choice that has a later one has the first.
+-- The parts of a type, and the least part in which some paths resolve as in the type. This specifies a projection
+-- without the recursion of `Projected`. A part is what a column reader can open of a stored type: a choice of its
+-- columns, with the rest of the schema as it is stored (Parquet's projection masks). If several columns have the same
+-- name, a path leads to the first (`step` of `dtype_paths`), so a choice that contains a later one contains the first.
 use Rattle.std.specs.Prelude.{◌≡◌, ◌⊎◌, IsTrue, List, None}
 use Rattle.dtype_types.specs.parts.Lookups.{first_named}
 use Rattle.dtype_types.specs.tree.Tree.{Tree, Fields, no_items, field, pairs, list, fixed_size_list, struct, item}
@@ -12,8 +12,9 @@ use Rattle.dtype_paths.specs.Along.{along}
 use Rattle.dtype_paths.specs.declared.field.Field.{Field}
 use Rattle.dtype_projection.specs.Projected.{PathPredicate}
 
--- `IsPart t u`: u is t with fields of structs left out, at any depth. Kinds, sizes, nullabilities, and the names and the
--- order of the fields that are left are those of t. Where a field is left out, the later ones of its name are too
+-- `IsPart t u`: u is t without some fields of structs, at any depth. The kinds, the sizes, the nullabilities, and the
+-- names and the order of the remaining fields are those of t. If a field is left out, the later fields with its name
+-- are left out too.
 abbrev mutual
   pub IsPart : Tree → Tree → Type 0
   IsPart (list t n) u = (x : Tree) × (u ≡ list x n) × IsPart t x
@@ -27,11 +28,11 @@ abbrev mutual
       ((u : Tree) × (rest : Fields) × (gs ≡ field n u rest) × IsPart t u × IsPartOfFields fs rest)
       ⊎ (IsPartOfFields fs gs × (first_named (pairs gs) n ≡ None))
 
--- along each of the paths u has what t has
+-- each of the paths leads to the same type in u as in t, or to no type in both
 abbrev pub HasPaths : Tree → PathPredicate → Tree → Type 0
 HasPaths t w u = (p : List Field) → IsTrue (w p) → along u p ≡ along t p
 
--- u is the least part of t that has the paths: it is a part of each other one
+-- u is the least part of t in which the paths resolve as in t: it is a part of each other one
 pub record IsLeastPart (t : Tree) (w : PathPredicate) (u : Tree) : Type 0 where
   pub part : IsPart t u
   pub has : HasPaths t w u

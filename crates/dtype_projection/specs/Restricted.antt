@@ -1,8 +1,9 @@
 -- SPDX-License-Identifier: Apache-2.0
 -- SPDX-FileCopyrightText: Copyright the Vortex contributors
 
--- A value of a type, restricted to some paths: a value of the type's projection to them (`Projected`). What a reader
--- gives that opens these paths alone, as Parquet's projection masks have it.
+-- A value of a type without the fields that the projection of the type to some paths (`Projected`) leaves out. It is a
+-- value of the projection. A reader that opens only these paths returns it, as Parquet's readers do with a projection
+-- mask.
 use Rattle.std.specs.Prelude.{ℕ, List, [], Option, Some, None, if◌then◌else◌}
 use Rattle.dtype_types.specs.tree.Tree.{Tree, Fields, no_items, list, fixed_size_list, struct, item}
 use Rattle.dtype_types.specs.values.Value.{Value, Values, no_values, value, Named, no_named, named, items, fixed_items, record_of}
@@ -13,18 +14,18 @@ abbrev pub each_value : (Value → Value) → Values → Values
 each_value g no_values = no_values
 each_value g (value v vs) = value (g v) (each_value g vs)
 
--- each item of a list, or of a fixed-size list; other values as they are
+-- a list or a fixed-size list with g applied to each item; other values are unchanged
 abbrev pub each_item : (Value → Value) → Value → Value
 each_item g (items vs) = items (each_value g vs)
 each_item g (fixed_items vs) = fixed_items (each_value g vs)
 each_item g v = v
 
--- the pairs of a struct's value; other values as they are
+-- the value of a struct with g applied to its pairs; other values are unchanged
 abbrev pub in_record : (Named → Named) → Value → Value
 in_record g (record_of nvs) = record_of (g nvs)
 in_record g v = v
 
--- these pairs after a pair named n, if something is kept of its field
+-- the pairs `rest`, after a pair of the name n and the value v if the field is kept
 abbrev pub prepend_pair : List ℕ → Option Tree → Value → Named → Named
 prepend_pair n None v rest = rest
 prepend_pair n (Some u) v rest = named n v rest

@@ -21,10 +21,10 @@ ghost use Rattle.dtype_projection.specs.IsPart.{IsLeastPart, IsPart};
 ghost use Rattle.dtype_projection.specs.Projected.{projected};
 ghost use Rattle.dtype_projection.specs.Restricted.{restricted};
 
-/// For each type `t` and each predicate `w` of paths, `t` has a projection to the paths that satisfy `w`
-/// (`projected t w` isn't `None`) exactly if one of these paths exists in `t`. For example, `{a=i32, b=utf8}` has no
-/// projection to the path `c`, and it has a projection to the paths `a` and `c`. So `project_paths` returns `None`
-/// exactly if there is nothing to read.
+/// For each type `t` and each predicate `w` of paths, `t` has a projection to the paths that satisfy `w` exactly if one
+/// of these paths exists in `t`. (`t` has a projection if `projected t w` isn't `None`.) For example, `{a=i32, b=utf8}`
+/// has no projection to the path `c`, and it has a projection to the paths `a` and `c`. With this law a caller knows
+/// that `project_paths` returns `None` exactly if there is nothing to read.
 ///
 /// About [`project_paths`].
 #[tactic(auto, using(crate::proofs::lemmas::Projections::kept_exactly))]
@@ -33,11 +33,10 @@ pub fn a_type_is_kept_exactly_where_a_path_exists()
         ↔ ((p : List Field) × IsTrue (w p) × ExistsIn t p) }
 {}
 
-/// Let `u` be the projection of `t` to the paths that satisfy `w`, let `p` be one of these paths, and let `q` be `p` or
-/// a path that begins with `p`. If `q` leads to a type in `t`, it leads to the same type in `u`, and if `q` leads to no
-/// type in `t`, it leads to no type in `u`. For example, in the projection of `{a={b=i32}, c=utf8}` to `a` the path
-/// `a.b` leads to `i32`, as it does in the whole type. So a query that is bound to the original type can be run on the
-/// projection.
+/// Let `u` be the projection of `t` to the paths that satisfy `w`. Let `p` be one of these paths, and let `q` be `p` or
+/// a path that begins with `p`. Then `q` leads to the same type in `u` as in `t`, or to no type in either of them. For
+/// example, in the projection of `{a={b=i32}, c=utf8}` to `a`, the path `a.b` leads to `i32`, as it does in the whole
+/// type. With this law a caller knows that a query that is bound to the original type can be run on the projection.
 ///
 /// About [`project_paths`].
 pub fn wanted_paths_resolve_as_before()
@@ -45,10 +44,11 @@ pub fn wanted_paths_resolve_as_before()
         → Beginning p q → along u q ≡ along t q }
 {}
 
-/// Let `u` be the projection of `t` to the paths that satisfy `w`. Then a path `q` exists in `u` exactly if it exists
-/// in `t` and overlaps a path that satisfies `w` and exists in `t`: `q` is a prefix of such a path, or such a path is a
-/// prefix of `q`. For example, in the projection of `{a={b=i32, d=u8}, c=utf8}` to `a.b` the paths `a` and `a.b` exist,
-/// and neither `a.d` nor `c` does. So a reader of the projection opens no column that the paths don't need.
+/// Let `u` be the projection of `t` to the paths that satisfy `w`. Then a path `q` exists in `u` exactly if `q` exists
+/// in `t` and overlaps a path `p` that satisfies `w` and exists in `t`. Two paths overlap if one of them is a prefix of
+/// the other. For example, in the projection of `{a={b=i32, d=u8}, c=utf8}` to `a.b`, the paths `a` and `a.b` exist,
+/// and `a.d` and `c` don't. With this law a caller knows that a reader of the projection opens no column that the paths
+/// don't need.
 ///
 /// About [`project_paths`].
 pub fn nothing_else_is_kept()
@@ -56,12 +56,17 @@ pub fn nothing_else_is_kept()
         → (ExistsIn u q ↔ (ExistsIn t q × ((p : List Field) × IsTrue (w p) × ExistsIn t p × Overlaps p q))) }
 {}
 
-/// Two statements about a type `t`, its parts, and the paths that satisfy `w`. A part of `t` is `t` without some fields
-/// of structs, at any depth, and otherwise unchanged. First, the projection of `t` to the paths is a part of `t` in
-/// which each of the paths leads to the same type as in `t`, and it is a part of every other such part: it is the least
-/// one. Second, if one of the paths exists in `t`, then only the projection is such a least part. For example, the
-/// projection of `{a=i32, b=utf8, c=u8}` to `a` is `{a=i32}`, a part of `{a=i32, b=utf8}`. This law specifies
-/// projections without the recursion by which `projected` is defined.
+/// The projection of a type `t` to the paths that satisfy `w` is the least part of `t` in which these paths resolve as
+/// in `t`. A part of `t` is `t` without some fields of structs, at any depth, and otherwise unchanged. If a part lacks
+/// a field, it also lacks the later fields of the same struct that have the same name (`IsPart`). A path resolves in a
+/// part as in `t` if it leads to the same type in both, or to no type in both. The two clauses are:
+/// - `least`: if `u` is the projection, then `u` is a part of `t` in which the paths resolve as in `t`, and `u` is a
+///   part of each other part of `t` in which they do.
+/// - `alone`: if one of the paths exists in `t`, then each type that is such a least part is the projection.
+///
+/// For example, let `t` be `{a=i32, b=utf8, c=u8}`. The path `a` resolves as in `t` in the parts `{a=i32}`,
+/// `{a=i32, b=utf8}`, `{a=i32, c=u8}` and `t`. The projection to `a` is the least of these, `{a=i32}`. With this law a
+/// caller can reason about a projection without the recursion by which `projected` is defined.
 ///
 /// About [`project_paths`].
 pub fn projections_are_least_parts()
@@ -70,11 +75,16 @@ pub fn projections_are_least_parts()
         → IsLeastPart t w u → projected t w ≡ Some u }
 {}
 
-/// Three statements about the parts of a type `t`. First, if `u` is a part of `t` and the path `q` leads to `y` in `u`,
-/// then `q` leads in `t` to a type of which `y` is a part. Second, two types that are parts of each other are equal.
-/// Third, each type is a part of itself. For example, `{a={b=i32}}` is a part of `{a={b=i32, d=u8}, c=utf8}`, and at
-/// the path `a` the part `{b=i32}` of `{b=i32, d=u8}` is left. A caller needs this law to conclude from `IsPart`, by
-/// which projections are specified, what is at a path.
+/// For all types `t` and `u`, the following is true of parts (`IsPart`):
+/// - `along`: if `u` is a part of `t` and the path `q` leads to a type `y` in `u`, then `q` leads to a type `x` in `t`,
+///   and `y` is a part of `x`.
+/// - `equal`: if `u` is a part of `t` and `t` is a part of `u`, then `u` and `t` are equal.
+/// - `itself`: `t` is a part of itself.
+///
+/// For example, `{a={b=i32}}` is a part of `{a={b=i32, d=u8}, c=utf8}`. The path `a` leads to `{b=i32}` in the part and
+/// to `{b=i32, d=u8}` in the whole type, and `{b=i32}` is a part of `{b=i32, d=u8}`. A caller needs this law to
+/// conclude to which types paths lead in a projection, because the law `projections_are_least_parts` specifies
+/// projections by `IsPart`.
 ///
 /// About [`project_paths`].
 #[tactic(auto, using(crate::proofs::lemmas::Parts::path_of_part, crate::proofs::lemmas::Parts::parts_equal, crate::proofs::lemmas::Parts::part_itself))]
@@ -86,8 +96,8 @@ pub fn paths_lead_to_parts()
 {}
 
 /// For all types `t` and `u`, if `u` is a projection of `t`, then `u` has the same outer nullability as `t`. For
-/// example, the projection of `{a=i32, b=utf8}?` to `a` is `{a=i32}?`. So a reader needn't test again whether the rows
-/// of a table can be null.
+/// example, the projection of `{a=i32, b=utf8}?` to `a` is `{a=i32}?`. With this law a caller knows that the rows of a
+/// projected table can be null exactly if the rows of the whole table can.
 ///
 /// About [`project_paths`].
 #[tactic(auto, using(crate::proofs::lemmas::Parts::kept_nullability))]
@@ -95,11 +105,15 @@ pub fn projections_keep_the_nullability()
     ensures { (t u : Tree) (w : PathPredicate) → projected t w ≡ Some u → nullability u ≡ nullability t }
 {}
 
-/// Two statements about a type `t` and sets `r` and `s` of paths. First, if each path that exists in `t` is covered by
-/// `r` exactly if it is covered by `s`, then the projections of `t` to `r` and to `s` are the same. Second, the
-/// projection of `t` to the least paths of `s` is the projection of `t` to `s`. For example, the projection to `a` and
-/// `a.b` is the same as the projection to `a` alone. So a program may replace a set by its least paths before it
-/// projects a type.
+/// For each type `t` and all sets `r` and `s` of paths, the projection of `t` to `s` depends only on which paths `s`
+/// covers. A set covers a path if it contains the path or a prefix of it. The two clauses are:
+/// - `exists`: if each path that exists in `t` is covered by both `r` and `s` or by neither of them, then the
+///   projection of `t` to `r` is the projection of `t` to `s`.
+/// - `least`: the projection of `t` to the least paths of `s` is the projection of `t` to `s`. The least paths of `s`
+///   are those of which no other path in `s` is a prefix.
+///
+/// For example, the projection to `a` and `a.b` is the projection to `a` alone. With this law a caller can replace a
+/// set by its least paths before it projects a type.
 ///
 /// About [`project_paths`].
 #[tactic(auto, using(crate::proofs::lemmas::Parts::same_for_same_coverage, crate::proofs::lemmas::Parts::same_for_least))]
@@ -111,11 +125,14 @@ pub fn projection_depends_on_coverage_alone()
         → projected t (set.contains (least s)) ≡ projected t (set.contains s) }
 {}
 
-/// Two statements about projecting twice. Let `u` be the projection of `t` to the set `s`. First, for each set `r`, if
-/// `s` covers each path of `r` that exists in `t`, then the projection of `u` to `r` is the projection of `t` to `r`.
-/// Second, the projection of `u` to `s` is `u`. For example, the projection of `{a=i32, b=utf8, c=u8}` to `a` and `b`,
-/// projected again to `a`, is `{a=i32}`, which is also the projection of the whole type to `a`. So a schema that was
-/// projected to all columns of a query can be projected again to the columns of one of its filters.
+/// Let `u` be the projection of `t` to the set `s`. The two clauses are about projecting `u` again:
+/// - `covered`: for each set `r`, if `s` covers each path of `r` that exists in `t`, then the projection of `u` to `r`
+///   is the projection of `t` to `r`.
+/// - `once`: the projection of `u` to `s` is `u`.
+///
+/// For example, the projection of `{a=i32, b=utf8, c=u8}` to `a` and `b` is `{a=i32, b=utf8}`. The projection of that
+/// to `a` is `{a=i32}`, which is also the projection of the whole type to `a`. With this law a caller that has
+/// projected a schema to all columns of a query can project the result again to the columns of one filter of the query.
 ///
 /// About [`project_paths`].
 #[tactic(auto, using(crate::proofs::lemmas::Parts::projection_of_projection, crate::proofs::lemmas::Parts::projected_once))]
@@ -127,14 +144,16 @@ pub fn projections_compose()
         → projected u (set.contains s) ≡ Some u }
 {}
 
-/// Let `u` be the projection of `t` to the paths that satisfy `w`, let `f` be a step, and suppose that the root doesn't
-/// satisfy `w`. (If it did, `t` would be kept whole.) Take those paths that begin with `f`, and remove this first step
-/// from each of them. If `f` leads to a type `x` in `t`, then `f` leads in `u` to the projection of `x` to these
-/// shortened paths. If `x` has no such projection, or if `f` leads to no type in `t`, then `f` leads to no type in `u`.
-/// For example, the type at `a` in the projection of `{a={b=i32, d=u8}, c=utf8}` to `a.b` is `{b=i32}`, which is the
-/// projection of `{b=i32, d=u8}` to `b`.
-/// So a reader that steps through a type and a set together (`FieldPathSet::cursor`) opens exactly what the projection
-/// keeps.
+/// Let `u` be the projection of `t` to the paths that satisfy `w`, and let `f` be a step. Suppose that the root doesn't
+/// satisfy `w`, because otherwise `t` is kept whole. Take those of the paths that begin with `f`, remove this first
+/// step from each of them, and call the results the shortened paths. Then there are two cases:
+/// - If `f` leads to a type `x` in `t`, and `x` has a projection to the shortened paths, then `f` leads to this
+///   projection in `u`.
+/// - Otherwise, `f` leads to no type in `u`.
+///
+/// For example, the projection of `{a={b=i32, d=u8}, c=utf8}` to `a.b` is `{a={b=i32}}`. In it the step `a` leads to
+/// `{b=i32}`, which is the projection of `{b=i32, d=u8}` to `b`. With this law a caller knows that a reader that steps
+/// through a type and a set together (`FieldPathSet::cursor`) opens exactly what the projection keeps.
 ///
 /// About [`project_paths`].
 #[tactic(auto, using(crate::proofs::lemmas::Projections::step_kept))]
@@ -144,8 +163,8 @@ pub fn a_projection_is_stepped_into()
 {}
 
 /// For all types `t` and `u`, if `u` is a projection of `t` and `t` is valid, then `u` is valid. For example, the
-/// projection `{a=i32}` of the valid type `{a=i32, b=utf8}` is valid. So a projection may be passed to calls that
-/// require valid types.
+/// projection `{a=i32}` of the valid type `{a=i32, b=utf8}` is valid. If a caller passes a projection to a call whose
+/// contract has clauses only for valid types, it needs this law to use these clauses.
 ///
 /// About [`project_paths`].
 #[tactic(auto, using(crate::proofs::lemmas::Projections::valid_kept))]
@@ -153,20 +172,19 @@ pub fn projections_are_valid()
     ensures { (t u : Tree) (w : PathPredicate) → projected t w ≡ Some u → Valid t → Valid u }
 {}
 
-/// Four statements about the values of a projection. Let `u` be the projection of `t` to the paths that satisfy `w`,
-/// and let `restricted t w v` be the value `v` of `t` without the fields that the projection leaves out. For example,
-/// the value `{a=1, b="x"}` of `{a=i32, b=utf8}`, restricted to `a`, is `{a=1}`.
-///
+/// Let `u` be the projection of `t` to the paths that satisfy `w`. For each value `v` of `t`, `restricted t w v` is `v`
+/// without the fields that the projection leaves out. For example, the value `{a=1, b="x"}` of `{a=i32, b=utf8}`,
+/// restricted to `a`, is `{a=1}`. The four clauses are:
 /// - `of`: for each value `v` of `t`, `restricted t w v` is a value of `u`.
 /// - `onto`: if `t` is valid, then each value of `u` is `restricted t w v` for some value `v` of `t`.
-/// - `found`: if the path `p` satisfies `w` and exists in `t`, then for each path that is `p` or begins with `p`, the
-///   values that lie along it in `v` are the values that lie along it in `restricted t w v`.
-/// - `beyond`: the premise of `found` that `p` exists in `t` is needed. A path through an extension exists in no type.
-///   But the values of an extension are the values of its storage type, so a value may lie along such a path in a value
-///   of `t` and be left out of the restricted value.
+/// - `found`: let `p` be a path that satisfies `w` and exists in `t`, and let `q` be `p` or a path that begins with
+///   `p`. Then the values that lie along `q` in `v` are the values that lie along `q` in `restricted t w v`.
+/// - `beyond`: `found` is false without the premise that `p` exists in `t`. For example, a path that steps into an
+///   extension type exists in no type. But each value of an extension type is a value of its storage type, so a value
+///   can lie along such a path in `v` without lying along it in `restricted t w v`.
 ///
-/// With this law a program that reads only the projection knows that it finds the same values along the paths of its
-/// query as in the whole data.
+/// With this law a caller knows that a program that reads only the projection finds the same values along the paths of
+/// its query as in the whole data.
 ///
 /// About [`project_paths`].
 #[tactic(auto, using(crate::proofs::lemmas::Restrictions::of_restricted, crate::proofs::lemmas::Restrictions::onto, crate::proofs::lemmas::Restrictions::lost_through_extensions))]

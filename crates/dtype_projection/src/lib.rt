@@ -4,18 +4,21 @@
 //! The projection of a type to a set of paths: the part of the type that a reader of these paths has to open. Query
 //! engines call this projection pushdown or nested column pruning.
 //!
-//! What is proved of `project_paths`:
+//! The following is proved of `project_paths`:
 //! - It returns a type exactly if one of the paths exists in the original type.
 //! - Every path that the set covers resolves in the projection as it does in the original type.
 //! - Nothing else is kept: the projection is the least part of the original type in which the paths resolve as before.
 //! - The projection depends only on which paths the set covers, so the least paths of the set are enough.
-//! - The projection of a valid type is valid, and its values are the values of the original type, restricted to the
-//!   paths.
+//! - The projection of a valid type is valid. Its values are the values of the original type without the fields that
+//!   the projection leaves out.
 //!
-//! The definitions are in `specs/`: `Projected` (the projection of a type, by recursion on it), `IsPart` (the least
-//! part that has the paths, without that recursion) and `Restricted` (a value, restricted to paths). Only private
-//! contracts cite `specs/private`. `proofs/lemmas` contains the lemmas that callers may cite, among them lemmas about
-//! paths in merged types (`Above`). `laws` states the theorems about the definitions.
+//! The definitions are in `specs/`:
+//! - `Projected`: the projection of a type, by recursion on the type.
+//! - `IsPart`: the parts of a type, and the least part in which the paths resolve as before.
+//! - `Restricted`: a value of the original type without the fields that the projection leaves out.
+//!
+//! Only private contracts cite `specs/private`. `proofs/lemmas` contains the lemmas that callers may cite, for example
+//! lemmas about paths in merged types (`Above`). `laws` states the theorems about the definitions.
 #![tactic(auto)]
 
 mod entered;

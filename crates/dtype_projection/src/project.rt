@@ -29,32 +29,39 @@ use dtype_paths::{FieldPathCursor, FieldPathSet};
 use dtype_types::{DType, StructFields};
 use std::alloc::Global;
 
-/// Returns the projection of `dtype` to the paths in `paths`: the type without the fields to which none of the paths
-/// leads. Returns `None` if none of the paths exists in `dtype`.
+/// Returns the projection of `dtype` to the paths in `paths`: the type without the fields that none of the paths needs.
+/// Returns `None` if none of the paths exists in `dtype`.
 ///
-/// For example, the projection of `{a=list({b=u32, c=utf8})?, d=i8}` to `a.[].b` and `x` is `{a=list({b=u32})?}`. A
-/// reader that needs only these paths has to open only these columns.
+/// A path that exists in `dtype` needs the type at its end, and every field through which it goes. A path that doesn't
+/// exist in `dtype` needs nothing. For example, the projection of `{a=list({b=u32, c=utf8})?, d=i8}` to `a.[].b` and
+/// `x` is `{a=list({b=u32})?}`. A reader that needs only these paths has to open only these columns.
 ///
 /// The rules are:
 /// - The type at the end of a path is kept whole.
-/// - A struct keeps the fields of which something is kept, in the order of the struct. A path steps into the first
-///   field with its name. A struct that would keep no field isn't kept.
-/// - A list or a fixed-size list keeps its size and its nullability around what is kept of its element.
-/// - No path steps into anything else, so a map, a union or an extension is kept whole or not at all.
+/// - A struct keeps those fields of which at least a part is kept, in their order, and keeps its nullability. If
+///   several fields have the same name, a path leads to the first of them. If no field would be kept, the struct isn't
+///   kept either.
+/// - A list keeps its nullability, and a fixed-size list keeps its nullability and its size. The element type is
+///   replaced by the part of it that is kept. If no part of the element type is kept, the list isn't kept either.
+/// - Paths don't lead into any other type. For example, a map, a union or an extension type is kept whole or not at
+///   all.
 ///
 /// The Rust library has no such call.
 ///
-/// The call steps through the type and the set together (`FieldPathSet::cursor`), so its time grows with the number of
-/// steps of the set that lead into the type and with the number of fields that are kept. At each struct it looks up
-/// each name with which paths continue once, whatever the number of fields is. So a projection to ten paths takes about
-/// as long if the type has ten thousand columns as if it has a hundred. A set of ten thousand names is projected from
-/// ten columns in at most about the time that it took to make the set. The fields that are kept are sorted by their
-/// positions and copied, and their names are indexed. A struct of which everything is kept is shared and not built
-/// again.
+/// The call steps through the type and the set together (`FieldPathSet::cursor`). At each struct that it reaches, it
+/// looks up each name with which paths of the set continue, once. So its time grows with the number of these names and
+/// with the number of kept fields, and hardly with the number of fields of the struct. For example, a projection to ten
+/// paths takes about as long for a type with ten thousand columns as for a type with a hundred. A projection of a type
+/// with ten columns to a set of ten thousand names takes at most about as long as it took to make the set.
+///
+/// The call sorts the kept fields of a struct by their positions, copies them, and makes an index of their names. There
+/// are two cases in which it makes no new struct, but shares the fields with `dtype`: if a path ends at the struct or
+/// at a type that contains the struct, or if a path ends at each field of the struct. For example, the projection of
+/// `{a={b=i32}}` to `a.b` shares the inner struct with the original type, and the outer struct is made again.
 ///
 /// # Errors
 ///
-/// - `OutOfMemory` (0): an allocation fails.
+/// - `OutOfMemory` (0): an allocation fails, or a reference count is at its maximum.
 pub fn project_paths(
     alloc: Global,
     dtype: &DType,

@@ -1,7 +1,7 @@
 -- SPDX-License-Identifier: Apache-2.0
 -- SPDX-FileCopyrightText: Copyright the Vortex contributors
 
--- What a session accepts: a message that reads as a type, which is then valid, and admitted.
+-- A session accepts a message m as a type t if m reads as t, t is valid, and the session admits t.
 use Rattle.dtype_types.specs.tree.Tree.{Tree}
 use Rattle.dtype_types.specs.tree.Valid.{Valid}
 use Rattle.vortex_dtype.specs.Meaning.{Meaning, Admits}

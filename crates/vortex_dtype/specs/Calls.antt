@@ -1,7 +1,7 @@
 -- SPDX-License-Identifier: Apache-2.0
 -- SPDX-FileCopyrightText: Copyright the Vortex contributors
 
--- A session after a list of calls, by the list alone.
+-- A session after a list of calls, as it is determined by the list.
 use Rattle.std.specs.Prelude.{◌≢◌, ℕ, List, [], ◌∷◌, Bool, true, false}
 use Rattle.vortex_dtype.specs.Meaning.{Rewrites, Meaning, register_in, allow_unknown_in}
 
@@ -10,13 +10,13 @@ pub data Call : Type 0 where
   register : List ℕ → Rewrites → Call
   allow : Call
 
--- the session after these calls, the first of them first
+-- the session after these calls, made in the order of the list
 abbrev pub after : List Call → Meaning → Meaning
 after [] m = m
 after (register i r ∷ calls) m = after calls (register_in i r m)
 after (allow ∷ calls) m = after calls (allow_unknown_in m)
 
--- no call of these registers the id
+-- none of these calls registers a plugin under the id
 abbrev pub LeavesAlone : List ℕ → List Call → Type 0
 LeavesAlone id [] = Unit {0}
 LeavesAlone id (register i r ∷ calls) = (i ≢ id) × LeavesAlone id calls

@@ -1,15 +1,15 @@
 -- SPDX-License-Identifier: Apache-2.0
 -- SPDX-FileCopyrightText: Copyright the Vortex contributors
 
--- A message tree as a message can hold it: its bytes are below 256, and each number is in the range of its
--- field's type, 32 bits with or without a sign. Only code that reads a message can know it.
+-- The message trees that a message can have: the bytes of metadata are below 256, and each number is in the range of
+-- its field's type, which is 32 bits with or without a sign. Only code that reads a message can know this.
 use Rattle.std.specs.Prelude.{◌<◌, ◌^◌, ℤ, List, All, FitsSigned}
 use Rattle.std.specs.Int.{w32}
 use Rattle.dtype_messages.specs.Message.{Message, Child, Messages, missing, null, bool, primitive, decimal, utf8, binary, list, fixed_size_list, map_of, struct, union, variant, extension, absent, present, no_message, more}
 use Rattle.vortex_dtype.specs.Meaning.{Bytes}
 use Rattle.vortex_dtype.specs.ReadInOrder.{or_empty}
 
--- tags are numbers of 32 bits with a sign
+-- the tags are signed 32-bit numbers
 abbrev pub AreTags : List ℤ → Type 0
 AreTags gs = All (λ g. FitsSigned w32 g) gs
 

@@ -1,9 +1,9 @@
 -- SPDX-License-Identifier: Apache-2.0
 -- SPDX-FileCopyrightText: Copyright the Vortex contributors
 
--- What a plugin and a session mean. From the documentation of `ExtDTypePlugin` and `DTypeSession`: a plugin says which
--- bytes it writes back for an extension's metadata; a session knows which plugin is registered under an id, and whether
--- the metadata of unknown ids is kept.
+-- What plugins and sessions are in contracts. From the documentation of `ExtDTypePlugin` and `DTypeSession`: a plugin
+-- determines which bytes it writes back for the metadata of an extension. A session determines which plugin is
+-- registered under an id, and whether the metadata of unknown ids is kept.
 use Rattle.std.specs.Prelude.{◌≡◌, ◌↔◌, ℕ, List, Option, Some, None, IsSome, Contains, Bool, true, false, if◌then◌else◌, bytes_eq}
 use Rattle.std.specs.Cmp.Lexicographic.{slice_cmp}
 use Rattle.std.specs.List.Sorted.{IsStrictlySortedBy}
@@ -17,17 +17,18 @@ use Rattle.dtype_types.specs.tree.Tree.{Tree, no_items, item, null, bool, primit
 use Rattle.dtype_types.specs.tree.Valid.{Valid}
 use Rattle.dtype_types.specs.nullability.Nullable.{SetNull}
 
--- a plugin's meaning: the bytes that it writes back for these bytes over this storage, if it accepts them
+-- a plugin in contracts: the bytes that it writes back for these bytes over this storage, or `None` if it doesn't
+-- accept them
 abbrev pub Rewrites : Type 0
 Rewrites = List ℕ → Tree → Option (List ℕ)
 
--- the two laws of a plugin's meaning: what is written back is bytes and is written back unchanged, and the outer
--- nullability of the storage makes no difference
+-- the two laws of a plugin: what it writes back consists of bytes and is written back unchanged if it is read again,
+-- and the outer nullability of the storage makes no difference
 pub record Lawful (r : Rewrites) : Type 0 where
   pub again : (b c : List ℕ) (s : Tree) → Bytes b → Valid s → r b s ≡ Some c → Bytes c × (r c s ≡ Some c)
   pub outer : (b : List ℕ) (s t : Tree) (n : Nullability) → Bytes b → Valid s → SetNull s n t → r b t ≡ r b s
 
--- a session's meaning: what is registered under an id, and whether unknown ids are kept
+-- a session in contracts: what is registered under an id, and whether unknown ids are kept
 pub record Meaning : Type 0 where
   pub registered : List ℕ → Option Rewrites
   pub unknown : Bool
@@ -53,8 +54,9 @@ pub record ListsIds (m : Meaning) (ids : List (List ℕ)) : Type 0 where
 pub record LawfulSession (m : Meaning) : Type 0 where
   pub each : (id : List ℕ) (r : Rewrites) → m.registered id ≡ Some r → Lawful r
 
--- the bytes that are kept of these bytes, if they are accepted: what the registered plugin writes back, and where none
--- is registered the bytes themselves, if unknown ids are kept
+-- The bytes that are kept in place of these bytes. If a plugin is registered, they are what it writes back, or `None`
+-- if it doesn't accept the bytes. If no plugin is registered, they are the bytes themselves if unknown ids are kept,
+-- and otherwise `None`.
 abbrev pub kept : Option Rewrites → Bool → List ℕ → Tree → Option (List ℕ)
 kept None unknown b s = if unknown then Some b else None
 kept (Some r) unknown b s = r b s
@@ -63,16 +65,16 @@ kept (Some r) unknown b s = r b s
 abbrev pub keeps : Meaning → List ℕ → List ℕ → Tree → Option (List ℕ)
 keeps m id b s = kept (m.registered id) m.unknown b s
 
--- the error where nothing is kept: the plugin's, or that none is registered
+-- the error if nothing is kept: that the plugin doesn't accept the bytes, or that no plugin is registered
 abbrev pub unkept_error_of : Option Rewrites → VortexError
 unkept_error_of None = Faulty ExtensionUnregistered
 unkept_error_of (Some r) = MetadataRefused
 
--- that of an id under what a session means
+-- the error of a session for an id if nothing is kept
 abbrev pub unkept_error : Meaning → List ℕ → VortexError
 unkept_error m id = unkept_error_of (m.registered id)
 
--- the session admits a type: of every extension in it, it keeps the metadata unchanged
+-- the session admits a type: it keeps the metadata of every extension in the type unchanged
 abbrev mutual
   pub Admits : Meaning → Tree → Type 0
   Admits m null = Unit {0}

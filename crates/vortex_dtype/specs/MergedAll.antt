@@ -10,12 +10,12 @@ use Rattle.dtype_types.specs.tree.Erase.{erase}
 use Rattle.dtype_types.specs.tree.Tree.{Tree}
 use Rattle.dtype_types.specs.values.Value.{IncludedIn}
 
--- t, merged with one of the types us after another, if there is always such a type
+-- t, merged with one of the types us after another, or `None` if two types can't be merged on the way
 abbrev pub merged_all : Tree → List Tree → Option Tree
 merged_all t [] = Some t
 merged_all t (u ∷ us) = option_and_then (λ m. merged_all m us) (merged t u)
 
--- each of the types us is t but for nullabilities
+-- each of the types us differs from t at most in nullabilities
 unfoldable pub AreAlike : Tree → List Tree → Type 0
 AreAlike t us = AllByRecursion (λ u. erase t ≡ erase u) us
 

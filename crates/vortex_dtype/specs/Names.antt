@@ -1,7 +1,7 @@
 -- SPDX-License-Identifier: Apache-2.0
 -- SPDX-FileCopyrightText: Copyright the Vortex contributors
 
--- Whether a name is among names, for callers whose contracts ask it of many. A choice of ours.
+-- Whether a name is among names, for callers whose contracts require it of many names. A choice of this project.
 use Rattle.std.specs.Prelude.{ℕ, List}
 use Rattle.std.specs.List.{Contains}
 

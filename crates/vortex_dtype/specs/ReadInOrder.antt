@@ -1,9 +1,10 @@
 -- SPDX-License-Identifier: Apache-2.0
 -- SPDX-FileCopyrightText: Copyright the Vortex contributors
 
--- Reading as a function on message trees: the type, or the first fault with its values, the faults of a child before
--- what its parent checks of it. From the documentation of the errors. The relations of `Reads` leave the order open; the
--- law `read_is_what_reads` leads from here to them.
+-- Reading as a function on message trees. It returns the type, or the first fault with its values. The faults of a
+-- child come before the faults for which the parent tests the child. From the documentation of the errors. The
+-- relations of `Reads` specify no order. The law `read_is_what_reads` states how `read` and these relations are
+-- connected.
 use Rattle.std.specs.Prelude.{◌≡◌, ℕ, ℤ, pos, Bool, false, List, [], ◌∷◌, length, Option, Some, None, Result, Ok, Err, if◌then◌else◌, ◌==◌, ◌||◌, nat_eq, nat_lt, int_lt, bytes_eq}
 use Rattle.std.specs.List.{zip, list_any}
 use Rattle.dtype_base.specs.declared.nullability.Nullability.{Nullability}
@@ -28,7 +29,7 @@ abbrev pub ◌>>=◌ : {A B : Type 0} → Result A VortexError → (A → Result
 (Ok x) >>= f = f x
 (Err e) >>= f = Err e
 
--- the value, or this error where there is none
+-- the value, or this error if there is none
 abbrev pub or_fault : {A : Type 0} → VortexError → Option A → Result A VortexError
 or_fault k None = Err k
 or_fault k (Some x) = Ok x
@@ -51,7 +52,7 @@ decimal_made p k =
 unfoldable pub decimal_read : ℕ → ℤ → Nullability → Result Tree VortexError
 decimal_read p k n = or_fault (Faulty PrecisionRange) (natural_byte p) >>= λ q. (or_fault (Faulty ScaleRange) (signed_byte k) >>= λ c. (decimal_made q c >>= λ d. Ok (of.decimal d n)))
 
--- the type t, where a key's nullability allows it
+-- the type t if the key is non-nullable, and otherwise the error `MapKeyNullable`
 abbrev pub when_required : Nullability → Tree → Result Tree VortexError
 when_required NonNullable t = Ok t
 when_required Nullable t = Err MapKeyNullable
@@ -59,11 +60,11 @@ when_required Nullable t = Err MapKeyNullable
 unfoldable pub map_read : Tree → Tree → Bool → Nullability → Result Tree VortexError
 map_read x y o n = when_required (nullability x) (of.map_of x y o n)
 
--- as many names as types
+-- the struct of these names and types, or an error if there aren't as many names as types
 unfoldable pub struct_read : List (List ℕ) → List Tree → Nullability → Result Tree VortexError
 struct_read ns ts n = if length ns == length ts then Ok (of.struct (fields (zip ns ts)) n) else Err (Faulty StructLengths)
 
--- the tags, each a byte, or the first fault
+-- the tags if each of them is a byte, or the first fault
 unfoldable pub read_tags : List ℤ → Result (List ℕ) VortexError
 read_tags [] = Ok []
 read_tags (t ∷ ts) = or_fault (Faulty TypeIdRange) (integer_byte t) >>= λ x. (read_tags ts >>= λ xs. Ok (x ∷ xs))
@@ -85,7 +86,8 @@ union_read ns ts gs n = read_tags gs >>= λ tags. union_made ns ts tags n
 unfoldable pub extension_read : Meaning → List ℕ → List ℕ → Tree → Result Tree VortexError
 extension_read s id b x = or_fault (unkept_error s id) (keeps s id b x) >>= λ c. Ok (of.extension id c x)
 
--- what a message reads as, or its first fault: its parts in order, then what they make
+-- The type that a message reads as, or its first fault. The parts of the message are read in order, and then the type
+-- is made of them.
 unfoldable mutual
   pub read : Meaning → Message → Result Tree VortexError
   read s missing = Err (Faulty TypeMissing)
@@ -111,12 +113,12 @@ unfoldable mutual
   read_all s no_message = Ok []
   read_all s (more m ms) = read s m >>= λ x. (read_all s ms >>= λ xs. Ok (x ∷ xs))
 
--- the result is this error; where it is `OutOfMemory`, which any call may return, nothing is said
+-- the result is this error. If the error is `OutOfMemory`, this requires nothing, because any call may return it.
 abbrev pub Fails : {Y : Type 0} → VortexError → Result Y VortexError → Type 0
 Fails OutOfMemory r = Unit {0}
 Fails e r = r ≡ Err e
 
--- the result of a call, seen by view, is what reading gives
+-- the result of a call is what `read` returns, if `view` is applied to the value
 abbrev pub Gives : {X Y : Type 0} → (X → Y) → Result X VortexError → Result Y VortexError → Type 0
 Gives view (Ok x) r = r ≡ Ok (view x)
 Gives view (Err e) r = Fails e r

@@ -36,7 +36,7 @@ AreBytes [] [] = Unit {0}
 AreBytes (g ∷ gs) (k ∷ tags) = (integer_byte g ≡ Some k) × AreBytes gs tags
 AreBytes _ _ = ⊥
 
--- the message reads as the type t, under what a session means
+-- the message reads as the type t, with the session s
 abbrev mutual
   pub Reads : Meaning → Message → Tree → Type 0
   Reads s missing t = ⊥

@@ -1,7 +1,8 @@
 -- SPDX-License-Identifier: Apache-2.0
 -- SPDX-FileCopyrightText: Copyright the Vortex contributors
 
--- Whether a plugin is registered under an id, for callers whose contracts ask it of many ids. A choice of ours.
+-- Whether a plugin is registered under an id, for callers whose contracts require it of many ids. A choice of this
+-- project.
 use Rattle.std.specs.Prelude.{ℕ, List, IsSome}
 use Rattle.vortex_dtype.specs.Meaning.{Meaning}
 

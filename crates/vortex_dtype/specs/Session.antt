@@ -1,7 +1,7 @@
 -- SPDX-License-Identifier: Apache-2.0
 -- SPDX-FileCopyrightText: Copyright the Vortex contributors
 
--- What a session means: its plugins by their ids, as far as they mean something, and its flag.
+-- What a session is in contracts: what its plugins do with metadata, by their ids, and its flag.
 use Rattle.std.specs.Prelude.{List, Bool, option_map, bytes_eq, string_bytes}
 use Rattle.std.specs.Map.{lookup}
 use Rattle.std.specs.declared.string.String.{String}

@@ -1,8 +1,8 @@
 -- SPDX-License-Identifier: Apache-2.0
 -- SPDX-FileCopyrightText: Copyright the Vortex contributors
 
--- What a vtable of a typed extension means, and its laws. From the documentation of `ExtVTable`: it reads
--- metadata from bytes, writes it as bytes, and says which storage types it accepts.
+-- What a vtable of a typed extension does, and its laws. From the documentation of `ExtVTable`: it reads metadata from
+-- bytes, writes it as bytes, and determines which storage types it accepts.
 use Rattle.std.specs.Prelude.{◌≡◌, ℕ, List, Option, Some, None, Bool, if◌then◌else◌, option_and_then}
 use Rattle.dtype_base.specs.declared.nullability.Nullability.{Nullability}
 use Rattle.dtype_types.specs.tree.Tree.{Tree}
@@ -18,6 +18,7 @@ pub record Typed {M : Type 0} (reads : List ℕ → Option M) (writes : M → Op
   pub as_bytes : (b : List ℕ) (m : M) (c : List ℕ) → Bytes b → reads b ≡ Some m → writes m ≡ Some c → Bytes c
   pub outer : (m : M) (s t : Tree) (n : Nullability) → Valid s → SetNull s n t → fits m t ≡ fits m s
 
--- the meaning of a vtable as a plugin: it reads the bytes, validates the storage, and writes the bytes
+-- what a vtable does as a plugin: it reads the bytes, tests whether the metadata fits the storage, and writes the
+-- metadata
 abbrev pub rewritten : {M : Type 0} → (List ℕ → Option M) → (M → Option (List ℕ)) → (M → Tree → Bool) → Rewrites
 rewritten reads writes fits = λ b s. option_and_then (λ m. if fits m s then writes m else None) (reads b)

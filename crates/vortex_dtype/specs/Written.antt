@@ -1,7 +1,7 @@
 -- SPDX-License-Identifier: Apache-2.0
 -- SPDX-FileCopyrightText: Copyright the Vortex contributors
 
--- The message of a type, with every child, flag and metadata, from the documentation of `to_proto`; and the normal
+-- The message of a type, with every child, flag and metadata, from the documentation of `to_proto`. Also the normal
 -- form of a message, in which each extension has the metadata that the session keeps.
 use Rattle.std.specs.Prelude.{◌≡◌, ℕ, ℤ, pos, List, map, Some, Bool, true, false}
 use Rattle.dtype_base.specs.declared.nullability.Nullability.{Nullability}
@@ -32,7 +32,7 @@ written_variant_names vs = variant_names (triples vs)
 abbrev pub written_tags : Variants → List ℤ
 written_tags vs = map pos (variant_tags (triples vs))
 
--- the message of a type: every child, flag and number, and the metadata, also where it is empty
+-- the message of a type: every child, flag and number, and the metadata, even if it is empty
 abbrev mutual
   pub written : Tree → Message
   written of.null = null
@@ -54,7 +54,7 @@ abbrev mutual
   written_items no_items = no_message
   written_items (item n x g rest) = more (written x) (written_items rest)
 
--- the message of an extension over a storage of this message: its id, and its metadata, also where that is empty
+-- the message of an extension over a storage with this message: its id, and its metadata, even if that is empty
 abbrev pub extension_message : ExtDTypeRef → Message → Message
 extension_message e storage = extension (extension_id e) (present storage) (Some (extension_metadata e))
 

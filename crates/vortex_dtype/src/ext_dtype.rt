@@ -29,14 +29,14 @@ pub struct ExtDType<V: ExtVTable> {
 
 impl<V: ExtVTable + Default> ExtDType<V> {
     /// Returns the extension type of the default vtable with this metadata and this storage type. If the storage type
-    /// isn't valid, it isn't specified which metadata the vtable accepts.
+    /// isn't valid, the contract doesn't specify which metadata the vtable accepts.
     ///
     /// # Errors
     ///
     /// If the storage type is valid:
     ///
     /// - `MetadataRefused` (22): the metadata doesn't fit the storage type.
-    /// - `OutOfMemory` (0): an allocation fails. It may come in place of the other error.
+    /// - `OutOfMemory` (0): an allocation fails. This error may be returned in place of `MetadataRefused`.
     pub fn try_new(alloc: Global, metadata: V::Metadata, storage: DType) -> VortexResult<Self>
         ensures vtable { IfOk result (λ x. V.is_default (vtable_of x)) }
         ensures made { IfOk result (λ x. (metadata_of x ≡ metadata) × (storage_of x ≡ tree storage)) }
@@ -53,14 +53,14 @@ impl<V: ExtVTable + Default> ExtDType<V> {
 
 impl<V: ExtVTable> ExtDType<V> {
     /// Returns the extension type of this vtable with this metadata and this storage type. If the storage type isn't
-    /// valid, it isn't specified which metadata the vtable accepts.
+    /// valid, the contract doesn't specify which metadata the vtable accepts.
     ///
     /// # Errors
     ///
     /// If the storage type is valid:
     ///
     /// - `MetadataRefused` (22): the metadata doesn't fit the storage type.
-    /// - `OutOfMemory` (0): an allocation fails. It may come in place of the other error.
+    /// - `OutOfMemory` (0): an allocation fails. This error may be returned in place of `MetadataRefused`.
     pub fn try_with_vtable(
         alloc: Global,
         vtable: V,
@@ -111,12 +111,12 @@ impl<V: ExtVTable> ExtDType<V> {
         &self.storage
     }
 
-    /// Returns the metadata as bytes, as the vtable writes it.
+    /// Returns the bytes that the vtable writes for the metadata.
     ///
     /// # Errors
     ///
     /// - `MetadataRefused` (22): the vtable can't write the metadata.
-    /// - `OutOfMemory` (0): an allocation fails. It may come in place of the other error.
+    /// - `OutOfMemory` (0): an allocation fails. This error may be returned in place of `MetadataRefused`.
     pub fn serialize_metadata(&self, alloc: Global) -> VortexResult<Vec<u8>>
         ensures { MatchResult result
             (λ v. V.writes (vtable_of self.now) (V.meant (metadata_of self.now)) ≡ Some v.items)
@@ -126,15 +126,16 @@ impl<V: ExtVTable> ExtDType<V> {
         self.vtable.serialize_metadata(alloc, &self.metadata)
     }
 
-    /// Returns the extension type as an erased one, with the outer nullability of its storage type set to `n`. The id
-    /// is that of this extension type, and the metadata is what the vtable writes. If `n` is `NonNullable`, the caller
-    /// must prove that the storage type can be made non-nullable: `Null` can't be.
+    /// Returns the erased form of the extension type, with the outer nullability of the storage type set to `n`. The
+    /// erased form contains the id, the bytes that the vtable writes for the metadata, and the storage type. If `n` is
+    /// `NonNullable`, the caller must prove that the storage type can be made non-nullable. For example, the type
+    /// `Null` can't be made non-nullable.
     ///
     /// # Errors
     ///
     /// - `MetadataRefused` (22): the vtable can't write the metadata.
-    /// - `OutOfMemory` (0): an allocation fails, or a reference count is at its maximum. It may come in place of the
-    ///   other error.
+    /// - `OutOfMemory` (0): an allocation fails, or a reference count is at its maximum. This error may be returned in
+    ///   place of `MetadataRefused`.
     #[tactic(auto, using(dtype_types::proofs::lemmas::Validity::validity))]
     pub fn with_nullability(&self, alloc: Global, n: Nullability) -> VortexResult<ExtDTypeRef>
         requires { n ≡ NonNullable → CanBeNonNullable (storage_of self.now) }
@@ -153,13 +154,13 @@ impl<V: ExtVTable> ExtDType<V> {
         ExtDTypeRef::from_parts(alloc, id, bytes, storage)
     }
 
-    /// Consumes the extension type and returns it as an erased one: its id, the metadata that the vtable writes, and
-    /// its storage type.
+    /// Consumes the extension type and returns its erased form: its id, the bytes that the vtable writes for the
+    /// metadata, and its storage type.
     ///
     /// # Errors
     ///
     /// - `MetadataRefused` (22): the vtable can't write the metadata.
-    /// - `OutOfMemory` (0): an allocation fails. It may come in place of the other error.
+    /// - `OutOfMemory` (0): an allocation fails. This error may be returned in place of `MetadataRefused`.
     pub fn erased(self, alloc: Global) -> VortexResult<ExtDTypeRef>
         ensures made { IfOk result (λ e. extension_tree e
             ≡ extension (V.id_text (vtable_of self)) (extension_metadata e) (storage_of self)) }
@@ -179,17 +180,18 @@ impl<V: ExtVTable> ExtDType<V> {
         ExtDTypeRef::from_parts(alloc, id, bytes, storage)
     }
 
-    /// Returns the typed extension type of an erased one. The vtable reads the metadata from the bytes, and the storage
-    /// type stays the same.
+    /// Returns the typed form of an erased extension type. It contains `vtable`, the metadata that the vtable reads
+    /// from the bytes of the erased extension type, and the same storage type.
     ///
     /// # Errors
     ///
-    /// With each error the erased extension is returned unchanged:
+    /// Each error is returned together with the erased extension type, which is unchanged:
     ///
-    /// - `ExtensionIdDiffers` (23): exactly if the id of the erased extension isn't that of the vtable, whatever the
-    ///   storage type is.
-    /// - `MetadataRefused` (22): if the storage type is valid, exactly if the vtable can't read the bytes or the
-    ///   metadata that it reads doesn't fit the storage type.
+    /// - `ExtensionIdDiffers` (23): the id of the erased extension type isn't the id of the vtable. The storage type
+    ///   makes no difference.
+    /// - `MetadataRefused` (22): the ids are equal, but the vtable can't read the metadata, or the metadata that it
+    ///   reads doesn't fit the storage type. If the storage type isn't valid, the contract doesn't specify which
+    ///   metadata fits it.
     /// - `OutOfMemory` (0): an allocation fails.
     pub fn try_downcast(
         alloc: Global,

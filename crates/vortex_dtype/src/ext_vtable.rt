@@ -7,12 +7,14 @@ use dtype_types::DType;
 use std::alloc::Global;
 
 /// The operations of one extension type: its id, how its metadata is read from bytes and written as bytes, and which
-/// storage types it accepts.
+/// storage types it accepts. For example, the vtable of a date type may have a unit of time as its metadata, and accept
+/// `i32` as its storage type.
 ///
-/// Each implementation proves the three laws of `Typed` (`specs/Typed`). First, if metadata can be written, then what
-/// is written is read back as the same metadata. Second, if metadata that was read from bytes can be written, then what
-/// is written consists of bytes (numbers below 256). Third, whether metadata fits a storage type doesn't depend on the
-/// outer nullability of the storage type.
+/// Each implementation proves the three laws of `Typed` (`specs/Typed`):
+/// - If metadata can be written, then the written bytes are read back as the same metadata.
+/// - If metadata was read from bytes and can be written, then the written metadata consists of bytes (numbers below
+///   256).
+/// - Whether metadata fits a storage type doesn't depend on the outer nullability of the storage type.
 pub trait ExtVTable: Drop {
     ghost use Rattle.std.specs.Prelude.{◌≡◌, ◌⊎◌, ℕ, List, Option, Some, None, Bool, true, false, IfErr, OnOk, MatchResult};
     ghost use Rattle.dtype_base.specs.declared.vortex_error.VortexError.TheVariants.{OutOfMemory, MetadataRefused};
@@ -50,7 +52,7 @@ pub trait ExtVTable: Drop {
     /// # Errors
     ///
     /// - `MetadataRefused` (22): the metadata can't be written.
-    /// - `OutOfMemory` (0): an allocation fails. It may come in place of the other error.
+    /// - `OutOfMemory` (0): an allocation fails. This error may be returned in place of `MetadataRefused`.
     fn serialize_metadata(&self, alloc: Global, metadata: &Self::Metadata) -> VortexResult<Vec<u8>>
         ensures { MatchResult result
             (λ v. writes self.now (meant metadata.now) ≡ Some v.items)
@@ -62,20 +64,21 @@ pub trait ExtVTable: Drop {
     /// # Errors
     ///
     /// - `MetadataRefused` (22): the bytes aren't metadata of this extension type.
-    /// - `OutOfMemory` (0): an allocation fails. It may come in place of the other error.
+    /// - `OutOfMemory` (0): an allocation fails. This error may be returned in place of `MetadataRefused`.
     fn deserialize_metadata(&self, alloc: Global, bytes: &[u8]) -> VortexResult<Self::Metadata>
         ensures { MatchResult result
             (λ m. reads self.now bytes.now ≡ Some (meant m))
             (λ e. (e ≡ OutOfMemory) ⊎ ((e ≡ MetadataRefused) × (reads self.now bytes.now ≡ None))) };
 
-    /// Returns `Ok` if the metadata fits the storage type.
+    /// Returns `Ok(())` if the metadata fits the storage type. If the storage type isn't valid, the contract doesn't
+    /// specify the result.
     ///
     /// # Errors
     ///
     /// If the storage type is valid:
     ///
     /// - `MetadataRefused` (22): the metadata doesn't fit the storage type.
-    /// - `OutOfMemory` (0): an allocation fails. It may come in place of the other error.
+    /// - `OutOfMemory` (0): an allocation fails. This error may be returned in place of `MetadataRefused`.
     fn validate_dtype(
         &self,
         alloc: Global,

@@ -15,12 +15,12 @@ use std::alloc::Global;
 use std::fmt;
 use std::marker::Model;
 
-/// The metadata of an extension type that isn't known: its bytes.
+/// The metadata of an extension type whose own vtable isn't known. It consists of the bytes of the metadata, unchanged.
 #[derive(Debug, Drop, PartialEq, Eq, Hash)]
 pub struct ForeignExtMetadata(pub Vec<u8>);
 
 impl ForeignExtMetadata {
-    /// Returns a copy of the metadata.
+    /// Returns a copy of the metadata with the same bytes.
     ///
     /// # Errors
     ///
@@ -44,8 +44,8 @@ impl fmt::Display for ForeignExtMetadata {
     }
 }
 
-/// The vtable of an extension type that isn't known. It reads and writes any bytes unchanged, and accepts every storage
-/// type.
+/// A vtable for an extension type whose own vtable isn't known. It reads and writes all bytes unchanged, and accepts
+/// every storage type.
 #[derive(Debug, Drop, PartialEq, Eq, Hash)]
 pub struct ForeignExtDType {
     id: ExtId,
@@ -63,7 +63,9 @@ impl Model for ForeignExtDType {
 }
 
 impl ForeignExtDType {
-    /// Returns the vtable with this id. Doesn't allocate.
+    /// Returns the vtable with this id.
+    ///
+    /// Doesn't allocate.
     pub fn new(id: ExtId) -> Self
         ensures { result ≡ id }
     {
@@ -87,7 +89,7 @@ impl ForeignExtDType {
         ExtDTypeRef::from_parts(alloc, id, metadata, storage)
     }
 
-    /// Returns a copy of the vtable, which shares the text of the id with the original.
+    /// Returns a copy of the vtable. The copy and the original share the text of the id.
     ///
     /// # Errors
     ///

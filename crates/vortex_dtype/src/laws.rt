@@ -1,8 +1,9 @@
 // SPDX-License-Identifier: Apache-2.0
 // SPDX-FileCopyrightText: Copyright the Vortex contributors
 
-//! Laws of sessions, of reading and of writing: theorems about the definitions. Each function's contract is the law,
-//! and its body is empty. The modules `types`, `paths` and so on contain the laws of the libraries below.
+//! Laws of sessions, of reading messages and of writing messages. They are theorems about the definitions. Each law is
+//! the contract of a function whose body is empty. The modules `types`, `paths` and so on contain the laws of the
+//! libraries below.
 ghost use Rattle.std.specs.Prelude.{◌≡◌, ◌≢◌, ◌↔◌, ◌++◌, ◌∷◌, ℕ, List, Some, None, Ok, Err, true};
 ghost use Rattle.std.specs.Bool.{Decides};
 ghost use Rattle.std.specs.List.{list_any};
@@ -32,11 +33,14 @@ pub use dtype_projection::laws as projections;
 pub use dtype_types::{laws as types, nullability_laws as merging};
 use std::hash::Hash;
 
-/// Three statements about registering a plugin under the id `id` in a session `s`, where `r` is what the plugin does
-/// with metadata. First, `r` is then registered under `id`. Second, what is registered under every other id is
-/// unchanged. Third, whether unknown ids are kept is unchanged. For example, registering a plugin of `x.tag` doesn't
-/// change how metadata of `x.text` is read. So libraries can register their plugins in one session without affecting
-/// each other.
+/// Let a plugin be registered under the id `id` in a session `s`, and let `r` be what the plugin does with metadata.
+/// Then:
+/// - `registered`: `r` is registered under `id`.
+/// - `others`: for every other id, what is registered under it is unchanged.
+/// - `unknown`: whether the session keeps unknown ids is unchanged.
+///
+/// For example, registering a plugin of `x.tag` doesn't change how metadata of `x.text` is read. With this law a caller
+/// knows that libraries can register plugins under different ids in one session without affecting each other.
 ///
 /// About [`DTypeSession::register`].
 #[tactic(auto, using(crate::proofs::lemmas::Sessions::sessions, crate::proofs::lemmas::Sessions::session_laws))]
@@ -47,9 +51,9 @@ pub fn register_changes_one_id()
     ensures unknown { (s : Meaning) (id : List ℕ) (r : Rewrites) → (register_in id r s).unknown ≡ s.unknown }
 {}
 
-/// For each session `s`, after `allow_unknown` is called the session keeps unknown ids, and what is registered under
-/// each id is unchanged. For example, metadata of a registered id `x.tag` is still read by its plugin. So a program may
-/// call `allow_unknown` before or after it registers plugins.
+/// For each session `s`, after a call of `allow_unknown` the session keeps unknown ids, and what is registered under
+/// each id is unchanged. For example, if a plugin is registered under `x.tag`, it still reads the metadata of `x.tag`.
+/// With this law a caller knows that it may call `allow_unknown` before or after it registers plugins.
 ///
 /// About [`DTypeSession::allow_unknown`].
 #[tactic(auto, using(crate::proofs::lemmas::Sessions::sessions, crate::proofs::lemmas::Sessions::session_laws))]
@@ -59,9 +63,9 @@ pub fn allow_unknown_changes_the_flag()
 {}
 
 /// For each list of calls on a new session and each id `id`, if one of the calls registers a plugin under `id` and no
-/// later call registers another under `id`, then after all calls that plugin is registered under `id`. For example, if
-/// two plugins of `x.tag` are registered one after the other, the second is used. So the order in which libraries
-/// register their plugins decides.
+/// later call registers a plugin under `id`, then after all calls that plugin is registered under `id`. For example, if
+/// two plugins of `x.tag` are registered one after the other, the session uses the second. With this law a caller knows
+/// which plugin a session uses if several libraries register plugins under the same id.
 ///
 /// About [`DTypeSession::register`] and [`DTypeSession::registry`].
 #[tactic(auto, using(crate::proofs::lemmas::Sessions::sessions, crate::proofs::lemmas::Sessions::session_laws))]
@@ -72,7 +76,7 @@ pub fn last_registered_counts()
 
 /// For each list of calls on a new session and each id `id`, if none of the calls registers a plugin under `id`, then
 /// after all calls no plugin is registered under `id`. For example, if only a plugin of `x.tag` is registered,
-/// `registry("x.text")` returns `false`. So a program knows which ids its session can read.
+/// `registry("x.text")` returns `false`. With this law a caller knows under which ids its session has no plugin.
 ///
 /// About [`DTypeSession::new`] and [`DTypeSession::registry`].
 #[tactic(auto, using(crate::proofs::lemmas::Sessions::sessions, crate::proofs::lemmas::Sessions::session_laws))]
@@ -82,8 +86,8 @@ pub fn none_registered_counts()
 {}
 
 /// For each list of calls on a new session, after all calls the session keeps unknown ids exactly if one of the calls
-/// was `allow_unknown`. For example, they are still kept after a plugin is registered later. So no later call makes the
-/// session refuse unknown ids again.
+/// was `allow_unknown`. For example, if a plugin is registered after `allow_unknown` was called, the session still
+/// keeps unknown ids. With this law a caller knows that no later call makes the session refuse unknown ids again.
 ///
 /// About [`DTypeSession::allow_unknown`] and [`DTypeSession::allows_unknown`].
 #[tactic(auto, using(crate::proofs::lemmas::Sessions::sessions, crate::proofs::lemmas::Sessions::session_laws))]
@@ -91,10 +95,11 @@ pub fn unknown_once_allowed()
     ensures { (calls : List Call) → (after calls empty_meaning).unknown ≡ list_any is_allow calls }
 {}
 
-/// For each session `s` whose plugins are lawful, each id `id`, each valid storage type `t` and all metadata `b`, if
-/// the session keeps `c` in place of `b`, then `c` consists of bytes, and the session keeps `c` unchanged if it reads
-/// it again. For example, if a plugin changes `AB` to `ab`, it leaves `ab` unchanged. So metadata changes at most the
-/// first time that a type is read, and not each time that it is written and read.
+/// For each session `s` whose plugins are lawful, each id `id`, each valid storage type `t` and all metadata `b` that
+/// consists of bytes: if the session keeps the metadata `c` in place of `b`, then `c` consists of bytes too, and if the
+/// session reads `c`, it keeps `c` unchanged. For example, if a plugin changes `AB` to `ab`, it leaves `ab` unchanged.
+/// With this law a caller knows that metadata changes at most when it is read for the first time, and not each time
+/// that a type is written and read again.
 ///
 /// About [`ExtDTypePlugin`].
 pub fn kept_again()
@@ -102,10 +107,11 @@ pub fn kept_again()
         → keeps s id b t ≡ Some c → Bytes c × (keeps s id c t ≡ Some c) }
 {}
 
-/// For each session whose plugins are lawful, each id, each metadata `b` and each valid storage type `t`, if `u` is `t`
-/// with its outer nullability set, then the session keeps the same metadata in place of `b` over `u` as over `t`, or it
-/// keeps none over both. For example, if it keeps `ab` in place of `AB` over `utf8`, then it does so over `utf8?` too.
-/// So a program that makes an extension type nullable doesn't change which metadata a session keeps for it.
+/// For each session `s` whose plugins are lawful, each id `id`, all metadata `b` that consists of bytes and each valid
+/// storage type `t`: if `u` is `t` with its outer nullability set to `n`, then the session keeps the same metadata in
+/// place of `b` over `u` as over `t`, or it keeps no metadata over either of them. For example, if it keeps `ab` in
+/// place of `AB` over `utf8`, then it also does over `utf8?`. With this law a caller knows that which metadata a
+/// session keeps doesn't change if an extension type is made nullable.
 ///
 /// About [`DTypeSession::deserialize`].
 #[tactic(auto, using(crate::proofs::lemmas::Sessions::keeps_outer))]
@@ -114,11 +120,15 @@ pub fn kept_over_each_nullability()
         → Bytes b → Valid t → SetNull t n u → keeps s id b u ≡ keeps s id b t }
 {}
 
-/// Four statements about extension types that aren't known. First, two values of `ForeignExtMetadata` are equal by `==`
-/// exactly if their bytes are the same. Second, two values of `ForeignExtDType` are equal by `==` exactly if their ids
-/// are the same. Third, metadata writes to a hasher what its bytes write. Fourth, a vtable writes to a hasher what its
-/// id writes. For example, two values of metadata with the bytes `AB` are equal and have the same hash. So both can be
-/// the keys of a hash map.
+/// The metadata and the vtables of extension types whose own vtables aren't known are compared and hashed by their
+/// parts:
+/// - `metadata`: two values of `ForeignExtMetadata` are equal by `==` exactly if their bytes are the same.
+/// - `vtables`: two values of `ForeignExtDType` are equal by `==` exactly if their ids are the same.
+/// - `metadata_hash`: a `ForeignExtMetadata` writes the same to a hasher as the vector of its bytes.
+/// - `vtable_hash`: a `ForeignExtDType` writes the same to a hasher as its id.
+///
+/// For example, two values of `ForeignExtMetadata` with the bytes `AB` are equal and have the same hash. With this law
+/// a caller can use such values as the keys of a hash map and reason about what the map contains.
 ///
 /// About [`ForeignExtDType`] and [`ForeignExtMetadata`].
 pub fn foreign_extensions_are_compared_by_their_parts()
@@ -132,10 +142,11 @@ pub fn foreign_extensions_are_compared_by_their_parts()
         ≡ ⟦<dtype_types::ExtId as Hash>⟧.hash_input id }
 {}
 
-/// For each session `s` whose plugins are lawful and each valid type `t`, if `u` is `t` with its outer nullability set,
-/// then the session admits `t` exactly if it admits `u`. (A session admits a type if it keeps the metadata of each
-/// extension in it unchanged.) For example, a session admits `x.tag[2B](utf8)` exactly if it admits `x.tag[2B](utf8?)`.
-/// So a program that may write a type as a message and read it back may do so after it has made the type nullable.
+/// A session admits a type if it keeps the metadata of each extension type in it unchanged. For each session `s` whose
+/// plugins are lawful and each valid type `t`: if `u` is `t` with its outer nullability set to `n`, then the session
+/// admits `t` exactly if it admits `u`. For example, a session admits `x.tag[2B](utf8)` exactly if it admits
+/// `x.tag[2B](utf8?)`. A type that is admitted and written as a message is read back as the same type. With this law a
+/// caller knows that this stays so after it has made the type nullable.
 ///
 /// About [`DTypeProto::to_proto`].
 #[tactic(auto, using(crate::proofs::lemmas::Sessions::sessions, crate::proofs::lemmas::Sessions::session_laws))]
@@ -144,11 +155,14 @@ pub fn admits_set_null()
         → Valid t → SetNull t n u → Admits s t ↔ Admits s u }
 {}
 
-/// The function `read`, which reads the parts of a message in order, agrees with the relations `Reads` and `Fault`. For
-/// each session, each message and each type `t`, `read` returns `Ok t` exactly if the message reads as `t`. If `read`
-/// returns an error, then the message has that fault, and it reads as no type. For example, `read` returns
-/// `MapKeyMissing` for a map message with neither a key type nor a value type, and the message also has the fault
-/// `MapValueMissing`. A caller needs this law to go from the order of the errors to the relations, which have no order.
+/// The function `read`, which returns the first fault of a message, agrees with the relations `Reads` and `Fault`,
+/// which specify no order of faults. For each session `s` and each message `m`:
+/// - `given`: for each type `t`, `read` returns `Ok t` exactly if `m` reads as `t`.
+/// - `refused`: if `read` returns an error `e`, then `m` has the fault `e`, and `m` reads as no type.
+///
+/// For example, let `m` be a map message with neither a key type nor a value type. It has the faults `MapKeyMissing`
+/// and `MapValueMissing`, and `read` returns `MapKeyMissing`. With this law a caller that knows what `read` returns for
+/// a message can conclude what `Reads` and `Fault` state about it.
 ///
 /// About [`DTypeProto::from_proto`].
 #[tactic(auto, using(crate::proofs::lemmas::Reading::reading))]
@@ -158,12 +172,11 @@ pub fn read_is_what_reads()
         → read s m ≡ Err e → Fault s m e × ReadsAsNothing s m }
 {}
 
-/// Seven statements about reading and writing messages, for every session. A message reads as a type if `Reads` relates
-/// the two. The normal form of a message has, for each extension, the metadata that the session keeps in place of the
-/// metadata that the message contains.
-///
+/// The following is true of reading and writing messages, for every session. A message reads as a type if `Reads`
+/// relates the two. The normal form of a message is the message with the metadata of each extension type replaced by
+/// the metadata that the session keeps in its place.
 /// - `one_type`: a message reads as at most one type.
-/// - `no_fault`: a message that reads as a type has no fault.
+/// - `no_fault`: a message that reads as a type has no fault (`Fault`).
 /// - `accepted`: if the plugins are lawful and each number in a message is in the range of its field (`IsMessage`),
 ///   then a message that reads as a type is accepted: the type is valid, and the session admits it.
 /// - `normal`: if a message reads as `t`, then its normal form is the message that `to_proto` writes for `t`.
@@ -172,9 +185,10 @@ pub fn read_is_what_reads()
 /// - `read_back`: if a type is valid and the session admits it, then the message that `to_proto` writes for it is
 ///   accepted and reads as that type.
 ///
-/// For example, a message of the extension `x.tag` with the metadata `AB` and one with `ab` are different messages. If
-/// the plugin keeps `ab` in place of both, they have the same normal form and read as the same type. With this law a
-/// program that stores types as messages knows that two readers with the same session get the same type.
+/// For example, a message of the extension type `x.tag` with the metadata `AB` differs from a message with the metadata
+/// `ab`. If the plugin keeps `ab` in place of both, the two messages have the same normal form and read as the same
+/// type. With this law a caller that stores types as messages knows that two readers with the same session get the same
+/// type.
 ///
 /// About [`DTypeProto::from_proto`] and [`DTypeProto::to_proto`].
 #[tactic(auto, using(crate::proofs::lemmas::Reading::reading))]

@@ -4,25 +4,26 @@
 //! The logical types of Vortex. This library re-exports all libraries below it, and adds typed extensions, plugins,
 //! sessions, and the conversion of types to and from protobuf messages.
 //!
-//! It is proved that a typed extension consists of the metadata and the storage type with which it was made, and that a
-//! session uses the plugin that was registered last under an id. It is also proved which message describes which type:
-//! types are read from messages and written as messages exactly as the definitions in `specs/` say.
+//! The following is proved:
+//! - A typed extension type contains the metadata and the storage type with which it was made.
+//! - A session uses the plugin that was registered last under an id.
+//! - Types are read from messages and written as messages exactly as the definitions in `specs/` specify.
 //!
-//! Begin with `ExtVTable` and `ExtDType` (typed extensions), then `ExtDTypePlugin` and `PluginOf` (plugins), then
-//! `DTypeSession`. Then read `pb` and `DTypeProto` (messages).
+//! Begin with `ExtVTable` and `ExtDType` (typed extensions), then read `ExtDTypePlugin` and `PluginOf` (plugins), then
+//! `DTypeSession`, and then `pb` and `DTypeProto` (messages).
 //!
 //! The definitions are in `specs/`:
 //! - `Typed`: what a vtable does.
-//! - `Meaning`: what a plugin and a session do with metadata (`keeps`), and which types a session keeps unchanged
-//!   (`Admits`).
+//! - `Meaning`: what a plugin and a session do with metadata (`keeps`), and of which types a session keeps all metadata
+//!   unchanged (`Admits`).
 //! - `Errors`: which errors plugins and sessions return.
 //! - `Calls`: a session after a list of calls.
 //! - `Reads`: the type that a message describes, and the faults of a message.
 //! - `ReadInOrder`: which of several faults is returned.
 //! - `Written`: the message of a type.
 //!
-//! The definitions about messages are over the trees of `dtype_messages`. `laws` states theorems about these
-//! definitions. `proofs/rulesets` contains the lemmas that the proofs of callers name, by topic.
+//! The definitions about messages are about the trees of messages that `dtype_messages` defines. `laws` states theorems
+//! about these definitions. `proofs/rulesets` contains the lemmas that the proofs of callers name, by topic.
 #![tactic(auto)]
 
 mod ext_dtype;
@@ -62,7 +63,7 @@ pub use plugin::{ExtDTypePlugin, PluginOf};
 pub use proto::{DTypeProto, FieldPathProto};
 pub use session::DTypeSession;
 
-/// Returns the path of these names, from the outermost to the innermost, as a `VortexResult`. For example,
+/// Returns a `VortexResult` with the path of these names, of which the first is the outermost. For example,
 /// `field_path!(alloc, "a", "b")` returns the path `a.b`.
 ///
 /// # Errors

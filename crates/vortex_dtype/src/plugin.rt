@@ -16,11 +16,14 @@ use std::marker::Model;
 
 /// What a session knows about an extension type: its id, and how its metadata is read and written back.
 ///
-/// In contracts a plugin is its `rewrites`: a function that takes metadata and a storage type, and returns the metadata
-/// that the plugin writes back, or `None` if the plugin doesn't accept them. Each implementation proves two laws about
-/// this function, for valid storage types and metadata that consists of bytes (`Lawful` of `specs/Meaning`). First, the
-/// metadata that is written back consists of bytes, and if it is read again it is written back unchanged. Second, the
-/// result doesn't depend on the outer nullability of the storage type.
+/// In contracts a plugin is a function, `rewrites`. It takes metadata and a storage type, and returns the metadata that
+/// the plugin writes back, or `None` if the plugin doesn't accept the metadata over this storage type.
+///
+/// Each implementation proves two laws about `rewrites` (`Lawful` of `specs/Meaning`). They are about valid storage
+/// types and about metadata that consists of bytes:
+/// - The metadata that the plugin writes back consists of bytes. If the plugin reads this metadata again, it writes it
+///   back unchanged.
+/// - The result doesn't depend on the outer nullability of the storage type.
 pub trait ExtDTypePlugin: Drop {
     ghost use Rattle.std.specs.Prelude.{◌≡◌, ◌⊎◌, ℕ, List, Some, None, IfOk, IfErr};
     ghost use Rattle.dtype_base.specs.declared.vortex_error.VortexError.TheVariants.{OutOfMemory, MetadataRefused};
@@ -38,15 +41,15 @@ pub trait ExtDTypePlugin: Drop {
     fn id(&self) -> &str
         ensures { result.now ≡ id_text self.now };
 
-    /// Reads the metadata of an extension over a storage type, and returns it as the plugin writes it. For example, a
-    /// plugin whose metadata isn't case sensitive may return `ab` for `AB`.
+    /// Returns the metadata that the plugin writes back after it has read the bytes `metadata` of an extension type
+    /// over `storage`. For example, a plugin whose metadata isn't case-sensitive may return `ab` for `AB`.
     ///
     /// # Errors
     ///
     /// If the storage type is valid:
     ///
     /// - `MetadataRefused` (22): the plugin doesn't accept the metadata over this storage type.
-    /// - `OutOfMemory` (0): an allocation fails. It may come in place of the other error.
+    /// - `OutOfMemory` (0): an allocation fails. This error may be returned in place of `MetadataRefused`.
     fn deserialize(&self, alloc: Global, metadata: &[u8], storage: &DType) -> VortexResult<Vec<u8>>
         ensures kept { Valid (tree storage.now)
             → IfOk result (λ v. rewrites self.now metadata.now (tree storage.now) ≡ Some v.items) }
@@ -57,8 +60,8 @@ pub trait ExtDTypePlugin: Drop {
     ghost lawful: { (p : Self) → Lawful (rewrites p) };
 }
 
-/// The plugin of a vtable. It reads the metadata by the vtable, checks by the vtable that it fits the storage type, and
-/// writes it by the vtable.
+/// The plugin of an extension type that has a vtable. It calls the vtable to read metadata, to check that the metadata
+/// fits the storage type, and to write the metadata back.
 #[derive(Debug, Drop)]
 pub struct PluginOf<V> {
     vtable: V,
@@ -72,7 +75,9 @@ impl<V> Model for PluginOf<V> {
 }
 
 impl<V: ExtVTable> PluginOf<V> {
-    /// Returns the plugin of this vtable. Doesn't allocate.
+    /// Returns the plugin of this vtable.
+    ///
+    /// Doesn't allocate.
     pub fn new(vtable: V) -> Self
         ensures { result ≡ vtable }
     {
@@ -80,8 +85,9 @@ impl<V: ExtVTable> PluginOf<V> {
     }
 }
 
-/// `deserialize` reads the metadata by the vtable, checks by the vtable that it fits the storage type, and writes it
-/// back by the vtable. The two laws of plugins follow from the laws of vtables.
+/// `deserialize` calls the vtable three times: `deserialize_metadata` reads the metadata, `validate_dtype` checks that
+/// it fits the storage type, and `serialize_metadata` writes it back. The two laws of plugins follow from the laws of
+/// vtables.
 impl<V: ExtVTable> ExtDTypePlugin for PluginOf<V> {
     ghost use Rattle.vortex_dtype.specs.Typed.{rewritten};
     ghost use Rattle.vortex_dtype.specs.TypedLaws.{typed_laws};
@@ -131,9 +137,10 @@ pub(crate) fn boxed_deserialize(
     plugin.deserialize(alloc, metadata, storage)
 }
 
-/// Each plugin `plugin` is lawful (`Lawful`): metadata that it has written back is written back unchanged if it is read
-/// again, and the outer nullability of the storage type makes no difference. For example, a plugin that writes `ab` for
-/// `AB` writes `ab` for `ab`. A caller calls this law when a theorem requires lawful plugins.
+/// Each plugin `plugin` is lawful (`Lawful`). This means that if it reads metadata that it has written back, it writes
+/// the same metadata back, and that the metadata that it writes back doesn't depend on the outer nullability of the
+/// storage type. For example, a plugin that writes `ab` for `AB` writes `ab` for `ab`. A caller calls this law if a
+/// theorem requires lawful plugins.
 ///
 /// About [`ExtDTypePlugin`].
 pub fn plugin_laws(plugin: &dyn ExtDTypePlugin)

@@ -39,11 +39,12 @@ mod write;
 
 /// Conversion of types to and from protobuf messages.
 ///
-/// `DType::from_proto(alloc, &dtype.to_proto(alloc)?, &session)?` equals `dtype` if `dtype` is valid and the session
-/// keeps the metadata of each extension in it unchanged (`Admits` of `specs/Meaning`).
+/// A type that was written as a message is read back as an equal type, if it is valid and the session keeps the
+/// metadata of each extension type in it unchanged (`Admits` of `specs/Meaning`). In code,
+/// `DType::from_proto(alloc, &dtype.to_proto(alloc)?, &session)?` is then equal to `dtype`.
 pub trait DTypeProto {
-    /// Returns the type that the message describes, with the extension types that the session makes of those in the
-    /// message. The errors are listed at the impl for `DType`.
+    /// Returns the type that the message describes. The session decides which metadata the extension types in it get.
+    /// The errors are listed at the impl for `DType`.
     fn from_proto(alloc: Global, proto: &pb::DType, session: &DTypeSession) -> VortexResult<Self>
     where
         Self: Sized;
@@ -63,25 +64,28 @@ impl DTypeProto for DType {
     ///
     /// # Errors
     ///
-    /// If a message has several faults, the first that is found is returned (`read` of `specs/ReadInOrder`). The parts
-    /// of a message are read in order, each with all its own parts, and after that it is checked whether they make a
-    /// type. For example, for a map with neither a key type nor a value type the error is `MapKeyMissing`.
+    /// If a message has several faults, the call returns the first that it finds (`read` of `specs/ReadInOrder`). It
+    /// reads the messages inside a message first, in the order of the fields, and finds their faults. Then it tests the
+    /// message itself, in the order of this list. A missing inner message is found in place of its faults. For example,
+    /// for a map with neither a key type nor a value type the error is `MapKeyMissing`.
     ///
     /// - `TypeMissing` (24): a message has no kind.
     /// - `PrimitiveNumber` (25): the number of a primitive type isn't from 0 to 10.
     /// - `PrecisionRange` (26): the precision of a decimal is above 255.
-    /// - `ScaleRange` (27): the scale of a decimal isn't from -128 to 127. After these two come the errors of
-    ///   `DecimalDType::try_new` (1 to 4).
+    /// - `ScaleRange` (27): the scale of a decimal isn't from -128 to 127.
+    /// - `PrecisionZero` (1), `PrecisionTooLarge` (2), `ScaleTooLarge` (3) or `ScaleAbovePrecision` (4):
+    ///   `DecimalDType::try_new` returns this error for the precision and the scale of a decimal.
     /// - `ListElementMissing` (28): a list has no element type.
     /// - `FixedElementMissing` (29): a fixed-size list has no element type.
-    /// - `MapKeyMissing` (30): a map has no key type. After it come the faults of the key type.
-    /// - `MapValueMissing` (31): a map has no value type. After it come the faults of the value type.
+    /// - `MapKeyMissing` (30): a map has no key type.
+    /// - `MapValueMissing` (31): a map has no value type.
     /// - `MapKeyNullable` (9): the key type of a map is nullable.
-    /// - `StructLengths` (32): a struct has more or fewer names than types. Before it come the faults of the field
-    ///   types.
-    /// - `TypeIdRange` (33): a tag of a union isn't from 0 to 255. Before it come the faults of the variant types, and
-    ///   after it the errors of `UnionVariants::try_new` (10 to 13 and 15).
-    /// - `StorageMissing` (34): an extension has no storage type. After it come the faults of the storage type.
+    /// - `StructLengths` (32): a struct has more or fewer names than types.
+    /// - `TypeIdRange` (33): a tag of a union isn't from 0 to 255.
+    /// - `UnionTypesLength` (10), `UnionTagsLength` (11), `UnionEmpty` (12), `UnionTagsRepeat` (13) or
+    ///   `UnionNamesRepeat` (15): `UnionVariants::try_new` returns this error for the names, the types and the tags of
+    ///   a union.
+    /// - `StorageMissing` (34): an extension has no storage type.
     /// - `MetadataRefused` (22): the plugin that is registered under the id of an extension doesn't accept the
     ///   metadata.
     /// - `ExtensionUnregistered` (35): no plugin is registered under the id of an extension, and the session doesn't
@@ -128,7 +132,8 @@ pub trait FieldPathProto {
 }
 
 impl FieldPathProto for FieldPath {
-    /// Returns the path of the names that the message contains, in order. A message without parts is read as the root.
+    /// Returns the path of the names that the message contains, in the same order. A message without parts is read as
+    /// the root.
     ///
     /// # Errors
     ///

@@ -23,18 +23,20 @@ use std::alloc::Global;
 use std::collections::HashMap;
 use std::fmt;
 
-/// A session: the plugins that are registered under ids, and whether extension types with unknown ids are kept. A type
-/// is read from a message with a session, which decides what its extension types become.
-///
-/// In contracts a session is `meaning rewrites session`: a function from ids to what the registered plugins do with
-/// metadata, and the flag. The plugin that was registered last under an id is the one that is used
+/// A session contains plugins, each registered under an id, and a flag whether it keeps extension types with unknown
+/// ids. A type is read from a message with a session, because the session decides which metadata the extension types in
+/// the message get. If several plugins were registered under one id, the session uses the last
 /// (`laws::last_registered_counts`).
+///
+/// In contracts a session is `meaning rewrites session`. It consists of a function from ids to what the registered
+/// plugins do with metadata, and of the flag.
 ///
 /// # Examples
 ///
 /// If the plugin of `x.tag` changes letters to lower case, then `deserialize("x.tag", b"AB", ..)` returns an extension
-/// with the metadata `ab`. For an id that isn't registered it returns the error `ExtensionUnregistered` (35), and after
-/// `allow_unknown` it returns an extension with the metadata `AB`.
+/// type with the metadata `ab`. If no plugin is registered under `x.tag`, the call returns the error
+/// `ExtensionUnregistered` (35). If in that case `allow_unknown` was called before, the call returns an extension type
+/// with the metadata `AB`.
 #[derive(Drop)]
 pub struct DTypeSession {
     alloc: Global,
@@ -43,8 +45,10 @@ pub struct DTypeSession {
 }
 
 impl DTypeSession {
-    /// Returns a session without plugins, which doesn't keep unknown ids. It keeps the allocator for later calls, and
-    /// doesn't allocate.
+    /// Returns a session without plugins, which doesn't keep unknown ids. The session keeps the allocator for later
+    /// calls.
+    ///
+    /// Doesn't allocate.
     pub fn new(alloc: Global) -> Self
         ensures { meaning rewrites result ≡ empty_meaning }
     {
@@ -59,9 +63,7 @@ impl DTypeSession {
     ///
     /// # Errors
     ///
-    /// If there is an error, the session is unchanged and the plugin is dropped:
-    ///
-    /// - `OutOfMemory` (0): an allocation fails.
+    /// - `OutOfMemory` (0): an allocation fails. The session is then unchanged, and the plugin is dropped.
     pub fn register(&mut self, plugin: Box<dyn ExtDTypePlugin>) -> VortexResult<()>
         ensures last { OnOk result (meaning rewrites self.new
             ≡ register_in (id_text plugin) (rewrites plugin) (meaning rewrites self.old)) }
@@ -87,15 +89,17 @@ impl DTypeSession {
         self.allow_unknown
     }
 
-    /// Returns whether a plugin is registered under the id. Doesn't allocate.
+    /// Returns whether a plugin is registered under the id.
+    ///
+    /// Doesn't allocate.
     pub fn registry(&self, id: &str) -> bool
         ensures { IsTrue result ↔ IsSome ((meaning rewrites self.now).registered id.now) }
     {
         self.plugins.contains_key(id)
     }
 
-    /// Returns the ids under which plugins are registered, each once, sorted by their bytes. For example, after plugins
-    /// of `x.tag` and `x.date` were registered it returns `x.date` and `x.tag`.
+    /// Returns the ids under which plugins are registered, each once, sorted by their bytes. For example, if plugins of
+    /// `x.tag` and `x.date` are registered, the call returns `x.date` and `x.tag`.
     ///
     /// # Errors
     ///
@@ -122,20 +126,22 @@ impl DTypeSession {
     }
 
     /// Returns the extension type with this id, this storage type, and the metadata that the session keeps in place of
-    /// the bytes `metadata`. If a plugin is registered under the id, the session keeps what the plugin writes back. If
-    /// none is registered and the session keeps unknown ids, it keeps the bytes unchanged.
+    /// the bytes `metadata`. If a plugin is registered under the id, the session keeps the metadata that the plugin
+    /// writes back. If no plugin is registered under the id and the session keeps unknown ids, it keeps the bytes
+    /// unchanged.
     ///
-    /// Suppose that the storage type is valid. If the kept metadata is read again, it is kept unchanged, and which
-    /// metadata is kept doesn't depend on the outer nullability of the storage type
-    /// (`laws::kept_over_each_nullability`).
+    /// The following is proved if the storage type is valid:
+    /// - If the session reads the kept metadata again, it keeps it unchanged.
+    /// - Which metadata the session keeps doesn't depend on the outer nullability of the storage type
+    ///   (`laws::kept_over_each_nullability`).
     ///
     /// # Errors
     ///
     /// If the storage type is valid:
     ///
     /// - `MetadataRefused` (22): the registered plugin doesn't accept the metadata over this storage type.
-    /// - `ExtensionUnregistered` (35): no plugin is registered under the id and unknown ids aren't kept.
-    /// - `OutOfMemory` (0): an allocation fails. It may come in place of the other errors.
+    /// - `ExtensionUnregistered` (35): no plugin is registered under the id, and the session doesn't keep unknown ids.
+    /// - `OutOfMemory` (0): an allocation fails. This error may be returned in place of the other two.
     pub fn deserialize(
         &self,
         id: &str,
@@ -192,10 +198,11 @@ impl fmt::Debug for DTypeSession {
     }
 }
 
-/// In each session `session` all plugins are lawful (`LawfulSession`): metadata that a plugin has written back is
-/// written back unchanged if it is read again, and the outer nullability of the storage type makes no difference. A
-/// caller calls this law when a theorem requires a lawful session, for example to prove that a type that is written as
-/// a message is read back as the same type.
+/// In each session `session`, all plugins are lawful (`LawfulSession`). This means that if a plugin reads metadata that
+/// it has written back, it writes the same metadata back, and that the metadata that it writes back doesn't depend on
+/// the outer nullability of the storage type. For example, if a plugin of the session writes `ab` for `AB`, it writes
+/// `ab` for `ab`. A caller calls this law if a theorem requires a lawful session. For example,
+/// `laws::messages_are_exact` requires one to conclude that a type that is read from a message is admitted.
 ///
 /// About [`DTypeSession::deserialize`].
 pub fn session_laws(session: &DTypeSession)

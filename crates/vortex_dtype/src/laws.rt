@@ -110,8 +110,8 @@ pub fn kept_again()
 /// For each session `s` whose plugins are lawful, each id `id`, all metadata `b` that consists of bytes and each valid
 /// storage type `t`: if `u` is `t` with its outer nullability set to `n`, then the session keeps the same metadata in
 /// place of `b` over `u` as over `t`, or it keeps no metadata over either of them. For example, if it keeps `ab` in
-/// place of `AB` over `utf8`, then it also does over `utf8?`. With this law a caller knows that which metadata a
-/// session keeps doesn't change if an extension type is made nullable.
+/// place of `AB` over `utf8`, then it also keeps `ab` in place of `AB` over `utf8?`. With this law a caller can make an
+/// extension type nullable without changing which metadata a session keeps for it.
 ///
 /// About [`DTypeSession::deserialize`].
 #[tactic(auto, using(crate::proofs::lemmas::Sessions::keeps_outer))]
@@ -145,8 +145,8 @@ pub fn foreign_extensions_are_compared_by_their_parts()
 /// A session admits a type if it keeps the metadata of each extension type in it unchanged. For each session `s` whose
 /// plugins are lawful and each valid type `t`: if `u` is `t` with its outer nullability set to `n`, then the session
 /// admits `t` exactly if it admits `u`. For example, a session admits `x.tag[2B](utf8)` exactly if it admits
-/// `x.tag[2B](utf8?)`. A type that is admitted and written as a message is read back as the same type. With this law a
-/// caller knows that this stays so after it has made the type nullable.
+/// `x.tag[2B](utf8?)`. If a session admits a valid type, then the type is read back unchanged after it was written as a
+/// message. With this law a caller knows that this is still so after it has made the type nullable.
 ///
 /// About [`DTypeProto::to_proto`].
 #[tactic(auto, using(crate::proofs::lemmas::Sessions::sessions, crate::proofs::lemmas::Sessions::session_laws))]

@@ -66,8 +66,8 @@ impl DTypeProto for DType {
     ///
     /// If a message has several faults, the call returns the first that it finds (`read` of `specs/ReadInOrder`). It
     /// reads the messages inside a message first, in the order of the fields, and finds their faults. Then it tests the
-    /// message itself, in the order of this list. A missing inner message is found in place of its faults. For example,
-    /// for a map with neither a key type nor a value type the error is `MapKeyMissing`.
+    /// message itself, in the order of this list. If an inner message is missing, that is found in the place of its
+    /// faults. For example, for a map with neither a key type nor a value type the error is `MapKeyMissing`.
     ///
     /// - `TypeMissing` (24): a message has no kind.
     /// - `PrimitiveNumber` (25): the number of a primitive type isn't from 0 to 10.

@@ -23,9 +23,9 @@ use std::alloc::Global;
 use std::collections::HashMap;
 use std::fmt;
 
-/// A session contains plugins, each registered under an id, and a flag whether it keeps extension types with unknown
-/// ids. A type is read from a message with a session, because the session decides which metadata the extension types in
-/// the message get. If several plugins were registered under one id, the session uses the last
+/// A session contains plugins, each registered under an id, and a flag that determines whether it keeps extension types
+/// with unknown ids. A type is read from a message with a session, because the session decides which metadata the
+/// extension types in the message get. If several plugins were registered under one id, the session uses the last
 /// (`laws::last_registered_counts`).
 ///
 /// In contracts a session is `meaning rewrites session`. It consists of a function from ids to what the registered
@@ -198,11 +198,11 @@ impl fmt::Debug for DTypeSession {
     }
 }
 
-/// In each session `session`, all plugins are lawful (`LawfulSession`). This means that if a plugin reads metadata that
-/// it has written back, it writes the same metadata back, and that the metadata that it writes back doesn't depend on
-/// the outer nullability of the storage type. For example, if a plugin of the session writes `ab` for `AB`, it writes
-/// `ab` for `ab`. A caller calls this law if a theorem requires a lawful session. For example,
-/// `laws::messages_are_exact` requires one to conclude that a type that is read from a message is admitted.
+/// In each session `session`, all plugins are lawful (`LawfulSession`). For valid storage types this means that if a
+/// plugin reads metadata that it has written back, it writes the same metadata back, and that the metadata that it
+/// writes back doesn't depend on the outer nullability of the storage type. For example, if a plugin of the session
+/// writes `ab` for `AB`, it writes `ab` for `ab`. A caller calls this law if a theorem requires a lawful session. For
+/// example, `laws::messages_are_exact` requires one to conclude that a type that is read from a message is admitted.
 ///
 /// About [`DTypeSession::deserialize`].
 pub fn session_laws(session: &DTypeSession)

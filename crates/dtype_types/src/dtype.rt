@@ -20,11 +20,12 @@ use dtype_base::{DecimalDType, Nullability, PType};
 pub use kinds::Kind;
 pub use nullability_bounds::{intersect_nullability, merge_nullability};
 
-/// A logical type: it says which values a column may contain, and nothing about how they are stored.
+/// A logical type: it describes which values a column may contain, and not how they are stored.
 ///
 /// For example, `{id=u64, tags=list(utf8)?}` is a non-nullable struct of two fields. The field `id` is a `u64`, and the
-/// field `tags` is a nullable list of texts. `DType::struct_` makes it from `DType::from(PType::U64)` and from
-/// `DType::list` of `DType::Utf8`. It is printed as it is written here: `?` follows what is nullable.
+/// field `tags` is a nullable list of texts. The type is printed as it is written here, with a `?` after each nullable
+/// type. To build it, call `DType::struct_` with `DType::from(PType::U64)` for `id` and with the type that
+/// `DType::list` returns for `tags`.
 #[derive(Debug, Drop)]
 #[cycle(dtype)]
 pub enum DType {
@@ -34,7 +35,7 @@ pub enum DType {
     Bool(Nullability),
     /// Integers or floating-point numbers of a primitive type.
     Primitive(PType, Nullability),
-    /// Decimal numbers of a precision and a scale.
+    /// Decimal numbers with this precision and this scale.
     Decimal(DecimalDType, Nullability),
     /// Texts.
     Utf8(Nullability),
@@ -48,12 +49,12 @@ pub enum DType {
     Map(MapDType, Nullability),
     /// Structs: fields in order, each with a name and a type.
     Struct(StructFields, Nullability),
-    /// Unions: a value is of one of several variants, and its tag says of which.
+    /// Unions: each value belongs to one of several variants and has the tag of that variant.
     Union(UnionVariants, Nullability),
     /// Values that each carry their own type.
     Variant(Nullability),
-    /// Values of an extension type, such as a date: an id and metadata over a storage type. It is nullable exactly if
-    /// its storage type is.
+    /// An extension type, such as a date: an id, metadata and a storage type. It is nullable exactly if its storage
+    /// type is nullable.
     Extension(ExtDTypeRef),
 }
 

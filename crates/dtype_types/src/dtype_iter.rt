@@ -11,8 +11,9 @@ use std::iter::FusedIterator;
 use std::marker::Model;
 use std::slice;
 
-/// An iterator over references to types, in order. In contracts it is the list of the types that are left. Contracts
-/// specify the tree of each of these types.
+/// An iterator over the types of the fields of a struct, or of the variants of a union, in order. It returns a
+/// reference to each type. In contracts it is the list of the types that it hasn't returned yet, and each type is
+/// described by its tree.
 #[derive(Debug, Drop)]
 pub struct DTypeIter<'a> {
     inner: slice::Iter<'a, DType>,

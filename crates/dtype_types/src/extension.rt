@@ -19,7 +19,8 @@ use std::hash::{Hash, Hasher};
 use std::marker::Model;
 use std::rc::RcStr;
 
-/// The id of an extension type: a text, for example `vortex.date`. In contracts it is the list of the text's bytes.
+/// The id of an extension type: a text, for example `vortex.date`. In contracts an id is the list of the bytes of its
+/// text.
 #[derive(Debug, Drop)]
 pub struct ExtId {
     text: RcStr,
@@ -32,7 +33,7 @@ impl Model for ExtId {
 }
 
 impl ExtId {
-    /// Returns the id with a copy of this text.
+    /// Returns the id with this text, which is copied.
     ///
     /// # Errors
     ///
@@ -45,17 +46,17 @@ impl ExtId {
         })
     }
 
-    /// Returns the text.
+    /// Returns the text of the id.
     pub fn as_str(&self) -> &str
         ensures { result.now ≡ self.now }
     {
         self.text.as_str()
     }
 
-    /// Returns an id with the same text, which the two share.
+    /// Returns a copy of the id, which shares the text with the original.
     ///
-    /// The call raises a reference count and doesn't allocate, so `_alloc` isn't used. It is a parameter so that the
-    /// signature can stay the same if a later version has to allocate.
+    /// The call raises a reference count and doesn't allocate, so it doesn't use `_alloc`. The parameter is there so
+    /// that the signature can stay the same if a later version has to allocate.
     ///
     /// # Errors
     ///
@@ -102,7 +103,7 @@ impl Hash for ExtId {
     }
 }
 
-/// Writes the text as it is, without escapes.
+/// Writes the text of the id as it is, without escapes.
 impl fmt::Display for ExtId {
     ghost output = { λ id. Some id };
 
@@ -111,9 +112,11 @@ impl fmt::Display for ExtId {
     }
 }
 
-/// An erased extension: an extension type as an id, the metadata as bytes, and a storage type, without the library that
-/// defines what they mean. For example, `x.date[1B](i32?)` has the id `x.date`, one byte of metadata and the storage
-/// type `i32?`. A program that doesn't know what `x.date` means can still read such a type, keep it and write it again.
+/// An extension type: an id, the metadata as bytes, and a storage type. For example, `x.date[1B](i32?)` has the id
+/// `x.date`, one byte of metadata and the storage type `i32?`.
+///
+/// An `ExtDTypeRef` is called erased because it doesn't contain the library that defines what the id and the metadata
+/// mean. So a program that doesn't know what `x.date` means can still read such a type, keep it and write it again.
 #[derive(Debug, Drop)]
 #[cycle(dtype)]
 pub struct ExtDTypeRef {
@@ -140,7 +143,7 @@ impl ExtDTypeRef {
     ghost use Rattle.dtype_types.specs.equality.Hashes.{inner_writes};
     ghost use Rattle.dtype_types.specs.tree.Width.{Measures};
 
-    /// Returns the id.
+    /// Returns the id of the extension type.
     pub fn id(&self) -> &ExtId
         ensures { result.now ≡ extension_id self.now }
     {
@@ -202,7 +205,7 @@ impl ExtDTypeRef {
         Ok(Vec::from_slice(alloc, &self.parts.metadata)?)
     }
 
-    /// Returns a value whose `Display` prints the number of bytes of the metadata, for example `2B`.
+    /// Returns a value whose `Display` prints the number of bytes of the metadata followed by `B`, for example `2B`.
     pub fn display_metadata(&self) -> MetadataDisplay<'_>
         ensures { result ≡ extension_metadata self.now }
     {
@@ -212,7 +215,8 @@ impl ExtDTypeRef {
     }
 
     /// Returns whether the ids and the metadata of the two extension types are equal, and their storage types are equal
-    /// if every nullability in them is ignored.
+    /// if every nullability in them is ignored. For example, `x.date[1B](i32)` and `x.date[1B](i32?)` are equal in this
+    /// way if their metadata is the same byte.
     #[tactic(auto, using(crate::proofs::KindLaws::erased_tests))]
     pub fn eq_ignore_nullability(&self, other: &Self) -> bool
         ensures { IsTrue result
@@ -221,7 +225,7 @@ impl ExtDTypeRef {
         self.equal_under(other, NullabilityRule::Ignored)
     }
 
-    /// Returns the outer nullability, which is that of the storage type.
+    /// Returns the outer nullability of the extension type, which is that of its storage type.
     #[cycle(nullability)]
     pub fn nullability(&self) -> Nullability
         ensures { result ≡ nullability (storage_tree self.now) }
@@ -229,7 +233,7 @@ impl ExtDTypeRef {
         self.parts.storage.nullability()
     }
 
-    /// Returns whether a value of the type may be null: whether the storage type is nullable.
+    /// Returns whether the storage type is nullable. A value of the extension type can be null exactly if it is.
     pub fn is_nullable(&self) -> bool
         ensures { IsTrue result ↔ IsNullable (storage_tree self.now) }
     {
@@ -284,7 +288,7 @@ impl ExtDTypeRef {
         hash_into(&self.parts.storage, mode, state);
     }
 
-    /// Returns an extension type equal to this one.
+    /// Returns a copy of the extension type, which is equal to it.
     ///
     /// # Errors
     ///
@@ -324,11 +328,12 @@ impl ExtDTypeRef {
     }
 
     /// Returns the extension type with the outer nullability of its storage type set to `n`. The id and the metadata
-    /// stay the same. If `n` is `NonNullable`, the caller must prove that the storage type can be made non-nullable.
+    /// stay the same. For example, setting `Nullable` in `x.date[1B](i32)` returns `x.date[1B](i32?)`. If `n` is
+    /// `NonNullable`, the caller must prove that the storage type can be made non-nullable.
     ///
     /// # Errors
     ///
-    /// - `OutOfMemory` (0): an allocation fails.
+    /// - `OutOfMemory` (0): an allocation fails, or a reference count is at its maximum.
     #[cycle(with_nullability)]
     pub fn with_nullability(&self, alloc: Global, n: Nullability) -> VortexResult<Self>
         requires { n ≡ Nullability.NonNullable → CanBeNonNullable (extension_tree self.now) }
@@ -341,7 +346,7 @@ impl ExtDTypeRef {
     }
 }
 
-/// Returns whether the two have equal ids, equal metadata and equal storage types.
+/// Returns whether the two extension types have equal ids, equal metadata and equal storage types.
 #[tactic(auto, using(crate::proofs::lemmas::Equality::equality))]
 impl PartialEq for ExtDTypeRef {
     ghost use Rattle.dtype_types.specs.equality.Equality.{same_by};
@@ -382,7 +387,8 @@ impl Hash for ExtDTypeRef {
     }
 }
 
-/// A value whose `Display` prints the number of bytes of an extension's metadata. In contracts it is the metadata.
+/// A value whose `Display` prints the number of bytes of the metadata of an extension type. In contracts it is the list
+/// of these bytes.
 #[derive(Debug, Drop)]
 pub struct MetadataDisplay<'a> {
     bytes: &'a [u8],

@@ -14,15 +14,15 @@ use dtype_base::{PType, VortexResult};
 use std::alloc::Global;
 use std::hash::{Hash, Hasher};
 
-/// The type of a field of a struct. `StructFields` is made from pairs of a name and a `FieldDType`. `FieldDType::from`
-/// makes one from a `DType` or from a `PType`.
+/// The type of a field of a struct. For example, `StructFields::from_iter` takes pairs of a name and a `FieldDType`.
+/// `FieldDType::from` converts a `DType` or a `PType` to a `FieldDType`.
 #[derive(Debug, Drop)]
 pub struct FieldDType {
     dtype: DType,
 }
 
 impl FieldDType {
-    /// Returns the type.
+    /// Returns the type of the field.
     pub fn value(&self) -> &DType
         ensures { tree result.now ≡ field_tree self.now }
     {
@@ -36,7 +36,7 @@ impl FieldDType {
         self.dtype
     }
 
-    /// Returns a field type equal to this one.
+    /// Returns a copy of the field type, which is equal to it.
     ///
     /// # Errors
     ///
@@ -65,7 +65,7 @@ impl From<DType> for FieldDType {
     }
 }
 
-/// Returns the non-nullable type of this primitive type.
+/// Returns the non-nullable field type of a primitive type. For example, `PType::I32` is converted to `i32`.
 impl From<PType> for FieldDType {
     ghost from_gives = { λ ptype f. (field_tree f ≡ primitive ptype NonNullable) × Valid (field_tree f) };
 

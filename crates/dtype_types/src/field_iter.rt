@@ -13,8 +13,8 @@ use std::iter::FusedIterator;
 use std::marker::Model;
 use std::slice;
 
-/// An iterator over the fields of a struct, in order. It returns a reference to the name and a reference to the type of
-/// each. In contracts it is the list of the fields that are left.
+/// An iterator over the fields of a struct, in order. For each field it returns a reference to the name and a reference
+/// to the type. In contracts it is the list of the fields that it hasn't returned yet.
 #[derive(Debug, Drop)]
 pub struct FieldIter<'a> {
     names: slice::Iter<'a, FieldName>,

@@ -38,8 +38,9 @@ use crate::{
 };
 use std::hash::Hash;
 
-/// For all kinds `a` and `b`, `a == b` is true exactly if `a` and `b` are the same kind. With this law a caller can
-/// conclude from `dtype.kind() == Kind::Struct` that `as_struct_fields` may be called.
+/// For all kinds `a` and `b`, `a == b` is true exactly if `a` and `b` are the same kind. For example, a caller that has
+/// tested `dtype.kind() == Kind::Struct` needs this law to prove that the type is a struct, which `as_struct_fields`
+/// requires.
 ///
 /// About [`DType::kind`].
 pub fn kinds_are_equal_where_the_same()
@@ -47,16 +48,17 @@ pub fn kinds_are_equal_where_the_same()
 {}
 
 /// For all kinds `a` and `b`, if `b` is what `clone` returns for `a`, then `b` is the same kind as `a`. For example, a
-/// clone of `Kind::List` is `Kind::List`. A caller needs this law to conclude that what it has proved of a kind is so
-/// of the clone too.
+/// clone of `Kind::List` is `Kind::List`. A caller that has proved something about a kind needs this law to prove the
+/// same about a clone of it.
 ///
 /// About [`Kind`].
 pub fn clones_of_kinds_are_the_same()
     ensures { (a b : Kind) → ⟦<Kind as Clone>⟧.is_clone a b → b ≡ a }
 {}
 
-/// For all ids `a` and `b`, `a == b` is true exactly if their texts have the same bytes. For example, `x.tag` isn't
-/// equal to `X.tag`. With this law a caller can conclude from a test by `==` which extension type it has.
+/// For all ids `a` and `b`, `a == b` is true exactly if the texts of the two ids have the same bytes. For example, the
+/// ids `x.tag` and `X.tag` aren't equal. A caller that has compared an id by `==` needs this law to prove which text
+/// the id has.
 ///
 /// About [`ExtId`].
 pub fn ids_are_equal_where_their_texts_are()
@@ -72,10 +74,14 @@ pub fn equality_agrees_with_hash()
         → ⟦<DType as Hash>⟧.hash_input a ≡ ⟦<DType as Hash>⟧.hash_input b }
 {}
 
-/// Two statements about types `a` and `b` that are equal if all nullabilities are ignored (`erase a ≡ erase b`). First,
-/// this relation is reflexive, symmetric and transitive. Second, if `a` and `b` are equal in this way, then
-/// `hash_ignore_nullability` writes the same for both to every hasher. For example, it writes the same for `list(i32?)`
-/// and for `list(i32)?`. So types without their nullabilities can be the keys of a hash map.
+/// Two types `a` and `b` are equal except for nullabilities if they are equal once every nullability in them is erased
+/// (`erase a ≡ erase b`). This law makes two statements about that relation:
+/// - It is reflexive, symmetric and transitive.
+/// - If `a` and `b` are equal except for nullabilities, then `hash_ignore_nullability` writes the same for `a` and for
+///   `b` to every hasher.
+///
+/// For example, `hash_ignore_nullability` writes the same for `list(i32?)` and for `list(i32)?`. So a hash map can
+/// treat types that differ only in nullabilities as the same key.
 ///
 /// About [`DType::eq_ignore_nullability`] and [`DType::hash_ignore_nullability`].
 pub fn equality_ignoring_nullability_agrees_with_its_hash()
@@ -84,11 +90,14 @@ pub fn equality_ignoring_nullability_agrees_with_its_hash()
         → hash_writes_ignoring_nullability a ≡ hash_writes_ignoring_nullability b }
 {}
 
-/// Three statements about setting the outer nullability of a type, where `SetNull t n u` says that `u` is `t` with its
-/// outer nullability set to `n`. First, the outer nullability of `u` is then `n`. Second, `u` and `t` are equal except
-/// for nullabilities. Third, if the nullability is set twice, the second setting decides: setting `m` and then `n`
-/// makes the same type as setting `n`. For example, `i32` set to `Nullable` and then to `NonNullable` is `i32`. A
-/// caller needs this law to conclude that `with_nullability` changes only the outer nullability.
+/// `SetNull t n u` means that the type `u` is the type `t` with its outer nullability set to `n`. If it is so, then:
+/// - The outer nullability of `u` is `n`.
+/// - The types `u` and `t` are equal except for nullabilities.
+/// - The last setting decides: if `u` is `t` set to `m`, then setting `u` to `n` makes the same type as setting `t` to
+///   `n`.
+///
+/// For example, `i32` set to `Nullable` and then to `NonNullable` is `i32`. A caller needs this law to prove which type
+/// it has after `with_nullability`.
 ///
 /// About [`DType::with_nullability`].
 #[tactic(auto, using(crate::proofs::lemmas::Nullabilities::set_is, crate::proofs::lemmas::Nullabilities::set_keeps, crate::proofs::lemmas::Nullabilities::set_again))]
@@ -99,8 +108,9 @@ pub fn nullability_is_set_alone()
         → SetNull t m u → (SetNull u n v ↔ SetNull t n v) }
 {}
 
-/// The constant `DType::BYTES`, which this law returns, is the non-nullable `u8`. A caller that builds a schema from
-/// the constant needs this law to prove what the schema is. For example, `list(DType::BYTES)` is `list(u8)`.
+/// The constant `DType::BYTES`, which this law returns, is the non-nullable `u8`. For example, a list whose element
+/// type is `DType::BYTES` is printed as `list(u8)`. A caller that builds a schema from the constant needs this law to
+/// prove what the schema is.
 ///
 /// About [`DType::BYTES`].
 pub fn bytes_are_non_nullable_u8() -> DType
@@ -109,10 +119,10 @@ pub fn bytes_are_non_nullable_u8() -> DType
     DType::BYTES
 }
 
-/// For each valid union `u`, each position `i` and each tag `tag`, if the variant at the position `i` has the tag
-/// `tag`, then `i` is the first position of `tag` among the tags. So `tag_to_child_index` returns `Some(i)` for the tag
-/// that `child_index_to_tag` returns for `i`. For example, in `union(int@5=i32, string@9=utf8)` the tag 9 is at
-/// position 1, and the position 1 has the tag 9.
+/// For each valid union `u`, each position `i` and each tag `tag`: if the variant at the position `i` has the tag
+/// `tag`, then `i` is the first position of `tag` among the tags. For example, in `union(int@5=i32, string@9=utf8)` the
+/// variant at position 1 has the tag 9, and the first position of the tag 9 is 1. So `tag_to_child_index` returns
+/// `Some(i)` for the tag that `child_index_to_tag` returns for `i`.
 ///
 /// About [`UnionVariants::tag_to_child_index`] and [`UnionVariants::child_index_to_tag`].
 #[tactic(auto, using(crate::proofs::lemmas::Tags::position_of_tag))]
@@ -141,8 +151,8 @@ pub fn null_is_a_value_of_nullable_types()
 {}
 
 /// For all types `t` and `u`, if `u` is `t` with its outer nullability set to `Nullable`, then the values of `u` are
-/// the values of `t` together with null. For example, the values of `bool?` are true, false and null. So a column of
-/// type `t` may be read as a column of `u`.
+/// the values of `t` and null. For example, the values of `bool?` are true, false and null. So a column of type `t` may
+/// be read as a column of type `u`.
 ///
 /// About [`DType::as_nullable`].
 pub fn nullable_types_have_null_besides()
@@ -150,10 +160,14 @@ pub fn nullable_types_have_null_besides()
         → AddsNull t u }
 {}
 
-/// `Sub`, the relation that `eq_with_nullability_subset` tests, is a partial order: each type is a subset of itself; if
-/// `a` is a subset of `b` and `b` of `c`, then `a` is a subset of `c`; and if `a` and `b` are subsets of each other,
-/// they are equal. For example, `i32` is a subset of `i32?`, and `i32?` isn't a subset of `i32`. So a caller that knows
-/// `a` to be a subset of `b` and `b` of `c` needn't compare `a` with `c`.
+/// `Sub`, the relation that `eq_with_nullability_subset` tests, is a partial order. That is, for all types `a`, `b` and
+/// `c`:
+/// - `a` is a subset of `a`.
+/// - If `a` is a subset of `b`, and `b` is a subset of `c`, then `a` is a subset of `c`.
+/// - If `a` is a subset of `b`, and `b` is a subset of `a`, then `a` and `b` are equal.
+///
+/// For example, `i32` is a subset of `i32?`, and `i32?` isn't a subset of `i32`. So a caller that knows that `a` is a
+/// subset of `b` and that `b` is a subset of `c` needn't compare `a` with `c`.
 ///
 /// About [`DType::eq_with_nullability_subset`].
 pub fn sub_is_an_order()
@@ -169,11 +183,14 @@ pub fn values_of_what_is_below_are_values()
     ensures { (a b : Tree) → Sub a b → IncludedIn a b }
 {}
 
-/// For all types `a` and `b` that are equal except for nullabilities, if `a` is valid and contains no fixed-size list
-/// of size 0, then `a` is a subset of `b` exactly if each value of `a` is a value of `b`. So
-/// `eq_with_nullability_subset` returns `true` exactly if a column of the one type may be used as a column of the
-/// other. The premise about size 0 is needed: the only value of `fixed_size_list(i32?)[0]` is the empty list, which is
-/// a value of `fixed_size_list(i32)[0]` too, and yet the first type isn't a subset of the second.
+/// Take two types `a` and `b` that are equal except for nullabilities, such that `a` is valid and contains no
+/// fixed-size list of size 0. Then `a` is a subset of `b` exactly if each value of `a` is a value of `b`. For example,
+/// null is a value of `i32?` and not of `i32`, so `i32?` isn't a subset of `i32`. So for such types
+/// `a.eq_with_nullability_subset(b)` returns `true` exactly if a column of type `a` may be used as a column of type
+/// `b`.
+///
+/// The law needs the condition about size 0. For example, `fixed_size_list(i32?)[0]` isn't a subset of
+/// `fixed_size_list(i32)[0]`, although the only value of the first type, the empty list, is a value of the second.
 ///
 /// About [`DType::eq_with_nullability_subset`].
 #[tactic(auto, using(crate::proofs::lemmas::SubValues::sub_values, crate::proofs::TellLaws::included_is_sub))]
@@ -182,10 +199,10 @@ pub fn the_order_is_inclusion_of_values()
         → (Sub a b ↔ IncludedIn a b) }
 {}
 
-/// For all types `a` and `b` that are equal except for nullabilities, if `a` is valid and contains no fixed-size list
-/// of size 0, and `a` isn't a subset of `b`, then `tell a b` is a value of `a` that isn't a value of `b`. For example,
-/// `tell` of `list(i32?)` and `list(i32)` is the list of one null. With this law a program that refuses a column of
-/// type `a` can show a value for which it does so.
+/// Take two types `a` and `b` that are equal except for nullabilities, such that `a` is valid and contains no
+/// fixed-size list of size 0. If `a` isn't a subset of `b`, then `tell a b` is `Some` of a value of `a` that isn't a
+/// value of `b`. For example, `tell` of `list(i32?)` and `list(i32)` is the list that contains one null. With this law
+/// a program that refuses a column of type `a` can show a value that is the reason.
 ///
 /// About [`DType::eq_with_nullability_subset`].
 #[tactic(auto, using(crate::proofs::TellLaws::tells_apart))]
@@ -195,10 +212,11 @@ pub fn tell_tells_apart()
 {}
 
 /// For all types `a` and `b` that are equal except for nullabilities, `tell a b` is `None` exactly if `a` is a subset
-/// of `b`, even if the types contain a fixed-size list of size 0. Otherwise `tell a b` is `Some` of a value. (The law
-/// `tell_tells_apart` describes this value if `a` is valid and contains no fixed-size list of size 0.) For example,
-/// `tell` of `i32` and `i32?` is `None`, and `tell` of `i32?` and `i32` is `Some` of null. So `tell` returns a value
-/// exactly if `eq_with_nullability_subset` returns `false`.
+/// of `b`. For example, `tell` of `i32` and `i32?` is `None`, and `tell` of `i32?` and `i32` is `Some` of null. So
+/// `tell` returns a value exactly if `eq_with_nullability_subset` returns `false`.
+///
+/// Unlike `tell_tells_apart`, this law has no condition about fixed-size lists of size 0 or about validity. In return,
+/// it doesn't state that the value belongs to `a` and not to `b`.
 ///
 /// About [`DType::eq_with_nullability_subset`].
 #[tactic(auto, using(crate::proofs::TellLaws::told_exactly))]
@@ -206,9 +224,9 @@ pub fn tell_gives_exactly_where_not_below()
     ensures { (a b : Tree) → erase a ≡ erase b → ((tell a b ≡ None) ↔ Sub a b) }
 {}
 
-/// The iterators over types, over fields and over variants yield their items in order, exactly as many as `len`
-/// returned, and then `None`. For example, the iterator over the fields of `{a=i32, b=utf8}` returns `a` with `i32`,
-/// then `b` with `utf8`, then `None`. A caller needs this to know which fields a `for` loop visits.
+/// The iterators over types, over fields and over variants return all items that are left, in order, and then `None`.
+/// For example, the iterator over the fields of `{a=i32, b=utf8}` returns `a` with `i32`, then `b` with `utf8`, then
+/// `None`. A caller needs this law to prove which fields a `for` loop visits.
 ///
 /// About [`StructFields::pairs`], [`StructFields::fields`], [`StructFields::field_dtypes`], [`UnionVariants::triples`]
 /// and [`UnionVariants::variants`].
@@ -221,11 +239,18 @@ pub fn parts_are_given_in_order()
         ⟦<VariantIter<'static> as Iterator>⟧.remaining borrowed_triple (λ left. left) }
 {}
 
-/// A type that is made from valid types is valid. There is one statement for each of these: primitive types, lists,
-/// fixed-size lists whose size is below 2^32, maps whose key type is non-nullable, the type of a map's entries,
-/// structs, unions whose names, types and tags `UnionVariants::try_new` accepts, and extensions whose metadata is
-/// bytes. For example, if `t` is valid, then `list(t)?` is valid. A caller needs this law to prove that a type that it
-/// builds is valid, as many contracts require.
+/// A type that is made from valid types is valid. There is one statement for each of these:
+/// - primitive types
+/// - lists
+/// - fixed-size lists whose size is below 2^32
+/// - maps whose key type is non-nullable
+/// - the type of the entries of a map
+/// - structs
+/// - unions whose names, types and tags `UnionVariants::try_new` accepts
+/// - extensions whose metadata is bytes
+///
+/// For example, if `t` is valid, then `list(t)?` is valid. A caller that builds a type needs this law because many
+/// contracts guarantee something only for valid types.
 ///
 /// About [`DType::list`], [`DType::map`] and [`DType::struct_`].
 #[tactic(auto, using(crate::proofs::lemmas::ValidLists::valid_struct_of, crate::proofs::lemmas::ValidLists::listed_variants, crate::proofs::lemmas::ValidLists::valid_variants, crate::proofs::lemmas::Validity::entries_valid))]
@@ -246,9 +271,9 @@ pub fn types_made_of_valid_types_are_valid()
         → Valid (extension id metadata t) }
 {}
 
-/// For all types `t` and `u`, if `u` is `t` with its outer nullability set, then `t` is valid exactly if `u` is. For
-/// example, `list(decimal(5,2))` and `list(decimal(5,2))?` are both valid. So what `with_nullability` returns for a
-/// valid type may be used wherever a valid type is required.
+/// For all types `t` and `u`, if `u` is `t` with its outer nullability set to some `n`, then `t` is valid exactly if
+/// `u` is valid. For example, `list(decimal(5,2))` and `list(decimal(5,2))?` are both valid. So what contracts
+/// guarantee for valid types is also guaranteed for the type that `with_nullability` returns for a valid type.
 ///
 /// About [`DType::with_nullability`].
 pub fn setting_a_nullability_keeps_validity()
@@ -256,8 +281,9 @@ pub fn setting_a_nullability_keeps_validity()
 {}
 
 /// A copy of something valid is valid. There is one statement for each of these: a type, the fields of a struct, the
-/// variants of a union, the parts of a map, an extension, and the type of a field. So what `try_clone` returns for a
-/// valid type may be used wherever a valid type is required.
+/// variants of a union, the parts of a map, an extension, and the type of a field. For example, what `try_clone`
+/// returns for the valid type `list(utf8)` is valid. So what contracts guarantee for valid types is also guaranteed for
+/// copies of them.
 ///
 /// About [`DType::try_clone`].
 pub fn copies_of_valid_types_are_valid()
@@ -276,8 +302,8 @@ pub fn copies_of_valid_types_are_valid()
 
 /// For each valid type, the part of it that an `as_.._opt` or `into_.._opt` call returns is valid: the element type of
 /// a list, the parts of a map, the fields of a struct, the variants of a union, and an extension. For example, if
-/// `list(t)` is valid, then `t` is valid. So a function that descends into a valid type may call functions that require
-/// valid types.
+/// `list(t)` is valid, then `t` is valid. So a function that descends into a valid type knows that the types in it are
+/// valid.
 ///
 /// About [`StructFields::field`] and [`UnionVariants::variant`].
 #[tactic(auto, using(crate::proofs::lemmas::ValidParts::valid_parts))]
@@ -296,9 +322,15 @@ pub fn parts_of_a_valid_type_are_valid()
 {}
 
 /// Each type in the fields of a valid struct, in the variants of a valid union, in a valid map or in a valid extension
-/// is valid. There are separate statements for a field or a variant at a position, for one that is found by its name,
-/// for all of them, for a map's key type and value type, and for a storage type. For example, if `{a=t, b=u}` is valid,
-/// then the type `t` of its field `a` is valid.
+/// is valid. For example, if `{a=t, b=u}` is valid, then the type `t` of its field `a` is valid. There are separate
+/// statements for each of these:
+/// - a field or a variant at a position
+/// - a field or a variant that is found by its name
+/// - all fields of a struct, and all variants of a union
+/// - the key type and the value type of a map
+/// - the storage type of an extension
+///
+/// A caller that has found a field or a variant needs this law to prove that its type is valid.
 ///
 /// About [`StructFields::field_by_index`] and [`UnionVariants::variant_by_index`].
 #[tactic(auto, using(crate::proofs::lemmas::Validity::types_in_valid_parts))]
@@ -319,10 +351,13 @@ pub fn types_in_valid_parts_are_valid()
     ensures storage { (e : ExtDTypeRef) → Valid (extension_tree e) → Valid (storage_tree e) }
 {}
 
-/// Three statements about structs that are made from valid structs. First, what `project` returns for a valid struct is
-/// valid. Second, what `disjoint_merge` returns for two valid structs is valid. Third, what `without_field` returns for
-/// a valid struct is valid. For example, if `{a=t, b=u}` is valid, then `{b=u}` is valid. So what these calls return
-/// for valid structs may be used wherever a valid struct is required.
+/// A struct that is made from valid structs is valid. There is one statement for each of these:
+/// - what `project` returns for a valid struct
+/// - what `disjoint_merge` returns for two valid structs
+/// - what `without_field` returns for a valid struct
+///
+/// For example, if `{a=t, b=u}` is valid, then `{b=u}` is valid. So what contracts guarantee for valid structs is also
+/// guaranteed for these results.
 ///
 /// About [`StructFields::project`].
 #[tactic(auto, using(crate::proofs::lemmas::Validity::removal_valid, crate::proofs::lemmas::Validity::valid_joined, crate::proofs::lemmas::Validity::valid_projected))]

@@ -1,26 +1,35 @@
 // SPDX-License-Identifier: Apache-2.0
 // SPDX-FileCopyrightText: Copyright the Vortex contributors
 
-//! Logical types: `DType`, the structs, unions and maps from which it is made, and extension types whose library
-//! needn't be known.
+//! Logical types: `DType`, the structs, unions and maps that it contains, and extension types.
 //!
-//! In contracts a `DType` is a finite tree: `tree d` of `specs/tree/TreeOf`. Each call is specified by a definition on
-//! trees: what the nullability of a type is, which field a name finds, when two types are equal, how a type is printed.
-//! If the types that a call takes are valid (`Valid` of their trees), then the types that it returns are valid too
-//! (`laws`). A struct is a list of pairs of a name and a type; a union is a list of triples of a name, a type and a tag
-//! (`named` and `tagged`).
+//! For example, `DType::list(alloc, DType::Utf8(Nullability::NonNullable), Nullability::Nullable)` returns the type
+//! that is printed as `list(utf8)?`. Begin with `DType` in `dtype.rt`. Its methods are in the folder `dtype/`, one file
+//! for each topic. Then read `StructFields`. An extension type is stored as its id, its metadata and its storage type,
+//! so the program needn't know the library that defines it.
 //!
-//! Begin with `DType` in `dtype.rt`; its calls are in `dtype/`, one file for each topic. Then read `StructFields`.
+//! The contracts describe a type `d` by its tree, which is written `tree d` and defined in `specs/tree/TreeOf`. A tree
+//! has one constructor for each variant of `DType`. For example, the tree of the type above is
+//! `list (utf8 NonNullable) Nullable`. The contracts describe the fields of a struct as a list of pairs of a name and a
+//! tree, and the variants of a union as a list of triples of a name, a tree and a tag. What a call does is specified by
+//! a definition on trees, for example the outer nullability of a type, the field that a name finds, whether two types
+//! are equal, or the text of a type.
+//!
+//! A type is valid if every node of its tree meets the rules of the constructors (`Valid` in `specs/tree/Valid`). For
+//! example, one rule is that the key type of a map is non-nullable. If the types that a call takes are valid, then the
+//! types that it returns are valid too. `laws` contains the theorems about this.
 //!
 //! The definitions are in the folders of `specs/`:
 //! - `tree`: the tree of a type, its kind, its width, and when it is valid.
-//! - `parts`: structs, unions and maps.
+//! - `parts`: structs, unions, maps and extensions, and which field or variant a name finds.
 //! - `nullability`: the outer nullability, the order of types by nullability (`Sub`), and merging.
 //! - `values`: values, and which are values of which type.
 //! - `texts`: what is printed.
 //! - `equality`: when types are equal, and what they write to a hasher.
+//! - `formers`: how the containers of the fields of a struct and of the variants of a union contain types.
 //!
-//! `laws` states theorems about these definitions. `docs/TRUST.md` lists what is proved and what is only tested.
+//! `laws` and `nullability_laws` state theorems about these definitions. `docs/TRUST.md` lists what is proved and what
+//! is only tested.
 #![tactic(auto)]
 
 mod dtype;

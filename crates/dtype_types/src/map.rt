@@ -16,8 +16,9 @@ use std::fmt;
 use std::hash::{Hash, Hasher};
 use std::rc::Rc;
 
-/// The key type and the value type of a map, and whether its keys are declared to be sorted. For example,
-/// `map(utf8, i32?, keys_sorted=true)` has the key type `utf8` and the value type `i32?`.
+/// The parts of a map type: its key type, its value type, and whether its keys are declared to be sorted. For example,
+/// `map(utf8, i32?, keys_sorted=true)` has the key type `utf8` and the value type `i32?`. The key type of a map that
+/// `try_new` returns is non-nullable.
 #[derive(Debug, Drop)]
 #[cycle(dtype)]
 pub struct MapDType {
@@ -41,8 +42,8 @@ impl MapDType {
     ghost use Rattle.dtype_types.specs.nullability.Nullable.{nullability, IsNullable};
     ghost use Rattle.dtype_types.specs.tree.TreeOf.{tree, map_shown};
 
-    /// Returns the map type with this key type and this value type. `keys_sorted` is stored in the type and isn't
-    /// checked against anything.
+    /// Returns the map with this key type and this value type. The flag `keys_sorted` declares that the keys of each
+    /// value of the type are sorted. The call stores the flag, and nothing checks that it is so.
     ///
     /// # Errors
     ///
@@ -83,18 +84,19 @@ impl MapDType {
         &self.shared.value
     }
 
-    /// Returns whether the keys are declared to be sorted. Nothing checks that they are.
+    /// Returns whether the keys are declared to be sorted. Nothing checks that they are sorted.
     pub fn keys_sorted(&self) -> bool
         ensures { result ≡ (map_shown self.now).2 }
     {
         self.shared.keys_sorted
     }
 
-    /// Returns the type of the map's entries: a non-nullable struct with the fields `key` and `value`.
+    /// Returns the type of an entry of the map: a non-nullable struct with the fields `key` and `value`. For example,
+    /// it returns `{key=utf8, value=i32?}` for `map(utf8, i32?, keys_sorted=true)`.
     ///
     /// # Errors
     ///
-    /// - `OutOfMemory` (0): an allocation fails.
+    /// - `OutOfMemory` (0): an allocation fails, or a reference count is at its maximum.
     pub fn entries_dtype(&self, alloc: Global) -> VortexResult<DType>
         ensures { Makes result (λ d. tree d ≡ entries_of (key_tree self.now) (value_tree self.now)) }
     {
@@ -151,10 +153,10 @@ impl MapDType {
         self.shared.keys_sorted.hash(state);
     }
 
-    /// Returns a copy of the map type, which shares the key type and the value type with the original.
+    /// Returns a copy of the map, which shares the key type and the value type with the original.
     ///
-    /// The call raises a reference count and doesn't allocate, so `_alloc` isn't used. It is a parameter so that the
-    /// signature can stay the same if a later version has to allocate.
+    /// The call raises a reference count and doesn't allocate, so it doesn't use `_alloc`. The parameter is there so
+    /// that the signature can stay the same if a later version has to allocate.
     ///
     /// # Errors
     ///

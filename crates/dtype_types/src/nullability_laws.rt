@@ -32,9 +32,9 @@ pub fn types_equal_but_for_nullabilities_are_intersected()
 {}
 
 /// For all types `a`, `b` and `c`, if `merged a b` is `Some c`, then `c` is the least type of which `a` and `b` are
-/// subsets: `a` and `b` are subsets of `c`, and `c` is a subset of each other type of which both are subsets. For
-/// example, merging `{a=i32, b=utf8?}` and `{a=i32?, b=utf8}` returns `{a=i32?, b=utf8?}`. So a merged schema is
-/// nullable only where it has to be.
+/// subsets. That is, `a` and `b` are subsets of `c`, and `c` is a subset of every type `d` of which both `a` and `b`
+/// are subsets. For example, merging `{a=i32, b=utf8?}` and `{a=i32?, b=utf8}` returns `{a=i32?, b=utf8?}`. So a merged
+/// schema is nullable only in the places in which one of the two schemas is.
 ///
 /// About [`merge_nullability`].
 pub fn what_is_merged_is_least()
@@ -42,9 +42,9 @@ pub fn what_is_merged_is_least()
 {}
 
 /// For all types `a`, `b` and `c`, if `intersected a b` is `Some c`, then `c` is the greatest type that is a subset of
-/// both: `c` is a subset of `a` and of `b`, and each type that is a subset of both is a subset of `c`. For example,
-/// intersecting `{a=i32, b=utf8?}` and `{a=i32?, b=utf8}` returns `{a=i32, b=utf8}`. So an intersected schema is
-/// non-nullable only where it has to be.
+/// both `a` and `b`. That is, `c` is a subset of `a` and of `b`, and every type `d` that is a subset of both is a
+/// subset of `c`. For example, intersecting `{a=i32, b=utf8?}` and `{a=i32?, b=utf8}` returns `{a=i32, b=utf8}`. So an
+/// intersected schema is non-nullable only in the places in which one of the two schemas is.
 ///
 /// About [`intersect_nullability`].
 pub fn what_is_intersected_is_greatest()
@@ -52,17 +52,17 @@ pub fn what_is_intersected_is_greatest()
 {}
 
 /// For all types `a`, `b` and `c`, if `merged a b` is `Some c`, and `a` and `b` are valid, then `c` is valid. For
-/// example, merging the valid types `list(i32)` and `list(i32?)` returns the valid type `list(i32?)`. So a merged type
-/// may be used wherever a valid type is required.
+/// example, merging the valid types `list(i32)` and `list(i32?)` returns the valid type `list(i32?)`. So what contracts
+/// guarantee for valid types is also guaranteed for merged types.
 ///
 /// About [`merge_nullability`].
 pub fn what_is_merged_is_valid()
     ensures { (a b c : Tree) → merged a b ≡ Some c → Valid a → Valid b → Valid c }
 {}
 
-/// For all types `a`, `b` and `c`, if `intersected a b` is `Some c`, and `a` is valid or `b` is valid, then `c` is
-/// valid. For example, intersecting the valid types `list(i32)?` and `list(i32?)` returns the valid type `list(i32)`.
-/// So an intersected type may be used wherever a valid type is required.
+/// For all types `a`, `b` and `c`, if `intersected a b` is `Some c`, and at least one of `a` and `b` is valid, then `c`
+/// is valid. For example, intersecting the valid types `list(i32)?` and `list(i32?)` returns the valid type
+/// `list(i32)`. So what contracts guarantee for valid types is also guaranteed for intersected types.
 ///
 /// About [`intersect_nullability`].
 pub fn what_is_intersected_is_valid()
@@ -70,11 +70,15 @@ pub fn what_is_intersected_is_valid()
     ensures second { (a b c : Tree) → intersected a b ≡ Some c → Valid b → Valid c }
 {}
 
-/// Three statements about all types `a`, `b` and `c` for which `merged a b` is `Some c`. First, each value of `a` is a
-/// value of `c`. Second, each value of `b` is a value of `c`. Third, for each type `d`: if `a`, `b` and `d` are valid,
-/// and each value of `a` and each value of `b` is a value of `d`, then each value of `c` is a value of `d`. So no valid
-/// type that contains the values of both contains fewer values than `c`. For example, a program that reads a file with
-/// `i32` and a file with `i32?` as one column needs the type `i32?`.
+/// For all types `a`, `b` and `c`, if `merged a b` is `Some c`, then:
+/// - Each value of `a` is a value of `c`.
+/// - Each value of `b` is a value of `c`.
+/// - No valid type that contains the values of both contains fewer values than `c`: for each type `d`, if `a`, `b` and
+///   `d` are valid, and each value of `a` and each value of `b` is a value of `d`, then each value of `c` is a value of
+///   `d`.
+///
+/// For example, a program that reads a file with a column of type `i32` and a file with one of type `i32?` as one
+/// column needs the type `i32?`.
 ///
 /// About [`merge_nullability`].
 #[tactic(auto, using(crate::proofs::lemmas::Merging::values_first, crate::proofs::lemmas::Merging::values_second, crate::proofs::lemmas::Merging::merged_least_values))]
@@ -85,19 +89,19 @@ pub fn what_is_merged_takes_the_values_of_both()
         → IncludedIn a d → IncludedIn b d → IncludedIn c d }
 {}
 
-/// For all types `a`, `b` and `c`, if `intersected a b` is `Some c` and `a` is valid, then the values of `c` are
+/// For all types `a`, `b` and `c`, if `intersected a b` is `Some c`, and `a` is valid, then the values of `c` are
 /// exactly the values that `a` and `b` have in common. For example, intersecting `list(i32?)` and `list(i32)?` returns
-/// `list(i32)`, whose values are the lists that contain no null and aren't null themselves. So a writer whose values
-/// two readers have to accept needs exactly the intersected type.
+/// `list(i32)`, whose values are the lists of integers that contain no null. So a program may write a value for two
+/// readers, of which one expects `a` and the other expects `b`, exactly if it is a value of `c`.
 ///
 /// About [`intersect_nullability`].
 pub fn what_is_intersected_has_the_values_of_both()
     ensures { (a b c : Tree) → intersected a b ≡ Some c → Valid a → (v : Value) → Of v c ↔ (Of v a × Of v b) }
 {}
 
-/// For all types `a`, `b` and `c`, merging is commutative, associative and idempotent, and if `b` is a subset of `a`,
-/// then merging `a` and `b` returns `a`. For example, merging `i32?` and `i32` returns `i32?`, and so does merging
-/// `i32` and `i32?`. So a program can merge the schemas of several files in any order.
+/// Merging is commutative, associative and idempotent. Also, for all types `a` and `b`, if `b` is a subset of `a`, then
+/// merging `a` and `b` returns `a`. For example, merging `i32?` and `i32` returns `i32?`, and so does merging `i32` and
+/// `i32?`. So a program can merge the schemas of several files in any order.
 ///
 /// About [`merge_nullability`].
 pub fn types_are_merged_in_any_order()
@@ -108,9 +112,9 @@ pub fn types_are_merged_in_any_order()
     ensures absorbing { (a b : Tree) → Sub b a → merged a b ≡ Some a }
 {}
 
-/// For all types `a`, `b` and `c`, intersecting is commutative, associative and idempotent, and if `a` is a subset of
-/// `b`, then intersecting `a` and `b` returns `a`. For example, intersecting `i32` and `i32?` returns `i32`, and so
-/// does intersecting `i32?` and `i32`. So several types can be intersected in any order.
+/// Intersecting is commutative, associative and idempotent. Also, for all types `a` and `b`, if `a` is a subset of `b`,
+/// then intersecting `a` and `b` returns `a`. For example, intersecting `i32` and `i32?` returns `i32`, and so does
+/// intersecting `i32?` and `i32`. So a program can intersect several types in any order.
 ///
 /// About [`intersect_nullability`].
 pub fn types_are_intersected_in_any_order()
@@ -121,11 +125,13 @@ pub fn types_are_intersected_in_any_order()
     ensures absorbing { (a b : Tree) → Sub a b → intersected a b ≡ Some a }
 {}
 
-/// Two statements about all types `a` and `b` that are equal except for nullabilities. First, if `c` is the result of
-/// intersecting `a` and `b`, then merging `a` and `c` returns `a`. Second, if `d` is the result of merging `a` and `b`,
-/// then intersecting `a` and `d` returns `a`. For example, intersecting `i32?` and `i32` returns `i32`, and merging
-/// `i32?` and `i32` returns `i32?`. This law, `types_are_merged_in_any_order` and `types_are_intersected_in_any_order`
-/// say together that the types that differ only in nullabilities are a lattice with these two operations.
+/// For all types `a` and `b` that are equal except for nullabilities:
+/// - If intersecting `a` and `b` returns `c`, then merging `a` and `c` returns `a`.
+/// - If merging `a` and `b` returns `d`, then intersecting `a` and `d` returns `a`.
+///
+/// For example, intersecting `i32?` and `i32` returns `i32`, and merging `i32?` and `i32` returns `i32?`. This law,
+/// `types_are_merged_in_any_order` and `types_are_intersected_in_any_order` together state that the types that differ
+/// only in nullabilities are a lattice with these two operations.
 ///
 /// About [`merge_nullability`] and [`intersect_nullability`].
 #[tactic(auto, using(crate::proofs::lemmas::Merging::merged_absorbs, crate::proofs::lemmas::Merging::intersected_absorbs))]
@@ -134,10 +140,12 @@ pub fn merging_and_intersecting_absorb_each_other()
     ensures intersected { (a b : Tree) → erase a ≡ erase b → option_and_then (intersected a) (merged a b) ≡ Some a }
 {}
 
-/// For all types `a`, `b`, `c` and `d`, suppose that `a` is a subset of `b` and `c` is a subset of `d`. If merging `a`
-/// and `c` returns `x`, and merging `b` and `d` returns `y`, then `x` is a subset of `y`. The same is so if both pairs
-/// are intersected. For example, if a schema becomes nullable in one more place, then the result of merging it with
-/// another schema doesn't become non-nullable anywhere.
+/// For all types `a`, `b`, `c` and `d` such that `a` is a subset of `b`, and `c` is a subset of `d`: if merging `a` and
+/// `c` returns `x`, and merging `b` and `d` returns `y`, then `x` is a subset of `y`. The same is so if both pairs are
+/// intersected. For example, let `a` be `{x=i32, y=utf8}`, let `b` be `{x=i32?, y=utf8}`, and let `c` and `d` both be
+/// `{x=i32, y=utf8?}`. Then merging `a` and `c` returns `{x=i32, y=utf8?}`, which is a subset of `{x=i32?, y=utf8?}`,
+/// the result of merging `b` and `d`. So if a schema becomes nullable in one more place, then the result of merging it
+/// with another schema doesn't become non-nullable anywhere.
 ///
 /// About [`merge_nullability`] and [`intersect_nullability`].
 #[tactic(auto, using(crate::proofs::lemmas::Merging::merged_monotone, crate::proofs::lemmas::Merging::intersected_monotone))]

@@ -29,11 +29,12 @@ use std::fmt;
 use std::hash::{Hash, Hasher};
 use std::rc::Rc;
 
-/// The fields of a struct, in order, each with a name and a type. A name may occur more than once, as it may in the
-/// formats from which types are read. Each call that looks for a name finds the first field of that name.
+/// The fields of a struct, in order, each with a name and a type. A name may occur more than once, because the formats
+/// from which types are read allow it. Each call that looks for a name finds the first field of that name.
 ///
 /// For example, in the fields `int_col=i32?, int_col=i64?` the call `field("int_col")` returns `i32?`, and
-/// `find("int_col")` returns 0. `project` to `int_col, int_col` returns `int_col=i32?, int_col=i32?`.
+/// `find("int_col")` returns 0. The call `project` with the names `int_col, int_col` returns
+/// `int_col=i32?, int_col=i32?`.
 #[derive(Debug, Drop)]
 #[cycle(dtype)]
 pub struct StructFields {
@@ -125,7 +126,7 @@ impl StructFields {
         collected.into_struct(alloc)
     }
 
-    /// Returns the names, in order.
+    /// Returns the names of the fields, in order.
     #[tactic(auto, using(crate::proofs::Sides::pairs, crate::proofs::Parts::fields))]
     pub fn names(&self) -> &FieldNames
         ensures { result.now ≡ field_names (children self.now) }
@@ -140,8 +141,8 @@ impl StructFields {
         self.shared.dtypes()
     }
 
-    /// Returns an iterator over the fields, in order, which returns a reference to the name and a reference to the type
-    /// of each.
+    /// Returns an iterator over the fields, in order. For each field it returns a reference to the name and a reference
+    /// to the type.
     #[tactic(auto, using(crate::proofs::Sides::zip_sides, crate::proofs::Sides::pairs, crate::proofs::Parts::fields))]
     pub fn pairs(&self) -> FieldIter<'_>
         ensures lent { result ≡ struct_pairs self.now }
@@ -164,21 +165,25 @@ impl StructFields {
         self.names().as_slice().get(index)
     }
 
-    /// Returns the position of the first field with this name, or `None` if no field has it. It searches an index of
-    /// the names; `find_counted` describes how many names it compares.
+    /// Returns the position of the first field with this name, or `None` if no field has it.
+    ///
+    /// The call searches an index of the names. `find_counted` describes how many names it compares.
     pub fn find(&self, name: &str) -> Option<usize>
         ensures { result ≡ first_place (field_names (children self.now)) name.now }
     {
         self.find_counted(name).0
     }
 
-    /// Returns what `find` returns, and the number of names that were compared.
+    /// Returns what `find` returns for this name, and the number of names that the search compared with it.
     ///
-    /// That number is the same for every name, whether a field has it or not, and 0 if there are no fields. The index
-    /// distributes the names by their hashes among as many buckets as there are fields, and the number depends only on
-    /// the longest bucket: it is 1 if that bucket contains one name, 2 for two names, 3 for three or four names, and 4
-    /// for five to eight names, as in a binary search. Even if all names are in one bucket, it is at most 1 plus the
-    /// number of binary digits of the number of fields, for example at most 11 for 1000 fields. Doesn't allocate.
+    /// That number is the same for every name, whether a field has the name or not. It is 0 if there are no fields.
+    /// Otherwise it depends on the index, which distributes the names by their hashes among as many buckets as there
+    /// are fields. Every lookup is a binary search among as many names as the longest bucket contains: it compares 1
+    /// name if that bucket contains one name, 2 for two names, 3 for three or four names, and 4 for five to eight
+    /// names. Even if all names are in one bucket, the number is at most 1 plus the number of binary digits of the
+    /// number of fields. For example, it is at most 11 for 1000 fields.
+    ///
+    /// The call doesn't allocate.
     #[tactic(auto, using(crate::proofs::Parts::fields))]
     pub fn find_counted(&self, name: &str) -> (Option<usize>, u64)
         ensures first { result.0 ≡ first_place (field_names (children self.now)) name.now }
@@ -205,7 +210,7 @@ impl StructFields {
         self.dtypes().get(index)
     }
 
-    /// Returns an iterator over references to the types, in order.
+    /// Returns an iterator over the types of the fields, in order. It returns a reference to each type.
     #[tactic(auto, using(crate::proofs::Sides::pairs, crate::proofs::Parts::fields))]
     pub fn fields(&self) -> DTypeIter<'_>
         ensures all { map tree result ≡ field_types (children self.now) }
@@ -214,7 +219,7 @@ impl StructFields {
         DTypeIter::new(self.dtypes())
     }
 
-    /// Returns an iterator over references to the types, in order. It is the same as `fields`.
+    /// Returns an iterator over the types of the fields, in order. The call does the same as `fields`.
     pub fn field_dtypes(&self) -> DTypeIter<'_>
         ensures all { map tree result ≡ field_types (children self.now) }
         ensures fits { length (map tree result) < 2 ^ 64 }
@@ -222,8 +227,9 @@ impl StructFields {
         self.fields()
     }
 
-    /// Returns whether the fields are equal if every nullability in them, at any depth, is ignored. Names and their
-    /// order count.
+    /// Returns whether the fields are equal if every nullability in them, at any depth, is ignored. The names and their
+    /// order are compared. For example, `a=i32, b=utf8` and `a=i32?, b=utf8` are equal in this way, and `b=utf8, a=i32`
+    /// isn't equal to them.
     #[tactic(auto, using(crate::proofs::KindLaws::erased_tests))]
     pub fn eq_ignore_nullability(&self, other: &Self) -> bool
         ensures { IsTrue result
@@ -296,7 +302,7 @@ impl StructFields {
     ///
     /// - `FieldNotFound` (16): a name in `projection` isn't the name of any field. The error contains the position, in
     ///   `projection`, of the first such name.
-    /// - `OutOfMemory` (0): an allocation fails.
+    /// - `OutOfMemory` (0): an allocation fails, or a reference count is at its maximum.
     #[tactic(auto, using(crate::proofs::Selected::refused_of))]
     pub fn project(&self, alloc: Global, projection: &[FieldName]) -> VortexResult<Self>
         ensures ok { MatchResult result
@@ -329,12 +335,13 @@ impl StructFields {
         Ok(copies)
     }
 
-    /// Returns the fields of this struct followed by those of the other. All names must be different.
+    /// Returns the fields of this struct followed by those of the other. The names of all these fields have to be
+    /// different. For example, merging `a=i32` with `b=utf8` returns `a=i32, b=utf8`.
     ///
     /// # Errors
     ///
     /// - `DuplicateNames` (18): a name occurs in both structs, or twice in one of them.
-    /// - `OutOfMemory` (0): an allocation fails.
+    /// - `OutOfMemory` (0): an allocation fails, or a reference count is at its maximum.
     #[tactic(auto, using(crate::proofs::lemmas::Validity::valid_joined, crate::proofs::Parts::names_shown))]
     pub fn disjoint_merge(&self, alloc: Global, other: &Self) -> VortexResult<Self>
         ensures ok { MatchResult result
@@ -370,7 +377,7 @@ impl StructFields {
     ///
     /// - `IndexOutOfBounds` (17): the position isn't below the number of fields. The error contains the position and
     ///   the number of fields.
-    /// - `OutOfMemory` (0): an allocation fails.
+    /// - `OutOfMemory` (0): an allocation fails, or a reference count is at its maximum.
     #[tactic(auto, using(crate::proofs::PutTogether::all_but, crate::proofs::Parts::names_shown))]
     pub fn without_field(&self, alloc: Global, index: usize) -> VortexResult<Self>
         ensures ok { MatchResult result
@@ -392,10 +399,13 @@ impl StructFields {
         Ok(left.into_struct(alloc)?)
     }
 
-    /// Returns the fields as text over several lines: a line with an opening brace, one line for each field, indented
-    /// by two spaces, and a line with the closing brace. For example, the text of `{a=i32, b=utf8}` has the lines `{`,
-    /// `a=i32,`, `b=utf8` and `}`, of which the second and the third are indented. A struct inside a struct or inside a
-    /// list is written in the same way, with each of its lines indented by two more spaces.
+    /// Returns the fields as text over several lines. The first line is an opening brace, then each field has a line
+    /// that begins with two spaces, and the last line is a closing brace. For example, the text of `{a=i32, b=utf8}`
+    /// has the four lines `{`, `  a=i32,`, `  b=utf8` and `}`.
+    ///
+    /// If the type of a field is a struct, that struct is written over several lines too, and the lines of its fields
+    /// and its closing brace begin with two more spaces. The same is done for a struct that is the element type of a
+    /// list or of a fixed-size list. Every other type is written on one line.
     ///
     /// # Errors
     ///
@@ -437,8 +447,8 @@ impl StructFields {
 
     /// Returns a copy of the fields, which shares the names and the types with the original.
     ///
-    /// The call raises a reference count and doesn't allocate, so `_alloc` isn't used. It is a parameter so that the
-    /// signature can stay the same if a later version has to allocate.
+    /// The call raises a reference count and doesn't allocate, so it doesn't use `_alloc`. The parameter is there so
+    /// that the signature can stay the same if a later version has to allocate.
     ///
     /// # Errors
     ///
@@ -491,7 +501,8 @@ impl Hash for StructFields {
     }
 }
 
-/// Collects the fields that an iterator yields into a struct, in order, so that `collect` makes one.
+/// Collects the fields that an iterator yields into a struct, in order. So `collect` can return a `StructFields`. It
+/// returns `AllocError` if an allocation fails.
 impl FromIterator<(FieldName, FieldDType)> for StructFields {
     ghost use Rattle.dtype_types.specs.parts.FieldTypes.{AreValidFields, field_tree};
     ghost use Rattle.dtype_types.specs.tree.TreeOf.{children, fields_of};

@@ -24,8 +24,8 @@ use std::rc::Rc;
 // A tag is one byte.
 const MAX_VARIANTS: usize = 256;
 
-/// The variants of a union, in order, each with a name, a type and a tag from 0 to 255. A stored value contains the tag
-/// of its variant.
+/// The variants of a union, in order, each with a name, a type and a tag from 0 to 255. Each value of the union has the
+/// tag of its variant.
 ///
 /// For example, `union(int@5=i32, string@9=utf8)` has two variants, with the tags 5 and 9. The tags needn't be 0, 1, 2
 /// and so on, so a schema can drop a variant while the others keep their tags.
@@ -97,7 +97,7 @@ impl UnionVariants {
     ///
     /// # Errors
     ///
-    /// The first that applies:
+    /// The call checks the following in this order, and returns the error of the first that applies:
     ///
     /// - `UnionTypesLength` (10): there are more or fewer types than names.
     /// - `UnionTagsLength` (11): there are more or fewer tags than names.
@@ -105,7 +105,7 @@ impl UnionVariants {
     /// - `UnionTagsRepeat` (13): a tag occurs twice.
     /// - `UnionNamesRepeat` (15): a name occurs twice.
     ///
-    /// If there are as many types and as many tags as names, also:
+    /// If none of the first three applies, the call may instead return:
     ///
     /// - `OutOfMemory` (0): an allocation fails.
     pub fn try_new(
@@ -132,14 +132,14 @@ impl UnionVariants {
     ///
     /// # Errors
     ///
-    /// The first that applies:
+    /// The call checks the following in this order, and returns the error of the first that applies:
     ///
     /// - `UnionTooMany` (14): there are more than 256 names.
     /// - `UnionTypesLength` (10): there are more or fewer types than names.
     /// - `UnionEmpty` (12): there are no names.
     /// - `UnionNamesRepeat` (15): a name occurs twice.
     ///
-    /// If there are at most 256 names, also:
+    /// If there are at most 256 names, the call may instead return:
     ///
     /// - `OutOfMemory` (0): an allocation fails.
     pub fn new(alloc: Global, names: FieldNames, dtypes: Vec<DType>) -> VortexResult<Self>
@@ -160,7 +160,7 @@ impl UnionVariants {
         UnionVariants::try_new(alloc, names, dtypes, type_ids)
     }
 
-    /// Returns the names, in order.
+    /// Returns the names of the variants, in order.
     #[tactic(auto, using(crate::proofs::Sides::triples, crate::proofs::Parts::variants))]
     pub fn names(&self) -> &FieldNames
         ensures { result.now ≡ variant_names (variant_list self.now) }
@@ -175,7 +175,8 @@ impl UnionVariants {
         self.shared.dtypes()
     }
 
-    /// Returns an iterator over the variants, in order, which returns the name, the tag and the type of each.
+    /// Returns an iterator over the variants, in order. For each variant it returns a reference to the name, the tag,
+    /// and a reference to the type.
     #[tactic(auto, using(crate::proofs::Sides::three_sides, crate::proofs::Sides::triples, crate::proofs::Parts::variants))]
     pub fn triples(&self) -> VariantIter<'_>
         ensures lent { result ≡ union_triples self.now }
@@ -195,14 +196,14 @@ impl UnionVariants {
         self.shared.len()
     }
 
-    /// Returns whether there are no variants. This is false for every union that `try_new` or `new` returns.
+    /// Returns whether there are no variants. The result is `false` for every union that `try_new` or `new` returns.
     pub fn is_empty(&self) -> bool
         ensures { IsTrue result ↔ (variant_list self.now ≡ []) }
     {
         self.len() == 0
     }
 
-    /// Returns the tags, in the order of the variants.
+    /// Returns the tags of the variants, in the order of the variants.
     #[tactic(auto, using(crate::proofs::Sides::triples, crate::proofs::Parts::variants))]
     pub fn type_ids(&self) -> &[u8]
         ensures { result.now ≡ variant_tags (variant_list self.now) }
@@ -210,8 +211,9 @@ impl UnionVariants {
         self.shared.tags()
     }
 
-    /// Returns the position of the variant with this name, or `None` if no variant has it. It compares one name after
-    /// another.
+    /// Returns the position of the variant with this name, or `None` if no variant has it.
+    ///
+    /// The call compares one name after another.
     pub fn find(&self, name: &str) -> Option<usize>
         ensures { result ≡ first_place (variant_names (variant_list self.now)) name.now }
     {
@@ -234,7 +236,7 @@ impl UnionVariants {
         self.dtypes().get(index)
     }
 
-    /// Returns an iterator over the types of the variants, in order.
+    /// Returns an iterator over the types of the variants, in order. It returns a reference to each type.
     #[tactic(auto, using(crate::proofs::Sides::triples, crate::proofs::Parts::variants))]
     pub fn variants(&self) -> DTypeIter<'_>
         ensures all { map tree result ≡ variant_types (variant_list self.now) }
@@ -243,7 +245,7 @@ impl UnionVariants {
         DTypeIter::new(self.dtypes())
     }
 
-    /// Returns the position of the variant with this tag, or `None` if no variant has it. In
+    /// Returns the position of the variant with this tag, or `None` if no variant has it. For example, in
     /// `union(int@5=i32, string@9=utf8)` the tag 9 is at position 1.
     #[tactic(auto, using(crate::proofs::lemmas::Tags::tag_is_at))]
     pub fn tag_to_child_index(&self, tag: u8) -> Option<usize>
@@ -260,8 +262,8 @@ impl UnionVariants {
         self.type_ids().iter().position(|t| *t == tag)
     }
 
-    /// Returns the tag of the variant at this position. The caller must prove that the position is below the number of
-    /// variants.
+    /// Returns the tag of the variant at this position. For example, in `union(int@5=i32, string@9=utf8)` the variant
+    /// at position 1 has the tag 9. The caller must prove that the position is below the number of variants.
     pub fn child_index_to_tag(&self, index: usize) -> u8
         requires { index < length (variant_tags (variant_list self.now)) }
         ensures at { slice_get (variant_tags (variant_list self.now)) index ≡ Some result }
@@ -301,8 +303,8 @@ impl UnionVariants {
         Ok(UnionVariants { shared })
     }
 
-    /// Returns whether the variants are equal if every nullability in their types, at any depth, is ignored. Names,
-    /// tags and the order count.
+    /// Returns whether the variants are equal if every nullability in their types, at any depth, is ignored. The names,
+    /// the tags and the order of the variants are compared.
     #[tactic(auto, using(crate::proofs::KindLaws::erased_tests))]
     pub fn eq_ignore_nullability(&self, other: &UnionVariants) -> bool
         ensures { IsTrue result
@@ -326,8 +328,8 @@ impl UnionVariants {
 
     /// Returns a copy of the variants, which shares the names, the types and the tags with the original.
     ///
-    /// The call raises a reference count and doesn't allocate, so `_alloc` isn't used. It is a parameter so that the
-    /// signature can stay the same if a later version has to allocate.
+    /// The call raises a reference count and doesn't allocate, so it doesn't use `_alloc`. The parameter is there so
+    /// that the signature can stay the same if a later version has to allocate.
     ///
     /// # Errors
     ///
@@ -339,7 +341,7 @@ impl UnionVariants {
         Ok(UnionVariants { shared })
     }
 
-    /// Returns whether the tags are 0, 1, 2 and so on, in order.
+    /// Returns whether the tags are 0, 1, 2 and so on, in the order of the variants.
     pub fn is_consecutive(&self) -> bool
         ensures { IsTrue result ↔ AreConsecutive (variant_tags (variant_list self.now)) }
     {

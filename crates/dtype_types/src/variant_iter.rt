@@ -13,8 +13,8 @@ use std::iter::FusedIterator;
 use std::marker::Model;
 use std::slice;
 
-/// An iterator over the variants of a union, in order. It returns the name, the tag and the type of each. In contracts
-/// it is the list of the variants that are left.
+/// An iterator over the variants of a union, in order. For each variant it returns a reference to the name, the tag,
+/// and a reference to the type. In contracts it is the list of the variants that it hasn't returned yet.
 #[derive(Debug, Drop)]
 pub struct VariantIter<'a> {
     names: slice::Iter<'a, FieldName>,

@@ -18,7 +18,7 @@ use dtype_base::{FieldName, Nullability, VortexResult};
 use std::alloc::Global;
 
 impl DType {
-    /// Returns the type of lists of any length whose elements are of this type.
+    /// Returns the type of lists of any length whose elements are of the type `element`. Its outer nullability is `n`.
     ///
     /// # Errors
     ///
@@ -29,7 +29,7 @@ impl DType {
         Ok(DType::List(Box::new(alloc, element)?, n))
     }
 
-    /// Returns the type of lists of exactly `size` elements of this type.
+    /// Returns the type of lists of exactly `size` elements of the type `element`. Its outer nullability is `n`.
     ///
     /// # Errors
     ///
@@ -45,8 +45,9 @@ impl DType {
         Ok(DType::FixedSizeList(Box::new(alloc, element)?, size, n))
     }
 
-    /// Returns the type of maps with this key type and this value type. `keys_sorted` is stored in the type and isn't
-    /// checked against anything.
+    /// Returns the type of maps with this key type and this value type. Its outer nullability is `n`. The flag
+    /// `keys_sorted` declares that the keys of each map are sorted. The call stores the flag in the type, and nothing
+    /// checks that it is so.
     ///
     /// # Errors
     ///
@@ -70,8 +71,8 @@ impl DType {
         Ok(DType::Map(map, n))
     }
 
-    /// Returns the struct type of the fields that an iterator yields, in order. The caller must prove that the iterator
-    /// ends.
+    /// Returns the struct type of the fields that an iterator yields, in order. Its outer nullability is `n`. The
+    /// caller must prove that the iterator ends.
     ///
     /// # Errors
     ///

@@ -19,7 +19,7 @@ impl DType {
     pub const BYTES: DType = DType::Primitive(PType::U8, Nullability::NonNullable);
 }
 
-/// Returns the non-nullable type of this primitive type.
+/// Returns the non-nullable type of a primitive type. For example, `PType::I32` is converted to `i32`.
 impl From<PType> for DType {
     ghost from_gives = { λ ptype d. (tree d ≡ primitive ptype NonNullable) × Valid (tree d) };
 
@@ -28,11 +28,11 @@ impl From<PType> for DType {
     }
 }
 
-/// Returns the primitive type of a `Primitive`.
+/// Returns the primitive type of a `Primitive`. For example, it returns `PType::I32` for `i32?`.
 ///
 /// # Errors
 ///
-/// - `NotPrimitive` (6): the type is of another kind.
+/// - `NotPrimitive` (6): the type isn't a `Primitive`.
 impl TryFrom<&DType> for PType {
     type Error = VortexError;
 
@@ -43,11 +43,12 @@ impl TryFrom<&DType> for PType {
     }
 }
 
-/// Returns the precision and scale of a `Decimal`.
+/// Returns the precision and the scale of a `Decimal`. For example, it returns those of `decimal(10,2)` for
+/// `decimal(10,2)?`.
 ///
 /// # Errors
 ///
-/// - `NotDecimal` (5): the type is of another kind.
+/// - `NotDecimal` (5): the type isn't a `Decimal`.
 impl TryFrom<&DType> for DecimalDType {
     type Error = VortexError;
 
@@ -61,11 +62,12 @@ impl TryFrom<&DType> for DecimalDType {
     }
 }
 
-/// Returns the precision and scale of a `Decimal`.
+/// Returns the precision and the scale of a `Decimal`. For example, it returns those of `decimal(10,2)` for
+/// `decimal(10,2)?`.
 ///
 /// # Errors
 ///
-/// - `NotDecimal` (5): the type is of another kind.
+/// - `NotDecimal` (5): the type isn't a `Decimal`.
 impl TryFrom<DType> for DecimalDType {
     type Error = VortexError;
 

@@ -13,8 +13,10 @@ use dtype_base::VortexResult;
 use std::alloc::Global;
 
 impl DType {
-    /// Returns a type equal to this one. The fields of a struct, the variants of a union and the parts of a map aren't
-    /// copied: the two types share them, and a reference count is raised.
+    /// Returns a copy of the type, which is equal to it.
+    ///
+    /// The two types share the fields of a struct, the variants of a union and the parts of a map: the call doesn't
+    /// copy these but raises a reference count. It allocates for lists, fixed-size lists and extensions.
     ///
     /// # Errors
     ///

@@ -80,9 +80,9 @@ pub(crate) fn equal_dtypes(a: &[DType], b: &[DType], rule: NullabilityRule) -> b
 }
 
 impl DType {
-    /// Returns whether the two types are equal if every nullability in them, at any depth, is ignored. Everything else
-    /// counts: names and their order, tags, sizes, `keys_sorted`, precisions and scales, ids and metadata. For example,
-    /// `list(i32?)` equals `list(i32)?` in this way.
+    /// Returns whether the two types are equal if every nullability in them, at any depth, is ignored. For example,
+    /// `list(i32?)` and `list(i32)?` are equal in this way. Everything else is compared: names and their order, tags,
+    /// sizes, `keys_sorted`, precisions and scales, ids and metadata.
     #[tactic(auto, using(crate::specs::equality::EqualityLaws::exact_tests))]
     pub fn eq_ignore_nullability(&self, other: &DType) -> bool
         ensures { IsTrue result ↔ (erase (tree self.now) ≡ erase (tree other.now)) }

@@ -81,7 +81,7 @@ pub(crate) fn hash_into<H: Hasher>(dtype: &DType, mode: HashMode, state: &mut H)
 
 impl DType {
     /// Writes the type, without the nullabilities in it, to the hasher. Two types that are equal by
-    /// `eq_ignore_nullability` write the same.
+    /// `eq_ignore_nullability`, such as `list(i32?)` and `list(i32)?`, write the same.
     pub fn hash_ignore_nullability<H: Hasher>(&self, state: &mut H)
         ensures { state.new ≡ fold H.write state.old (hash_writes_ignoring_nullability (tree self.now)) }
     {

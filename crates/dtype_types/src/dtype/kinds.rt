@@ -14,8 +14,9 @@ ghost use Rattle.dtype_types.specs.parts.Extensions.{extension_shown};
 use crate::{DType, ExtDTypeRef, MapDType, StructFields, UnionVariants};
 use dtype_base::{DecimalDType, PType};
 
-/// The kind of a type: one variant for each variant of `DType`, without the parts. For example, the kind of `list(u8)?`
-/// is `Kind::List`. Calls that accept only one kind, such as `as_struct_fields`, require it in their contracts.
+/// The kind of a type. There is one kind for each variant of `DType`. For example, the kind of `list(u8)?` is
+/// `Kind::List`. If a call accepts types of one kind only, its contract requires that kind. For example,
+/// `as_struct_fields` requires `Kind::Struct`.
 #[derive(Clone, Copy, Debug, PartialEq, Eq)]
 pub enum Kind {
     Null,
@@ -141,21 +142,21 @@ impl DType {
         self.kind() == Kind::Variant
     }
 
-    /// Returns whether the type is an `Extension`, whatever its storage type.
+    /// Returns whether the type is an `Extension`, whatever its storage type is.
     pub fn is_extension(&self) -> bool
         ensures { IsTrue result ↔ (kind (tree self.now) ≡ Kind.Extension) }
     {
         self.kind() == Kind::Extension
     }
 
-    /// Returns whether the type is a `Primitive` of an unsigned integer type.
+    /// Returns whether the type is a `Primitive` of an unsigned integer type, for example `u8`.
     pub fn is_unsigned_int(&self) -> bool
         ensures { IsTrue result ↔ IsSomeAnd (primitive_name (tree self.now)) IsUnsigned }
     {
         self.ptype().is_some_and(|ptype| ptype.is_unsigned_int())
     }
 
-    /// Returns whether the type is a `Primitive` of a signed integer type.
+    /// Returns whether the type is a `Primitive` of a signed integer type, for example `i8`.
     pub fn is_signed_int(&self) -> bool
         ensures { IsTrue result ↔ IsSomeAnd (primitive_name (tree self.now)) IsSigned }
     {
@@ -169,7 +170,7 @@ impl DType {
         self.ptype().is_some_and(|ptype| ptype.is_int())
     }
 
-    /// Returns whether the type is a `Primitive` of a floating-point type.
+    /// Returns whether the type is a `Primitive` of a floating-point type, for example `f16`.
     pub fn is_float(&self) -> bool
         ensures { IsTrue result ↔ IsSomeAnd (primitive_name (tree self.now)) IsFloat }
     {
@@ -177,7 +178,7 @@ impl DType {
     }
 
     /// Returns whether the type is a `List`, a `FixedSizeList`, a `Map`, a `Struct`, a `Union` or a `Variant`, or an
-    /// extension for whose storage type this call returns `true`.
+    /// extension over such a type. For an extension, the call returns what it returns for the storage type.
     #[cycle(nested)]
     pub fn is_nested(&self) -> bool
         ensures { result ≡ is_nested (tree self.now) }
@@ -209,7 +210,8 @@ impl DType {
         }
     }
 
-    /// Returns the primitive type of a `Primitive`. The caller must prove that the type is a `Primitive`.
+    /// Returns the primitive type of a `Primitive`, for example `PType::I32` for `i32?`. The caller must prove that the
+    /// type is a `Primitive`.
     pub fn as_ptype(&self) -> PType
         requires { kind (tree self.now) ≡ Kind.Primitive }
         ensures { primitive_name (tree self.now) ≡ Some result }
@@ -260,8 +262,8 @@ impl DType {
         }
     }
 
-    /// Returns the key type, the value type and the flag `keys_sorted` of a `Map` as a `MapDType`, or `None` if the
-    /// type is of another kind.
+    /// Returns the parts of a `Map` (the key type, the value type and the flag `keys_sorted`), or `None` if the type is
+    /// of another kind.
     pub fn as_map_opt(&self) -> Option<&MapDType>
         ensures { shown map_shown result ≡ map_parts (tree self.now) }
     {
@@ -293,8 +295,8 @@ impl DType {
         }
     }
 
-    /// Returns the id, the metadata and the storage type of an `Extension` as an `ExtDTypeRef`, or `None` if the type
-    /// is of another kind.
+    /// Returns the parts of an `Extension` (the id, the metadata and the storage type), or `None` if the type is of
+    /// another kind.
     pub fn as_extension_opt(&self) -> Option<&ExtDTypeRef>
         ensures { shown extension_shown result ≡ extension_parts (tree self.now) }
     {
@@ -304,7 +306,7 @@ impl DType {
         }
     }
 
-    /// Consumes the type and returns the precision and scale of a `Decimal`, or `None` if it is of another kind.
+    /// Consumes the type and returns the precision and scale of a `Decimal`, or `None` if the type is of another kind.
     pub fn into_decimal_opt(self) -> Option<DecimalDType>
         ensures { result ≡ decimal_of (tree self) }
     {
@@ -314,7 +316,7 @@ impl DType {
         }
     }
 
-    /// Consumes the type and returns the element type of a `List`, or `None` if it is of another kind.
+    /// Consumes the type and returns the element type of a `List`, or `None` if the type is of another kind.
     pub fn into_list_element_opt(self) -> Option<Box<DType>>
         ensures { option_map (λ b. tree b.value) result ≡ list_element (tree self) }
     {
@@ -324,7 +326,7 @@ impl DType {
         }
     }
 
-    /// Consumes the type and returns the element type of a `FixedSizeList`, or `None` if it is of another kind.
+    /// Consumes the type and returns the element type of a `FixedSizeList`, or `None` if the type is of another kind.
     pub fn into_fixed_size_list_element_opt(self) -> Option<Box<DType>>
         ensures { option_map (λ b. tree b.value) result ≡ fixed_size_list_element (tree self) }
     {
@@ -334,7 +336,7 @@ impl DType {
         }
     }
 
-    /// Consumes the type and returns the element type of a `List` or of a `FixedSizeList`, or `None` if it is of
+    /// Consumes the type and returns the element type of a `List` or of a `FixedSizeList`, or `None` if the type is of
     /// another kind.
     pub fn into_any_size_list_element_opt(self) -> Option<Box<DType>>
         ensures { option_map (λ b. tree b.value) result ≡ any_size_list_element (tree self) }
@@ -345,8 +347,8 @@ impl DType {
         }
     }
 
-    /// Consumes the type and returns the key type, the value type and the flag `keys_sorted` of a `Map` as a `MapDType`,
-    /// or `None` if it is of another kind.
+    /// Consumes the type and returns the parts of a `Map` (the key type, the value type and the flag `keys_sorted`), or
+    /// `None` if the type is of another kind.
     pub fn into_map_opt(self) -> Option<MapDType>
         ensures { option_map map_shown result ≡ map_parts (tree self) }
     {
@@ -356,7 +358,7 @@ impl DType {
         }
     }
 
-    /// Consumes the type and returns the fields of a `Struct`, or `None` if it is of another kind.
+    /// Consumes the type and returns the fields of a `Struct`, or `None` if the type is of another kind.
     #[tactic(auto, using(crate::proofs::KindLaws::struct_fields_some))]
     pub fn into_struct_fields_opt(self) -> Option<StructFields>
         ensures { option_map children result ≡ struct_fields (tree self) }
@@ -367,7 +369,7 @@ impl DType {
         }
     }
 
-    /// Consumes the type and returns the variants of a `Union`, or `None` if it is of another kind.
+    /// Consumes the type and returns the variants of a `Union`, or `None` if the type is of another kind.
     #[tactic(auto, using(crate::proofs::KindLaws::union_variants_some))]
     pub fn into_union_variants_opt(self) -> Option<UnionVariants>
         ensures { option_map variant_list result ≡ union_variants (tree self) }
@@ -378,7 +380,7 @@ impl DType {
         }
     }
 
-    /// Returns the fields of a struct type. The caller must prove that the type is a `Struct`.
+    /// Returns the fields of a `Struct`. The caller must prove that the type is a `Struct`.
     #[tactic(auto, using(crate::proofs::KindLaws::kind_laws))]
     pub fn as_struct_fields(&self) -> &StructFields
         requires { kind (tree self.now) ≡ Kind.Struct }
@@ -390,7 +392,7 @@ impl DType {
         }
     }
 
-    /// Consumes a struct type and returns its fields. The caller must prove that the type is a `Struct`.
+    /// Consumes a `Struct` and returns its fields. The caller must prove that the type is a `Struct`.
     #[tactic(auto, using(crate::proofs::KindLaws::struct_fields_some))]
     pub fn into_struct_fields(self) -> StructFields
         requires { kind (tree self) ≡ Kind.Struct }
@@ -402,8 +404,8 @@ impl DType {
         }
     }
 
-    /// Returns the id, the metadata and the storage type of an extension type. The caller must prove that the type is
-    /// an `Extension`.
+    /// Returns the parts of an `Extension`: the id, the metadata and the storage type. The caller must prove that the
+    /// type is an `Extension`.
     pub fn as_extension(&self) -> &ExtDTypeRef
         requires { kind (tree self.now) ≡ Kind.Extension }
         ensures { tree self.now ≡ extension_tree result.now }

@@ -17,8 +17,8 @@ use dtype_base::{Nullability, VortexResult};
 use std::alloc::Global;
 
 impl DType {
-    /// Returns the outer nullability of the type. `Null` is nullable, and an extension has the outer nullability of its
-    /// storage type. For example, `list(i32?)` is non-nullable, whatever its elements are.
+    /// Returns the outer nullability of the type. For example, it returns `NonNullable` for `list(i32?)`, because only
+    /// the elements are nullable. `Null` is nullable, and an extension has the outer nullability of its storage type.
     #[cycle(nullability)]
     pub fn nullability(&self) -> Nullability
         ensures { result ≡ nullability (tree self.now) }
@@ -40,15 +40,16 @@ impl DType {
         }
     }
 
-    /// Returns whether a value of the type may be null: whether the outer nullability is `Nullable`.
+    /// Returns whether the outer nullability is `Nullable`. A value of the type can be null exactly if it is. For
+    /// example, it returns `true` for `list(i32)?` and `false` for `list(i32?)`.
     pub fn is_nullable(&self) -> bool
         ensures { IsTrue result ↔ IsNullable (tree self.now) }
     {
         self.nullability().is_nullable()
     }
 
-    /// Returns whether the type can be made non-nullable. `Null` can't be, and an extension can't be if its storage
-    /// type can't be. Every other type can.
+    /// Returns whether the type can be made non-nullable. `Null` can't be made non-nullable, and an extension can
+    /// exactly if its storage type can. Every other type can.
     #[cycle(can_be_nonnullable)]
     pub fn can_be_nonnullable(&self) -> bool
         ensures { IsTrue result ↔ CanBeNonNullable (tree self.now) }
@@ -70,8 +71,8 @@ impl DType {
         }
     }
 
-    /// Returns the type with its outer nullability set to `NonNullable`. The caller must prove that the type can be
-    /// made non-nullable, which `can_be_nonnullable` tests.
+    /// Returns the type with its outer nullability set to `NonNullable`. For example, it returns `list(i32?)` for
+    /// `list(i32?)?`. The caller must prove that the type can be made non-nullable, which `can_be_nonnullable` tests.
     ///
     /// # Errors
     ///
@@ -83,7 +84,8 @@ impl DType {
         self.with_nullability(alloc, Nullability::NonNullable)
     }
 
-    /// Returns the type with its outer nullability set to `Nullable`. Its values are those of this type, and null.
+    /// Returns the type with its outer nullability set to `Nullable`. The values of the returned type are the values of
+    /// this type and null.
     ///
     /// # Errors
     ///
@@ -96,9 +98,9 @@ impl DType {
         self.with_nullability(alloc, Nullability::Nullable)
     }
 
-    /// Returns the type with its outer nullability set to `n`. If the type is an extension, the outer nullability of
-    /// its storage type is set, and `Null` stays `Null`. If `n` is `NonNullable`, the caller must prove that the type
-    /// can be made non-nullable, which `can_be_nonnullable` tests.
+    /// Returns the type with its outer nullability set to `n`. For an extension, the outer nullability of its storage
+    /// type is set. `Null` stays `Null`. If `n` is `NonNullable`, the caller must prove that the type can be made
+    /// non-nullable, which `can_be_nonnullable` tests.
     ///
     /// # Errors
     ///
@@ -129,8 +131,8 @@ impl DType {
         }
     }
 
-    /// Returns the type with the outer nullability `self.nullability() | n`: nullable if the type is nullable or `n` is
-    /// `Nullable`.
+    /// Returns the type with its outer nullability set to `Nullable` if the type is nullable or `n` is `Nullable`, and
+    /// to `NonNullable` otherwise. For example, it returns `i32?` for `i32?` and `NonNullable`.
     ///
     /// # Errors
     ///

@@ -55,19 +55,19 @@ impl MergeRule {
     }
 }
 
-/// Returns the least type of which both types are subsets: it is nullable wherever one of the two is, at every depth,
-/// also in the value type of a map and in the storage type of an extension. Returns `None` if the types differ in more
-/// than nullability.
+/// Returns the least type of which both types are subsets, or `None` if the types differ in more than nullabilities.
+/// The returned type is nullable in each place in which one of the two is, at every depth, also in the value type of a
+/// map and in the storage type of an extension.
 ///
 /// For example, merging `{a=i32, b=list(utf8?)}` and `{a=i32?, b=list(utf8)}` returns `{a=i32?, b=list(utf8?)}`.
 /// Merging `i32` and `null` returns `None`, because a column of nulls is of another type.
 ///
-/// If one of the two is a subset of the other, then the other is returned as a copy that shares its fields. So a reader
-/// of many files with one schema doesn't build the schema again.
+/// If one of the two types is a subset of the other, the call returns a copy of the other, which shares its fields. So
+/// a reader of many files with the same schema doesn't build that schema again.
 ///
 /// # Errors
 ///
-/// - `OutOfMemory` (0): an allocation fails.
+/// - `OutOfMemory` (0): an allocation fails, or a reference count is at its maximum.
 #[tactic(auto, using(crate::proofs::lemmas::Merging::merging))]
 pub fn merge_nullability(alloc: Global, a: &DType, b: &DType) -> VortexResult<Option<DType>>
     ensures ok { Makes result (λ r. option_map tree r ≡ merged (tree a.now) (tree b.now)) }
@@ -80,17 +80,17 @@ pub fn merge_nullability(alloc: Global, a: &DType, b: &DType) -> VortexResult<Op
     Ok(bound_of(alloc, a, b, MergeRule::Either)?)
 }
 
-/// Returns the greatest type that is a subset of both types: it is nullable only where both are, at every depth, also
-/// in the value type of a map and in the storage type of an extension. Returns `None` if the types differ in more than
-/// nullability.
+/// Returns the greatest type that is a subset of both types, or `None` if the types differ in more than nullabilities.
+/// The returned type is nullable only in those places in which both are, at every depth, also in the value type of a
+/// map and in the storage type of an extension.
 ///
 /// For example, intersecting `{a=i32, b=list(utf8?)}` and `{a=i32?, b=list(utf8)}` returns `{a=i32, b=list(utf8)}`.
 ///
-/// If one of the two is a subset of the other, then it is returned as a copy that shares its fields.
+/// If one of the two types is a subset of the other, the call returns a copy of that one, which shares its fields.
 ///
 /// # Errors
 ///
-/// - `OutOfMemory` (0): an allocation fails.
+/// - `OutOfMemory` (0): an allocation fails, or a reference count is at its maximum.
 #[tactic(auto, using(crate::proofs::lemmas::Merging::intersecting))]
 pub fn intersect_nullability(alloc: Global, a: &DType, b: &DType) -> VortexResult<Option<DType>>
     ensures ok { Makes result (λ r. option_map tree r ≡ intersected (tree a.now) (tree b.now)) }

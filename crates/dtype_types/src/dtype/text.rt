@@ -8,8 +8,9 @@ use crate::DType;
 use std::fmt;
 
 /// Writes the type as text, for example `i32`, `list(decimal(10,2)?)`, `{id=u64, tags=list(utf8)?}` or
-/// `x.tag[2B](utf8?)`. The text of a nullable type ends with `?`, with two exceptions: `null`, which is always
-/// nullable, and an extension, which is nullable exactly if the storage type in its parentheses is.
+/// `x.tag[2B](utf8?)`. The text of a nullable type ends with `?`. There are two exceptions: `null` is always nullable
+/// and has no `?`, and an extension such as `x.tag[2B](utf8?)` is nullable exactly if the storage type in its
+/// parentheses is.
 #[tactic(auto, using(crate::proofs::Texts::type_texts, std::proofs::lemmas::Grind::common_steps))]
 impl fmt::Display for DType {
     ghost use Rattle.dtype_types.specs.texts.Text.{text};

@@ -92,12 +92,12 @@ impl DType {
     /// - `Null` takes 0 bytes and `Bool` takes 1 byte.
     /// - A `Primitive` takes the width of its primitive type.
     /// - A `Decimal` takes the width of the smallest storage type for its precision.
-    /// - A `FixedSizeList` takes its size times the width of its element.
+    /// - A `FixedSizeList` takes its size times the width of its element type.
     /// - A `Struct` takes the sum of the widths of its fields.
-    /// - An extension takes the width of its storage type.
+    /// - An `Extension` takes the width of its storage type.
     ///
-    /// If one part of the type, such as an element or a field, is of variable width, then so is the whole type, even if
-    /// the part is the element of a fixed-size list of size 0.
+    /// If one part of the type, such as an element type or a field, is of variable width, then so is the whole type.
+    /// That is so even if the part is the element type of a fixed-size list of size 0.
     ///
     /// # Errors
     ///

@@ -1,9 +1,9 @@
 -- SPDX-License-Identifier: Apache-2.0
 -- SPDX-FileCopyrightText: Copyright the Vortex contributors
 
--- The test of equality is exact under each rule. With nullabilities compared it holds exactly where the trees are equal,
--- with them ignored exactly where their erased trees are, and with those of the first within those of the second exactly
--- where the first is below the second (`Sub`). Equality of types and of their parts is an equivalence.
+-- What the test of equality returns under each rule. Under `Compared`, it returns true exactly if the trees are equal.
+-- Under `Ignored`, it returns true exactly if the erased trees are equal. Under `Within`, it returns true exactly if
+-- the first type is a subset of the second (`Sub`). Equality of types and of their parts is an equivalence.
 use Rattle.std.specs.Prelude.{◌≡◌, ◌&&◌, ◌==◌, List, [], ◌∷◌, Some, slice_get, refl}
 use Rattle.std.specs.Bool.{Decides}
 use Rattle.std.specs.Ordering.{int_eq}
@@ -99,7 +99,8 @@ mutual
 -- a rule holds at each place where it holds of any two nullabilities, or, if E makes the two types equal, of equal ones
 module _ (R : Nullability → Nullability → Type 0) (E : Type 0) (holds : (m n : Nullability) → (E → m ≡ n) → R m n) where
   mutual
-    -- the clause for two nulls makes the checker look at each kind of both types; the last holds for those without parts too
+    -- the clause for two nulls makes the checker look at each kind of both types; the last holds for those without
+    -- parts too
     wherever : (a b : Tree) → erase a ≡ erase b → (E → a ≡ b) → Wherever R a b
     wherever null null e f = tt
     wherever (list t m) (list u n) e f = (holds m n (λ x. cc (f x)), wherever t u (cc) (λ x. cc (f x)))

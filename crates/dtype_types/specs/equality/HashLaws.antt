@@ -1,8 +1,8 @@
 -- SPDX-License-Identifier: Apache-2.0
 -- SPDX-FileCopyrightText: Copyright the Vortex contributors
 
--- Types that are equal feed a hasher the same writes; types that are equal but for nullabilities do where those are
--- ignored.
+-- Equal types write the same to a hasher. Types that are equal except for nullabilities write the same if nullabilities
+-- are ignored.
 use Rattle.std.specs.Prelude.{◌≡◌, suc, true, refl}
 use Rattle.std.proofs.Common.{ap, sym, ◌∙◌}
 use Rattle.dtype_types.specs.tree.Tree.{Tree, no_items, item, list, fixed_size_list, map_of, struct, union, extension, Holder, Items}

@@ -1,10 +1,11 @@
 -- SPDX-License-Identifier: Apache-2.0
 -- SPDX-FileCopyrightText: Copyright the Vortex contributors
 
--- What a type feeds a hasher, as a list of writes: one byte for its kind, or which primitive type it is, and its
--- nullability, where nullabilities aren't ignored, and then its parts. A count comes before each list, and a
--- mark after each text. `Whole` is the type as it is, `Erased` the type without its nullabilities.
--- It is a function of the tree, so equal types feed the same writes, as std's `Hash` asks. The writes are this port's own.
+-- What a type writes to a hasher, as a list of writes. The first write is one byte, which contains the kind of the type
+-- (or which primitive type it is) and, unless nullabilities are ignored, whether it is nullable. Then its parts are
+-- written. A count is written before each list, and a mark after each text. In the mode `Whole` nullabilities are
+-- written, and in the mode `Erased` they aren't. The writes are a function of the tree, so equal types write the same,
+-- which the `Hash` of std requires. Which writes these are was chosen for this port.
 use Rattle.std.specs.Prelude.{ℕ, suc, ◌+◌, ◌*◌, List, [], ◌∷◌, ◌++◌, drop, length}
 use Rattle.std.specs.Hash as fed
 use Rattle.std.specs.Hash.{HashWrites}
@@ -19,7 +20,7 @@ use Rattle.dtype_types.specs.declared.dtype.hash.HashMode.TheVariants.{Whole, Er
 use Rattle.dtype_types.specs.tree.Tree.{Tree, no_items, item, null, bool, primitive, decimal, utf8, binary, list, fixed_size_list, map_of, struct, union, variant, extension, Items, Holder, a_struct, a_union, Tag}
 use Rattle.dtype_types.specs.tree.TreeOf.{MapParts}
 
--- 1 for a nullable type, where nullabilities aren't ignored
+-- 1 for a nullable type if nullabilities aren't ignored, and otherwise 0
 abbrev pub nullable_mark : HashMode → Nullability → ℕ
 nullable_mark Whole Nullable = 1
 nullable_mark _ _ = 0
@@ -36,7 +37,7 @@ primitive_number p = suc (kind_number kind.Extension) + (ptype_row p).number
 abbrev pub bytes_writes : List ℕ → HashWrites
 bytes_writes b = fed.usize (length b) ++ (b ∷ [])
 
--- a tag in a byte; a field has none
+-- the tag of a variant in a byte, or nothing for a field
 abbrev pub tag_writes : (h : Holder) → Tag h → HashWrites
 tag_writes a_struct g = []
 tag_writes a_union g = fed.u8 g
@@ -68,22 +69,22 @@ abbrev mutual
   item_writes s no_items = []
   item_writes s {h} (item n t g rest) = fed.str n ++ (hash_of s t ++ (tag_writes h g ++ item_writes s rest))
 
--- what a type feeds a hasher through `Hash`
+-- what a type writes to a hasher by `Hash`
 abbrev pub hash_writes : Tree → HashWrites
 hash_writes t = hash_of Whole t
 
--- what a type feeds a hasher through `hash_ignore_nullability`
+-- what a type writes to a hasher by `hash_ignore_nullability`
 abbrev pub hash_writes_ignoring_nullability : Tree → HashWrites
 hash_writes_ignoring_nullability t = hash_of Erased t
 
--- what the fields of a struct, or the variants of a union, feed: how many there are, and then each
+-- what the fields of a struct, or the variants of a union, write: how many there are, and then each
 abbrev pub counted_writes : HashMode → {h : Holder} → Items h → HashWrites
 counted_writes s xs = fed.usize (item_count xs) ++ item_writes s xs
 
--- what a map's key, its value and its flag feed
+-- what the key type of a map, its value type and its flag write
 abbrev pub map_writes : HashMode → MapParts → HashWrites
 map_writes s m = hash_of s m.0 ++ (hash_of s m.1 ++ fed.bool m.2)
 
--- what a type feeds after the byte of its kind: what an extension's parts feed
+-- what a type writes after the byte of its kind; for an extension, what its parts write
 abbrev pub inner_writes : HashMode → Tree → HashWrites
 inner_writes s t = drop 1 (hash_of s t)

@@ -1,10 +1,12 @@
 -- SPDX-License-Identifier: Apache-2.0
 -- SPDX-FileCopyrightText: Copyright the Vortex contributors
 
--- Two types as one, where they are equal but for nullabilities: under a rule that makes one nullability of the two at each
--- node. Nullable where either is, it is the least type above both: what a reader of several files opens, so that each
--- value of each file is a value of it. Nullable where both are, it is the greatest type below both: what two schemas that
--- are to be met together leave. From the documentation of `DType::eq_with_nullability_subset`, whose order they are bounds of.
+-- The bounds of two types that are equal except for nullabilities. A rule makes one nullability from the two at each
+-- node. Under the rule `either`, a node is nullable if it is nullable in one of the two types. This makes the least
+-- type of which both are subsets: a reader of several files can use it, because each value of each file is a value of
+-- it. Under the rule `both`, a node is nullable if it is nullable in both types. This makes the greatest type that is a
+-- subset of both: each value of it is a value of both types. The order of which these are the bounds is from the
+-- documentation of `DType::eq_with_nullability_subset`.
 use Rattle.std.specs.Prelude.{List, [], ◌∷◌, Option, Some, None, if◌then◌else◌}
 use Rattle.dtype_base.specs.Nullability.{either}
 use Rattle.dtype_base.specs.declared.nullability.Nullability.{Nullability}
@@ -16,7 +18,7 @@ use Rattle.dtype_types.specs.equality.Equality.{equal_under}
 use Rattle.dtype_types.specs.nullability.Sub.{Sub}
 use Rattle.dtype_types.specs.tree.Tree.{Tree, no_items, item, null, bool, primitive, decimal, utf8, binary, list, fixed_size_list, map_of, struct, union, variant, extension, Items, Holder}
 
--- one nullability of two
+-- how one nullability is made from two
 abbrev pub Rule : Type 0
 Rule = Nullability → Nullability → Nullability
 
@@ -25,7 +27,8 @@ abbrev pub both : Rule
 both NonNullable n = NonNullable
 both Nullable n = n
 
--- of two types that are equal but for nullabilities: at each node the nullability that the rule makes
+-- The bound of two types that are equal except for nullabilities: each node has the nullability that the rule makes
+-- from the two. What it is for other types doesn't matter, because `merged_under` is None for them.
 abbrev mutual
   pub merge : Rule → Tree → Tree → Tree
   merge r null null = null
@@ -47,30 +50,30 @@ abbrev mutual
   merge_items r (item m t f xs) (item n u g ys) = item m (merge r t u) f (merge_items r xs ys)
   merge_items r _ _ = no_items
 
--- the same of the types at equal positions
+-- the bounds of the types at equal positions
 abbrev pub merge_types : Rule → List Tree → List Tree → List Tree
 merge_types r (t ∷ ts) (u ∷ us) = merge r t u ∷ merge_types r ts us
 merge_types r _ _ = []
 
--- the two as one, where they are equal but for nullabilities
+-- the bound of two types if they are equal except for nullabilities, and None otherwise
 abbrev pub merged_under : Rule → Tree → Tree → Option Tree
 merged_under r a b = if equal_under Ignored a b then Some (merge r a b) else None
 
--- the least type above both, if there is one
+-- the least type of which both are subsets, or None if the types differ in more than nullabilities
 abbrev pub merged : Tree → Tree → Option Tree
 merged = merged_under either
 
--- the greatest type below both, if there is one
+-- the greatest type that is a subset of both, or None if the types differ in more than nullabilities
 abbrev pub intersected : Tree → Tree → Option Tree
 intersected = merged_under both
 
--- both are below c, and c is below each type that both are below
+-- `a` and `b` are subsets of `c`, and `c` is a subset of each type `d` of which both are subsets
 pub record IsLeastAbove (a b c : Tree) : Type 0 where
   pub first : Sub a c
   pub second : Sub b c
   pub least : (d : Tree) → Sub a d → Sub b d → Sub c d
 
--- c is below both, and each type that is below both is below c
+-- `c` is a subset of `a` and of `b`, and each type `d` that is a subset of both is a subset of `c`
 pub record IsGreatestBelow (a b c : Tree) : Type 0 where
   pub first : Sub c a
   pub second : Sub c b

@@ -1,10 +1,10 @@
 -- SPDX-License-Identifier: Apache-2.0
 -- SPDX-FileCopyrightText: Copyright the Vortex contributors
 
--- What an extension holds. From the documentation of `DType::as_extension_opt`.
+-- The parts of an extension. From the documentation of `DType::as_extension_opt`.
 use Rattle.dtype_types.specs.declared.extension.ExtDTypeRef.{ExtDTypeRef}
 use Rattle.dtype_types.specs.tree.TreeOf.{ExtensionParts, extension_id, extension_metadata, storage_tree}
 
--- an extension's id, its metadata and the tree of its storage
+-- the id of an extension, its metadata and the tree of its storage type
 abbrev pub extension_shown : ExtDTypeRef → ExtensionParts
 extension_shown e = (extension_id e, extension_metadata e, storage_tree e)

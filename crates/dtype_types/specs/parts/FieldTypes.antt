@@ -1,7 +1,7 @@
 -- SPDX-License-Identifier: Apache-2.0
 -- SPDX-FileCopyrightText: Copyright the Vortex contributors
 
--- The type of a field, before it is in a struct. From the documentation of `FieldDType` and
+-- The type of a field before the field is added to a struct. From the documentation of `FieldDType` and
 -- `StructFields::from_iter`.
 use Rattle.std.specs.Prelude.{◌≡◌, ℕ, All, List, map}
 use Rattle.dtype_base.specs.declared.nullability.Nullability.{Nullability}
@@ -15,7 +15,7 @@ use Rattle.dtype_types.specs.tree.Tree.{Tree, Fields, fields, struct}
 abbrev pub field_tree : FieldDType → Tree
 field_tree f = tree f.dtype
 
--- fields that were given, as they are in a tree
+-- the fields that are made from these pairs of a name and a field type
 abbrev pub given_fields : List (List ℕ × FieldDType) → Fields
 given_fields given = fields (map (λ p. (p.0, field_tree p.1)) given)
 
@@ -23,6 +23,6 @@ given_fields given = fields (map (λ p. (p.0, field_tree p.1)) given)
 abbrev pub AreValidFields : List (List ℕ × FieldDType) → Type 0
 AreValidFields given = All (λ p. Valid (field_tree p.1)) given
 
--- the type is the struct of these fields, and is valid where their types are
+-- the type is the struct of these fields with the outer nullability `n`, and it is valid if the types of the fields are
 abbrev pub IsStructOf : Nullability → DType → List (List ℕ × FieldDType) → Type 0
 IsStructOf n d given = (tree d ≡ struct (given_fields given) n) × (AreValidFields given → Valid (tree d))

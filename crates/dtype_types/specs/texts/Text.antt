@@ -1,8 +1,9 @@
 -- SPDX-License-Identifier: Apache-2.0
 -- SPDX-FileCopyrightText: Copyright the Vortex contributors
 
--- The text of a type. A type is written by its kind, what it holds in brackets or braces, and `?` where
--- it is nullable; names are escaped, ids are written as they are. From the `Display` of `DType`.
+-- The text of a type: first its kind, then its parts in parentheses, brackets or braces, and `?` at the end if it is
+-- nullable. Names are escaped, and ids are written as they are. For example, `list(utf8)?`. From the `Display` of
+-- `DType`.
 use Rattle.std.specs.Prelude.{ℕ, List, [], ◌∷◌, ◌++◌, codes, decimal as digits, length, Bool, true, false, if◌then◌else◌}
 use Rattle.std.specs.List.{join_by}
 use Rattle.dtype_base.specs.Decimals.{decimal_text}
@@ -17,16 +18,16 @@ use Rattle.dtype_types.specs.tree.Tree.{Tree, no_items, item, null, bool, primit
 abbrev pub bool_text : Bool → List ℕ
 bool_text b = if b then codes "true" else codes "false"
 
--- how many bytes of metadata an extension has
+-- the number of bytes of the metadata of an extension, followed by `B`
 abbrev pub metadata_text : List ℕ → List ℕ
 metadata_text bytes = digits (length bytes) ++ codes "B"
 
--- a tag, which isn't written where tags are consecutive
+-- `@` and the tag, or nothing if the tags of the union are consecutive
 abbrev pub tag_text : Bool → ℕ → List ℕ
 tag_text true g = []
 tag_text false g = codes "@" ++ digits g
 
--- the tag of an item; a field has none
+-- the text of the tag of a variant, or nothing for a field
 abbrev pub item_tag : (h : Holder) → Bool → Tag h → List ℕ
 item_tag a_struct c g = []
 item_tag a_union c g = tag_text c g
@@ -48,7 +49,7 @@ abbrev mutual
   text (variant n) = codes "variant" ++ nullability_text n
   text (extension id b s) = id ++ (codes "[" ++ (metadata_text b ++ (codes "](" ++ (text s ++ codes ")"))))
 
-  -- each field as a=t, each variant so where the tags are consecutive, else as a@tag=t
+  -- each field as a=t, and each variant as a=t if the tags are consecutive, and otherwise as a@tag=t
   pub item_texts : {h : Holder} → Bool → Items h → List (List ℕ)
   item_texts c no_items = []
   item_texts {h} c (item n t g rest) = (escaped n ++ (item_tag h c g ++ (codes "=" ++ text t))) ∷ item_texts c rest

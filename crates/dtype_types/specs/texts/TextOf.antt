@@ -15,11 +15,11 @@ use Rattle.dtype_types.specs.declared.union_variants.UnionVariants.{UnionVariant
 use Rattle.dtype_types.specs.declared.map.MapDType.{MapDType}
 use Rattle.dtype_types.specs.declared.extension.ExtDTypeRef.{ExtDTypeRef}
 
--- the text of a map: that of the non-nullable type
+-- the text of a map, which is the text of the non-nullable type
 unfoldable pub map_text : MapDType → List ℕ
 map_text m = text (map_of (map_shown m).0 (map_shown m).1 (map_shown m).2 NonNullable)
 
--- the text of a struct: that of the non-nullable type
+-- the text of the fields of a struct, which is the text of the non-nullable struct type
 unfoldable pub struct_text : StructFields → List ℕ
 struct_text s = text (struct (fields_of s) NonNullable)
 
@@ -27,6 +27,6 @@ struct_text s = text (struct (fields_of s) NonNullable)
 unfoldable pub union_text : UnionVariants → List ℕ
 union_text u = join_by (λ t. t) (codes ", ") (item_texts (are_consecutive (variant_tags (triples (variants_of u)))) (variants_of u))
 
--- the text of an extension: that of the type
+-- the text of an extension, which is the text of the type
 unfoldable pub extension_text : ExtDTypeRef → List ℕ
 extension_text e = text (extension_tree e)

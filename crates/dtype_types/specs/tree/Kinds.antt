@@ -1,8 +1,8 @@
 -- SPDX-License-Identifier: Apache-2.0
 -- SPDX-FileCopyrightText: Copyright the Vortex contributors
 
--- The kind of a type, its outermost variant: what the tests of `DType` look at, and what each variant
--- holds. An extension's kind is its own, whatever its storage. From the documentation of `DType`'s variants.
+-- The kind of a type, which is its outermost variant, and the parts of the types of each kind. The kind of an extension
+-- is `Extension`, whatever its storage type is. From the documentation of the variants of `DType`.
 use Rattle.std.specs.Prelude.{ℕ, List, Option, Some, None, Bool, true, false}
 use Rattle.dtype_base.specs.Decimals.{Decimal}
 use Rattle.dtype_base.specs.declared.ptype.PType.{PType}
@@ -42,7 +42,7 @@ kind_number k.Union = 10
 kind_number k.Variant = 11
 kind_number k.Extension = 12
 
--- the name of a primitive type; of no other type
+-- the primitive type of a `Primitive`, and None for a type of another kind
 abbrev pub primitive_name : Tree → Option PType
 primitive_name (primitive p n) = Some p
 primitive_name _ = None
@@ -62,27 +62,27 @@ abbrev pub union_variants : Tree → Option (List (List ℕ × (Tree × ℕ)))
 union_variants (union vs n) = Some (triples vs)
 union_variants _ = None
 
--- a map's key, value, and whether its keys are sorted
+-- the key type of a map, its value type, and whether its keys are declared to be sorted
 abbrev pub map_parts : Tree → Option (Tree × Tree × Bool)
 map_parts (map_of t u b n) = Some (t, u, b)
 map_parts _ = None
 
--- an extension's id, metadata and storage
+-- the id of an extension, its metadata and its storage type
 abbrev pub extension_parts : Tree → Option (List ℕ × List ℕ × Tree)
 extension_parts (extension id b s) = Some (id, b, s)
 extension_parts _ = None
 
--- the element of a list
+-- the element type of a list
 abbrev pub list_element : Tree → Option Tree
 list_element (list t n) = Some t
 list_element _ = None
 
--- the element of a fixed-size list
+-- the element type of a fixed-size list
 abbrev pub fixed_size_list_element : Tree → Option Tree
 fixed_size_list_element (fixed_size_list t size n) = Some t
 fixed_size_list_element _ = None
 
--- the element of a list or of a fixed-size list
+-- the element type of a list or of a fixed-size list
 abbrev pub any_size_list_element : Tree → Option Tree
 any_size_list_element (list t n) = Some t
 any_size_list_element (fixed_size_list t size n) = Some t

@@ -1,9 +1,10 @@
 -- SPDX-License-Identifier: Apache-2.0
 -- SPDX-FileCopyrightText: Copyright the Vortex contributors
 
--- The width of a type in bytes, for the types of fixed width: those whose values all take the same number of bytes. From
--- the documentation of `DType::element_size`: `Null` takes no byte, a Boolean one, a number its own width, a fixed-size
--- list its size times its element's width, a struct the sum of its fields' widths, an extension its storage's.
+-- The width of a type in bytes. A type is of fixed width if all its values take the same number of bytes. From the
+-- documentation of `DType::element_size`: `Null` takes 0 bytes, a Boolean 1 byte, a number the width of its primitive
+-- type, a decimal the width of its storage type, a fixed-size list its size times the width of its element type, a
+-- struct the sum of the widths of its fields, and an extension the width of its storage type.
 use Rattle.std.specs.Prelude.{◌≡◌, ◌⊎◌, ℕ, ◌+◌, ◌*◌, ◌^◌, ◌≤◌, List, Option, Some, None}
 use Rattle.dtype_base.specs.Primitives.{ptype_row}
 use Rattle.dtype_base.specs.Decimals.{smallest_storage, storage}
@@ -13,8 +14,8 @@ use Rattle.dtype_types.specs.tree.Tree.{Tree, Fields, no_items, fields, null, bo
 use Rattle.dtype_types.specs.declared.dtype.width.Width.{Width}
 use Rattle.dtype_types.specs.declared.dtype.width.Width.TheVariants.{Variable, TooWide, Bytes}
 
--- all values of the type take the same number of bytes; a fixed-size list of size 0 too is of fixed width only where
--- its element is
+-- All values of the type take the same number of bytes. A fixed-size list is of fixed width only if its element type
+-- is, even if its size is 0.
 abbrev mutual
   pub Fixed : Tree → Type 0
   Fixed null = Unit {0}
@@ -53,7 +54,7 @@ abbrev mutual
   total_width no_items = 0
   total_width (item n t _ rest) = width t + total_width rest
 
--- u is the type, or a part of its element, of one of its fields or of its storage
+-- `u` is the type itself, or a part of its element type, of the type of one of its fields, or of its storage type
 abbrev mutual
   pub Part : Tree → Tree → Type 0
   Part u (list t n) = (u ≡ list t n) ⊎ Part u t

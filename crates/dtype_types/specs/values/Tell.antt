@@ -1,7 +1,8 @@
 -- SPDX-License-Identifier: Apache-2.0
 -- SPDX-FileCopyrightText: Copyright the Vortex contributors
 
--- A value that distinguishes two types which differ in nullability alone. Made of `Value` and `Sub` alone.
+-- A value that belongs to one of two types and not to the other, if the two differ only in nullabilities. The
+-- definition refers only to `Value` and `Sub`.
 use Rattle.std.specs.Prelude.{ℕ, ◌<◌, Option, Some, None, option_map}
 use Rattle.dtype_base.specs.declared.nullability.Nullability.{Nullability}
 use Rattle.dtype_base.specs.declared.nullability.Nullability.TheVariants.{NonNullable, Nullable}
@@ -9,19 +10,20 @@ use Rattle.dtype_types.specs.values.Sample.{sample, samples, copies}
 use Rattle.dtype_types.specs.tree.Tree.{Tree, Fields, no_items, Variants, item, bool, primitive, decimal, utf8, binary, list, fixed_size_list, map_of, struct, union, variant, extension, Items, Holder}
 use Rattle.dtype_types.specs.values.Value.{Value, Named, null_value, items, fixed_items, entries, record_of, tagged, no_values, value, no_entries, entry, named}
 
--- the first value that there is
+-- the first option if it is a value, and otherwise the second
 abbrev pub or_else : {X : Type 0} → Option X → Option X → Option X
 or_else (Some x) o = Some x
 or_else None o = o
 
--- null where the first allows it and the second doesn't, else what the parts give
+-- null if the first nullability allows null and the second doesn't, and otherwise `parts`
 abbrev pub null_else : Nullability → Nullability → Option Value → Option Value
 null_else Nullable NonNullable parts = Some null_value
 null_else _ _ parts = parts
 
--- a value of a that isn't one of b: null at the first place where a is nullable and b isn't, in a list of
--- one member, a fixed-size list of equal members, a map of one entry, a struct, that variant of a union or the storage
--- of an extension, with samples of a elsewhere; none where there is no such place
+-- A value of `a` that isn't a value of `b`, or None if `b` is nullable in each place in which `a` is. The value
+-- contains null at the first place in which `a` is nullable and `b` isn't, and samples of `a` in all other places. On
+-- the way to that place, a list has one element, a fixed-size list has equal elements, and a map has one entry. For
+-- example, `tell` of `list(i32?)` and `list(i32)` is the list that contains one null.
 abbrev mutual
   pub tell : Tree → Tree → Option Value
   tell (bool m) (bool n) = null_else m n None
@@ -39,17 +41,17 @@ abbrev mutual
   tell (extension i a t) (extension j b u) = tell t u
   tell _ _ = None
 
-  -- a value of the first fields that isn't one of the second
+  -- values of the first fields that aren't values of the second fields
   pub tell_fields : Fields → Fields → Option Named
   tell_fields (item m t _ fs) (item n u _ gs) = or_else (option_map (λ v. named m v (samples fs)) (tell t u)) (option_map (λ nvs. named m (sample t) nvs) (tell_fields fs gs))
   tell_fields _ _ = None
 
-  -- a tag and a value
+  -- the tag of a variant, and a value of its first type that isn't a value of its second type
   pub tell_variants : Variants → Variants → Option (ℕ × Value)
   tell_variants (item m t g vs) (item n u h ws) = or_else (option_map (λ v. (g, v)) (tell t u)) (tell_variants vs ws)
   tell_variants _ _ = None
 
--- no fixed size in the type is 0
+-- no fixed-size list in the type has the size 0
 abbrev mutual
   pub HasNoSizeZero : Tree → Type 0
   HasNoSizeZero (list t n) = HasNoSizeZero t

@@ -1,10 +1,10 @@
 -- SPDX-License-Identifier: Apache-2.0
 -- SPDX-FileCopyrightText: Copyright the Vortex contributors
 
--- Values as finite trees, and which of them are of which type. From the documentation of `DType`: null is
--- of exactly the nullable types, and every other value is of a type by its kind. A list, a fixed-size list, a map, a
--- struct and a union value are five kinds, equal neither to one another nor to any other. Nothing here
--- knows of stored data.
+-- Values as finite trees, and which of them are values of which type. From the documentation of `DType`: null is a
+-- value of exactly the nullable types, and every other value is of one kind, which its type must have too. For example,
+-- a list is never equal to a fixed-size list, a map, a struct or a union value. These definitions don't refer to how
+-- values are stored.
 use Rattle.std.specs.Prelude.{◌≡◌, ◌⊎◌, ◌↔◌, ℕ, suc, ◌-◌, ◌^◌, ℤ, pos, negsuc, neg_ℤ, ◌≤ℤ◌, List, Bool, IsUtf8}
 use Rattle.dtype_base.specs.Bytes.{Bytes}
 use Rattle.dtype_base.specs.Primitives.{ptype_row, NumberKind, HoldsUnsigned, HoldsSigned, IsFloat}
@@ -39,56 +39,56 @@ mutual
     -- of a union: the variant's tag, and a value of its type
     tagged : ℕ → Value → Value
 
-  -- the members of a list
+  -- the elements of a list
   pub data Values : Type 0 where
     no_values : Values
     value : Value → Values → Values
 
-  -- a key and a value each
+  -- the entries of a map, each with a key and a value
   pub data Entries : Type 0 where
     no_entries : Entries
     entry : Value → Value → Entries → Entries
 
-  -- a name and a value each
+  -- the fields of a struct, each with a name and a value
   pub data Named : Type 0 where
     no_named : Named
     named : List ℕ → Value → Named → Named
 
--- a whole number in the range of p, a type of that kind
+-- the integer is in the range of the primitive type `p`, which is of this kind
 abbrev pub InRange : NumberKind → PType → ℤ → Type 0
 InRange Unsigned p (pos n) = HoldsUnsigned n p
 InRange Unsigned p (negsuc n) = ⊥
 InRange Signed p z = HoldsSigned z p
 InRange Floating p z = ⊥
 
--- a whole number that the primitive type holds
+-- the integer is in the range of the primitive type
 abbrev pub IntegerOf : PType → ℤ → Type 0
 IntegerOf p z = InRange (ptype_row p).kind p z
 
--- p is a float, and k is a bit pattern of its width: below 2 ^ 16, 2 ^ 32 or 2 ^ 64
+-- `p` is a floating-point type, and `k` is a bit pattern of its width, so it is below 2 ^ 16, 2 ^ 32 or 2 ^ 64
 abbrev pub FloatBitsOf : PType → ℕ → Type 0
 FloatBitsOf p k = IsFloat p × HoldsUnsigned k p
 
--- at most p digits, of either sign: -(10 ^ p - 1) to 10 ^ p - 1
+-- the integer has at most `p` decimal digits: it is from -(10 ^ p - 1) to 10 ^ p - 1
 abbrev pub HasDigits : ℕ → ℤ → Type 0
 HasDigits p z = (neg_ℤ (pos (10 ^ p - 1)) ≤ℤ z) × (z ≤ℤ pos (10 ^ p - 1))
 
--- P holds of each member
+-- `P` is true of each element
 abbrev pub Each : (Value → Type 0) → Values → Type 0
 Each P no_values = Unit {0}
 Each P (value v vs) = P v × Each P vs
 
--- P holds of each key, and Q of each value
+-- `P` is true of each key, and `Q` of each value
 abbrev pub EachEntry : (Value → Type 0) → (Value → Type 0) → Entries → Type 0
 EachEntry P Q no_entries = Unit {0}
 EachEntry P Q (entry k v es) = P k × Q v × EachEntry P Q es
 
--- how many members there are
+-- the number of elements
 abbrev pub value_count : Values → ℕ
 value_count no_values = 0
 value_count (value v vs) = suc (value_count vs)
 
--- the value is of the type; an extension has exactly the values of its storage
+-- the value is a value of the type; an extension has exactly the values of its storage type
 abbrev mutual
   pub Of : Value → Tree → Type 0
   Of v (extension id b s) = Of v s
@@ -107,13 +107,13 @@ abbrev mutual
   Of (tagged g v) (union vs n) = VariantOf g v vs
   Of _ _ = ⊥
 
-  -- the same names in the same order, each with a value of its field
+  -- the names are those of the fields, in the same order, and each value is a value of the type of its field
   pub NamedOf : Named → Fields → Type 0
   NamedOf no_named no_items = Unit {0}
   NamedOf (named m v rest) (item n t _ fs) = (m ≡ n) × Of v t × NamedOf rest fs
   NamedOf _ _ = ⊥
 
-  -- some variant has the tag, and the value is of its type
+  -- some variant has the tag, and the value is a value of its type
   pub VariantOf : ℕ → Value → Variants → Type 0
   VariantOf g v no_items = ⊥
   VariantOf g v (item n t h rest) = ((g ≡ h) × Of v t) ⊎ VariantOf g v rest
@@ -122,6 +122,6 @@ abbrev mutual
 abbrev pub IncludedIn : Tree → Tree → Type 0
 IncludedIn a b = (v : Value) → Of v a → Of v b
 
--- the values of u are those of t, and null
+-- the values of `u` are the values of `t` and null
 abbrev pub AddsNull : Tree → Tree → Type 0
 AddsNull t u = (v : Value) → Of v u ↔ (Of v t ⊎ (v ≡ null_value))

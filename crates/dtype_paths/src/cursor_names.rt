@@ -15,9 +15,12 @@ use dtype_base::FieldName;
 use std::fmt;
 use std::iter::FusedIterator;
 
-/// An iterator over the names that are the first step of some path that a cursor contains. It yields each of these
-/// names once, together with the cursor after the step to it, in no particular order. In contracts it is the list of
-/// the names that are left, each with the paths that the cursor after it contains.
+/// An iterator over the names with which paths of a cursor begin. For each name it returns a reference to the name, and
+/// the cursor after the step to that name. It returns each name once, in no particular order. For example, for a cursor
+/// that contains `b`, `c.d` and `c.e` it returns `b` and `c`.
+///
+/// In contracts it is the list of the names that it hasn't returned yet, each with the paths that the cursor after the
+/// step to it contains.
 #[derive(Drop)]
 pub struct CursorNames<'a> {
     trie: &'a Trie,
@@ -76,7 +79,7 @@ impl<'a> ExactSizeIterator for CursorNames<'a> {
 
 impl<'a> FusedIterator for CursorNames<'a> {}
 
-/// Writes the name of the type, and none of the names.
+/// Writes `CursorNames { .. }`, without the names.
 impl<'a> fmt::Debug for CursorNames<'a> {
     fn fmt<W: fmt::Write>(&self, f: &mut fmt::Formatter<W>) -> fmt::Result {
         f.write_str("CursorNames { .. }")

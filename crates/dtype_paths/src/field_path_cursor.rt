@@ -16,12 +16,14 @@ use crate::trie::Trie;
 use crate::{CursorNames, Field};
 use std::fmt;
 
-/// A place in a set of paths, which is reached by some steps. The cursor contains, for each path of the set that begins
-/// with these steps, what is left of that path after them. A reader that descends into a type steps a cursor along with
-/// it, and so never looks at paths that lead elsewhere.
+/// A place in a set of paths, which is reached from the root by some steps. The cursor contains what remains of the
+/// paths of the set after these steps. For example, in the set of `a.b`, `a.c.d` and `x` the cursor after the step `a`
+/// contains the paths `b` and `c.d`. It doesn't contain anything of `x`, because `x` doesn't begin with `a`.
 ///
-/// For example, in the set of `a.b`, `a.c.d` and `x` the cursor after the step `a` contains the paths `b` and `c.d`. A
-/// cursor borrows the set and is `Copy`. No call of a cursor allocates.
+/// A reader that descends into a type can step a cursor at the same time. Then it never looks at paths that don't begin
+/// with the steps that it has taken. A cursor borrows the set and is `Copy`.
+///
+/// No call of a cursor allocates.
 #[derive(Clone, Copy)]
 pub struct FieldPathCursor<'a> {
     trie: &'a Trie,
@@ -52,8 +54,9 @@ impl<'a> FieldPathCursor<'a> {
         }
     }
 
-    /// Returns whether a path of the set ends at this cursor: whether the cursor contains the root, the path without
-    /// steps. If it does, the set covers everything below this place.
+    /// Returns whether the steps to this cursor are themselves a path of the set. Then the cursor contains the root,
+    /// which is the path without steps, and the set covers every path that begins with these steps. For example, in the
+    /// set of `a` and `a.b` the result is `true` for the cursor after the step `a`.
     #[tactic(auto, unfolding(crate::specs::Cursors::contains_below))]
     pub fn is_end(&self) -> bool
         ensures { result ≡ contains_below self.now [] }
@@ -61,7 +64,8 @@ impl<'a> FieldPathCursor<'a> {
         self.trie.is_terminal(self.node_index)
     }
 
-    /// Returns whether the cursor contains no path. This is true only of the cursor at the root of an empty set.
+    /// Returns whether the cursor contains no path. The result is `true` only for the cursor at the root of an empty
+    /// set.
     #[tactic(auto, unfolding(crate::specs::Cursors::contains_below))]
     pub fn is_empty(&self) -> bool
         ensures nothing { IsTrue result ↔ (contains_below self.now ≡ no_path) }
@@ -71,8 +75,8 @@ impl<'a> FieldPathCursor<'a> {
         self.trie.is_empty_at(self.node_index)
     }
 
-    /// Returns the cursor after one more step, or `None` if no path that the cursor contains begins with that step. For
-    /// example, for a cursor that contains `b` and `c.d` the step `c` returns a cursor that contains `d`.
+    /// Returns the cursor after one more step, or `None` if no path that this cursor contains begins with that step.
+    /// For example, if the cursor contains `b` and `c.d`, then the step `c` returns a cursor that contains `d`.
     pub fn step(&self, step: &Field) -> Option<Self>
         ensures paths { contains_below_if result ≡ after_step step.now (contains_below self.now) }
         ensures some { IfSome result (λ _. (q : List Field) × IsTrue (contains_below self.now (step.now ∷ q))) }
@@ -84,8 +88,8 @@ impl<'a> FieldPathCursor<'a> {
         })
     }
 
-    /// Returns the cursor after a step to the element of a list, or `None` if no path that the cursor contains begins
-    /// with that step.
+    /// Returns the cursor after the step to the element of a list, or `None` if no path that this cursor contains
+    /// begins with that step. For example, if the cursor contains `[].b`, then it returns a cursor that contains `b`.
     pub fn element(&self) -> Option<Self>
         ensures paths { contains_below_if result ≡ after_step ElementType (contains_below self.now) }
         ensures some { IfSome result (λ _. (q : List Field) × IsTrue (contains_below self.now (ElementType ∷ q))) }
@@ -93,9 +97,11 @@ impl<'a> FieldPathCursor<'a> {
         self.step(&Field::ElementType)
     }
 
-    /// Returns an iterator over the names with which paths of the cursor begin. It yields each name once, together with
-    /// the cursor after the step to that name, in no particular order. The iterator's `len` returns how many names are
-    /// left. The call of `names` itself visits none of them.
+    /// Returns an iterator over the names with which paths of the cursor begin. For each name it returns a reference to
+    /// the name, and the cursor after the step to that name. It returns each name once, in no particular order. For
+    /// example, if the cursor contains `b`, `c.d` and `c.e`, then it returns `b` and `c`.
+    ///
+    /// The `len` of the iterator is the number of names that are left. The call of `names` itself visits none of them.
     #[tactic(auto, unfolding(crate::specs::Cursors::contains_below))]
     pub fn names(&self) -> CursorNames<'a>
         ensures names { AreNames (contains_below self.now) (names_left result) }
@@ -110,7 +116,7 @@ impl<'a> FieldPathCursor<'a> {
     }
 }
 
-/// Writes the name of the type, and nothing of the set.
+/// Writes `FieldPathCursor { .. }`, without the paths.
 impl<'a> fmt::Debug for FieldPathCursor<'a> {
     fn fmt<W: fmt::Write>(&self, f: &mut fmt::Formatter<W>) -> fmt::Result {
         f.write_str("FieldPathCursor { .. }")

@@ -35,7 +35,8 @@ use std::{fmt, vec};
 ///
 /// For example, after `a.b`, `x`, `a` and `a.c` are inserted, the set contains four paths. It covers every path of
 /// which one of the four is a prefix. The least paths of the set are those of which no other path of the set is a
-/// prefix, here `a` and `x`. They cover the same paths as the whole set, and no set with fewer paths does.
+/// prefix. In this example they are `a` and `x`. The least paths cover the same paths as the whole set, and no set with
+/// fewer paths does.
 #[derive(Drop)]
 pub struct FieldPathSet {
     alloc: Global,
@@ -55,7 +56,9 @@ impl Model for FieldPathSet {
 }
 
 impl FieldPathSet {
-    /// Returns the empty set. The set keeps the allocator for later calls. Doesn't allocate.
+    /// Returns the empty set. The set keeps the allocator for later calls.
+    ///
+    /// The call doesn't allocate.
     #[tactic(auto, using(crate::proofs::lemmas::SetCovers::covers_none))]
     pub fn new(alloc: Global) -> Self
         ensures empty { result ≡ set.empty }
@@ -89,14 +92,19 @@ impl FieldPathSet {
         Ok(set)
     }
 
-    /// Returns whether the path is in the set. Doesn't allocate.
+    /// Returns whether the path is in the set. For example, the set of `a` doesn't contain `a.b`, although it covers
+    /// `a.b`.
+    ///
+    /// The call doesn't allocate.
     pub fn contains(&self, path: &FieldPath) -> bool
         ensures { result ≡ set.contains self.now path.now }
     {
         self.trie.contains(path.parts())
     }
 
-    /// Returns a cursor at the root of the set. It contains the paths of the set. Doesn't allocate.
+    /// Returns a cursor at the root of the set. The cursor contains the paths of the set.
+    ///
+    /// The call doesn't allocate.
     pub fn cursor(&self) -> FieldPathCursor<'_>
         ensures paths { contains_below result ≡ set.contains self.now }
         ensures each { (q : List Field) → contains_below result q ≡ set.contains self.now q }
@@ -104,7 +112,8 @@ impl FieldPathSet {
         FieldPathCursor::at_root(&self.trie)
     }
 
-    /// Inserts the path if it isn't in the set yet. If there is an error, the set is unchanged and the path is dropped.
+    /// Inserts the path, unless it is in the set already. If there is an error, the set is unchanged and the path is
+    /// dropped.
     ///
     /// # Errors
     ///
@@ -119,13 +128,14 @@ impl FieldPathSet {
         Ok(self.trie.insert(self.alloc, path)?)
     }
 
-    /// Inserts the paths that an iterator yields, in order. The caller must prove that the iterator ends. If an
-    /// allocation fails, the call stops at one of the paths. The set then contains the paths that it contained before
-    /// the call and the paths that the iterator yielded before that one, and no others.
+    /// Inserts the paths that an iterator yields, in order. The caller must prove that the iterator ends.
+    ///
+    /// If there is an error, the call has stopped at one of the paths. The set then contains the paths that it
+    /// contained before the call and the paths that the iterator yielded before that one, and no others.
     ///
     /// # Errors
     ///
-    /// - `OutOfMemory` (0): an allocation fails.
+    /// - `OutOfMemory` (0): an allocation fails, or the reference count of a text is at its maximum.
     pub fn extend<I: IntoIterator<Item = FieldPath>>(&mut self, paths: I) -> VortexResult<()>
         requires { IsFiniteIterable I.into_iter_gives I.IntoIter.can_next I.IntoIter.remaining paths }
         ensures extended { OnOk result (MadeFrom (I.into_iter_gives paths) I.IntoIter.next_gives (λ given.
@@ -140,7 +150,7 @@ impl FieldPathSet {
         Ok(())
     }
 
-    /// Returns an iterator over references to the paths of the set, each once, in no particular order.
+    /// Returns an iterator over references to the paths of the set. It returns each path once, in no particular order.
     ///
     /// # Errors
     ///
@@ -154,13 +164,13 @@ impl FieldPathSet {
         Ok(found.into_iter())
     }
 
-    /// Returns references to the paths of the set that don't exist in `dtype` (`FieldPath::exists_in`), each once, in
-    /// no particular order. For example, for the set of `a` and `b.c` and the type `{a=i32, b=utf8}` it returns `b.c`.
-    /// A program that checks a query against a schema can name these paths in its error. It returns an empty list
-    /// exactly if every path of the set exists in the type.
+    /// Returns references to the paths of the set that don't exist in `dtype` (`FieldPath::exists_in`). Each path is
+    /// returned once, in no particular order. For example, for the set of `a` and `b.c` and the type `{a=i32, b=utf8}`
+    /// the call returns `b.c`. The returned list is empty exactly if every path of the set exists in the type. A
+    /// program that checks a query against a schema can name the returned paths in its error.
     ///
-    /// Each path is followed in the type up to its end or up to the first step that leads nowhere. So the time grows
-    /// with the number of steps of all paths.
+    /// The call follows each path in the type, up to the end of the path or up to the first step that isn't possible.
+    /// So the time grows with the number of steps of all paths.
     ///
     /// # Errors
     ///
@@ -178,10 +188,10 @@ impl FieldPathSet {
         Ok(paths)
     }
 
-    /// Consumes the set and returns its least paths: those of which no other path of the set is a prefix. It returns
-    /// each once, in no particular order. They are the fewest paths that cover what the set covers. For example, the
-    /// least paths of the set of `a.b`, `x`, `a` and `a.c` are `a` and `x`. The set is dropped, even if there is an
-    /// error.
+    /// Consumes the set and returns an iterator over its least paths, which are those of which no other path of the set
+    /// is a prefix. It returns each path once, in no particular order. For example, the least paths of the set of
+    /// `a.b`, `x`, `a` and `a.c` are `a` and `x`. They are the fewest paths that cover what the set covers. The set is
+    /// dropped, even if there is an error.
     ///
     /// # Errors
     ///
@@ -199,10 +209,12 @@ impl FieldPathSet {
         Ok(paths)
     }
 
-    /// Consumes the set and returns what `into_iter` returns, and the number of nodes of the trie that were visited.
-    /// These are the root and one node for each other prefix of a returned path, no matter how many paths of the set
-    /// lie below the returned paths. For example, for the set of `a.b`, `x`, `a` and `a.c` the number is 3: the root,
-    /// `a` and `x`. The set is dropped, even if there is an error.
+    /// Consumes the set and returns what `into_iter` returns, and the number of nodes of the trie that the call
+    /// visited.
+    ///
+    /// The call visits the root, and one node for each other prefix of a returned path. It doesn't visit the nodes
+    /// below a returned path, however many paths of the set are there. For example, for the set of `a.b`, `x`, `a` and
+    /// `a.c` the number is 3: the root, `a` and `x`. The set is dropped, even if there is an error.
     ///
     /// # Errors
     ///
@@ -220,7 +232,9 @@ impl FieldPathSet {
         Ok((found.into_iter(), visits))
     }
 
-    /// Returns a copy of the set. The call allocates from the allocator of this set.
+    /// Returns a copy of the set.
+    ///
+    /// The call allocates from the allocator of this set.
     ///
     /// # Errors
     ///
@@ -235,7 +249,8 @@ impl FieldPathSet {
     }
 }
 
-/// Collects the paths that an iterator yields into a set, so that `collect` can return a set.
+/// Collects the paths that an iterator yields into a set. So `collect` can return a set. It returns `AllocError` if an
+/// allocation fails, or if the reference count of a text is at its maximum.
 impl FromIterator<FieldPath> for FieldPathSet {
     type Alloc = Global;
 
@@ -252,7 +267,7 @@ impl FromIterator<FieldPath> for FieldPathSet {
     }
 }
 
-/// Writes the name of the type, without its paths.
+/// Writes `FieldPathSet { .. }`, without the paths.
 impl fmt::Debug for FieldPathSet {
     fn fmt<W: fmt::Write>(&self, f: &mut fmt::Formatter<W>) -> fmt::Result {
         f.write_str("FieldPathSet { .. }")

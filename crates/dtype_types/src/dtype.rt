@@ -37,15 +37,15 @@ pub enum DType {
     Primitive(PType, Nullability),
     /// Decimal numbers with this precision and this scale.
     Decimal(DecimalDType, Nullability),
-    /// Texts.
+    /// Texts in UTF-8.
     Utf8(Nullability),
-    /// Bytes.
+    /// Sequences of bytes, of any length.
     Binary(Nullability),
     /// Lists of any length whose elements are of one type.
     List(Box<DType>, Nullability),
     /// Lists of one fixed length whose elements are of one type.
     FixedSizeList(Box<DType>, u32, Nullability),
-    /// Maps: lists of entries, each a key and a value.
+    /// Maps: lists of entries, each with a key and a value.
     Map(MapDType, Nullability),
     /// Structs: fields in order, each with a name and a type.
     Struct(StructFields, Nullability),

@@ -185,7 +185,7 @@ pub fn values_of_what_is_below_are_values()
 
 /// Take two types `a` and `b` that are equal except for nullabilities, such that `a` is valid and contains no
 /// fixed-size list of size 0. Then `a` is a subset of `b` exactly if each value of `a` is a value of `b`. For example,
-/// null is a value of `i32?` and not of `i32`, so `i32?` isn't a subset of `i32`. So for such types
+/// `i32?` isn't a subset of `i32`, and null is a value of `i32?` and not of `i32`. So for such types
 /// `a.eq_with_nullability_subset(b)` returns `true` exactly if a column of type `a` may be used as a column of type
 /// `b`.
 ///
@@ -201,8 +201,8 @@ pub fn the_order_is_inclusion_of_values()
 
 /// Take two types `a` and `b` that are equal except for nullabilities, such that `a` is valid and contains no
 /// fixed-size list of size 0. If `a` isn't a subset of `b`, then `tell a b` is `Some` of a value of `a` that isn't a
-/// value of `b`. For example, `tell` of `list(i32?)` and `list(i32)` is the list that contains one null. With this law
-/// a program that refuses a column of type `a` can show a value that is the reason.
+/// value of `b`. For example, `tell` of `list(i32?)` and `list(i32)` is `Some` of the list that contains one null. So a
+/// program that refuses a column of type `a` can show a value because of which it does so.
 ///
 /// About [`DType::eq_with_nullability_subset`].
 #[tactic(auto, using(crate::proofs::TellLaws::tells_apart))]

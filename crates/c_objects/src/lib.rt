@@ -1,15 +1,18 @@
 // SPDX-License-Identifier: Apache-2.0
 // SPDX-FileCopyrightText: Copyright the Vortex contributors
 
-//! Values that a program in another language holds by a pointer: [`Object`] lists their types, and [`Slot`] is the
-//! place that has one of them, or none.
+//! Objects that a program in C refers to by a pointer. An [`Object`] is a value of one of the types of the library, for
+//! example a path. A [`Slot`] is a place that contains one object or is empty.
 //!
-//! A slot crosses the boundary to C as `struct { void *at; }`, and its pointer owns an `Object` in a `Box`, or is null.
-//! The borrow checker doesn't follow such a pointer. So five functions that take a box apart, put one together, and
-//! make and empty a slot are proved by hand (`proofs/`), and everything else is proved from their contracts.
+//! In C, a slot is `struct { void *at; }`. Its pointer is null if the slot is empty. Otherwise the pointer owns the
+//! object as a `Box` does. The borrow checker doesn't follow such a pointer. So five functions are proved by hand
+//! (`proofs/`): those that take a box apart and put it together again, that make an empty and a filled slot, and that
+//! take the object out of a slot. Everything else is proved from the contracts of these five.
 //!
-//! What is proved: [`Slot::take`] returns the object that the slot had and leaves the slot empty, [`Slot::put`] drops
-//! what the slot had and leaves the new object in it, and a slot that goes out of scope drops its object once.
+//! What is proved:
+//! - [`Slot::take`] returns the object that the slot contained, and leaves the slot empty.
+//! - [`Slot::put`] drops the object that the slot contained, if there was one, and leaves the new object in the slot.
+//! - If a slot that contains an object goes out of scope, the object is dropped once.
 #![tactic(auto)]
 
 pub use object::Object;

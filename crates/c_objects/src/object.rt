@@ -6,7 +6,7 @@ use dtype_messages::pb;
 use dtype_paths::{FieldMask, FieldPath, FieldPathSet};
 use dtype_types::DType;
 
-/// A value that a [`Slot`](crate::Slot) may have, for example `Object::Path` of the path `a.[]`.
+/// A value that a [`Slot`](crate::Slot) can contain, for example `Object::Path` of the path `a.[]`.
 #[derive(Drop)]
 pub enum Object {
     /// A logical type.
@@ -19,6 +19,6 @@ pub enum Object {
     Paths(Vec<FieldPath>),
     /// A mask over field paths.
     Mask(FieldMask),
-    /// The message of a logical type.
+    /// The protobuf message that describes a logical type.
     Message(pb::DType),
 }

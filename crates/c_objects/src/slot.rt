@@ -16,10 +16,10 @@ use std::marker::Model;
 use std::mem;
 use std::ptr::null_mut;
 
-/// A place that has an [`Object`], or none. Its contracts call that `value`: `None`, or `Some` of the object.
+/// A place that contains one [`Object`] or is empty. In contracts its `value` is `Some` of the object, or `None`.
 ///
-/// In C it is `struct { void *at; }`, which begins as `{0}`. It owns its object, so C never copies it by `=` while it
-/// has one.
+/// In C, a slot is `struct { void *at; }`, and `{0}` is an empty slot. A slot owns its object. So a C program must not
+/// copy a slot by `=` while the slot contains an object, because then two slots would own it.
 #[repr(C)]
 pub struct Slot {
     at: *mut u8,
@@ -32,7 +32,7 @@ impl Model for Slot {
 }
 
 impl Slot {
-    /// Returns a slot with no object.
+    /// Returns an empty slot.
     pub fn empty(alloc: Global) -> Slot
         ensures { result.value ≡ None }
     {
@@ -68,9 +68,9 @@ impl Slot {
         }
     }
 
-    /// Takes the object out, if there is one, and leaves the slot empty.
+    /// Returns the object that the slot contains, or `None` if the slot is empty. The slot is empty afterwards.
     ///
-    /// It moves a pointer, and allocates nothing.
+    /// The call moves a pointer and doesn't allocate.
     pub fn take(&mut self, alloc: Global) -> Option<Box<Object>>
         ensures before { MatchOption result (self.old.value ≡ None) (λ b. self.old.value ≡ Some b.value) }
         ensures after { self.new.value ≡ None }
@@ -81,7 +81,7 @@ impl Slot {
         }
     }
 
-    /// Drops the object that the slot has, if there is one, and puts this one in its place.
+    /// Stores the object in the slot. If the slot contained another object, that one is dropped.
     pub fn put(&mut self, object: Box<Object>)
         ensures { self.new.value ≡ Some object.value }
     {

@@ -110,29 +110,33 @@ static inline bool vlt_is_among(const vlt_slot *slot, const vlt_slot *slots, siz
 /* Memory ran out, which is the library's error 0. The library's error n, up to 36, is this number plus n. */
 #define VLT_LIBRARY 100u
 
-/* A message, a text or a tag in the flat form. A message is followed by its texts, its tags and then its parts, each
- * with what follows it. Fields that a kind doesn't use are 0. */
+/* One item of the flat form of a message: a message, a text or a tag. The node of a message is followed by the nodes
+ * of its texts, then by the nodes of its tags, and then by its parts, each of which is a message with the nodes that
+ * follow it. A field that the kind of a node doesn't use is 0. */
 typedef struct {
-    /* 0 of a message without a kind; 1 null, 2 bool, 3 primitive, 4 decimal, 5 utf8, 6 binary, 7 list, 8 fixed-size list,
-     * 9 map, 10 struct, 11 union, 12 variant, 13 extension; 14 of a text, 15 of a tag. */
+    /* What the node is: 0 for a message without a kind; 1 null, 2 bool, 3 primitive, 4 decimal, 5 utf8, 6 binary, 7
+     * list, 8 fixed-size list, 9 map, 10 struct, 11 union, 12 variant and 13 extension for a message of this kind; 14
+     * for a text; 15 for a tag. */
     uint32_t kind;
-    /* 1 if values may be null, else 0. */
+    /* 1 if the message has the flag `nullable` and the flag is set, and otherwise 0. The messages of null and of an
+     * extension don't have this flag. */
     uint8_t nullable;
-    /* 1 if a map's keys are declared to be sorted, else 0. */
+    /* 1 if the keys of a map are declared to be sorted, and otherwise 0. */
     uint8_t keys_sorted;
-    /* 1 if a list's element, a map's key or an extension's storage follows, else 0. */
+    /* 1 if the element type of a list, the key type of a map or the storage type of an extension follows, and
+     * otherwise 0. */
     uint8_t has_first;
-    /* 1 if a map's value or the text of an extension's metadata follows, else 0. */
+    /* 1 if the value type of a map or the text of the metadata of an extension follows, and otherwise 0. */
     uint8_t has_second;
-    /* How many names follow a struct or a union. */
+    /* The number of names that follow a struct or a union. */
     uint32_t names;
-    /* How many tags follow a union. */
+    /* The number of tags that follow a union. */
     uint32_t tags;
-    /* How many types follow a struct or a union. */
+    /* The number of types that follow a struct or a union. */
     uint32_t types;
-    /* A decimal's precision, a fixed-size list's size, or how many bytes a text has. */
+    /* The precision of a decimal, the size of a fixed-size list, or the number of bytes of a text. */
     uint32_t number;
-    /* A primitive type's number, a decimal's scale, or a tag. */
+    /* The number of a primitive type, the scale of a decimal, or a tag. */
     int32_t value;
 } vlt_node;
 

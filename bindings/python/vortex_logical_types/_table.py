@@ -44,8 +44,9 @@ LIBRARY = 100
 
 
 class Node(ctypes.Structure):
-    """A message, a text or a tag in the flat form. A message is followed by its texts, its tags and then its parts, each
-    with what follows it. Fields that a kind doesn't use are 0."""
+    """One item of the flat form of a message: a message, a text or a tag. The node of a message is followed by the nodes
+    of its texts, then by the nodes of its tags, and then by its parts, each of which is a message with the nodes that
+    follow it. A field that the kind of a node doesn't use is 0."""
 
     _fields_ = [
         ("kind", ctypes.c_uint32),

@@ -1,14 +1,15 @@
 -- SPDX-License-Identifier: Apache-2.0
 -- SPDX-FileCopyrightText: Copyright the Vortex contributors
 
--- How deep messages are nested, as trees and as nodes. A choice of ours: the flat form has no message that is nested in more
--- than 128 others, so that dropping a message can't exhaust the stack.
+-- How deep messages are nested, as trees and as nodes. The limit is a choice of this port: no message of the flat form
+-- is nested in more than 128 others, so that dropping a message can't exhaust the stack.
 use Rattle.std.specs.Prelude.{ℕ, List, [], ◌∷◌, ◌+◌, ◌&&◌, ◌||◌, ◌==◌, nat_le, max, Bool}
 use Rattle.dtype_messages.specs.Message.{Message, Child, Messages, list, fixed_size_list, map_of, struct, union, extension, absent, present, no_message, more}
 use Rattle.c_nodes.specs.declared.node.Node.{Node}
 use Rattle.c_nodes.specs.Flat.{bit}
 
--- in how many messages the deepest part of a message is nested: 0 of a message without parts, 1 of a list of integers
+-- the number of messages in which the deepest part of a message is nested, for example 0 for a message without parts
+-- and 1 for a list of integers
 abbrev mutual
   pub depth : Message → ℕ
   depth (list c f) = depth_child c
@@ -27,11 +28,13 @@ abbrev mutual
   depth_all no_message = 0
   depth_all (more m ms) = max (1 + depth m) (depth_all ms)
 
--- whether nodes of this kind may have parts: lists, fixed-size lists, maps, structs, unions and extensions
+-- whether a node of this kind may have parts, which is true of lists, fixed-size lists, maps, structs, unions and
+-- extensions
 abbrev pub may_have_parts : ℕ → Bool
 may_have_parts k = (nat_le 7 k && nat_le k 11) || (k == 13)
 
--- how many of these nodes may have parts; as each level of nesting takes one, no message of theirs is nested in more others
+-- how many of these nodes may have parts; each level of nesting needs one such node, so no message that these nodes
+-- describe is nested in more others than this number
 unfoldable pub holders : List Node → ℕ
 holders [] = 0
 holders (n ∷ ns) = bit (may_have_parts n.kind) + holders ns

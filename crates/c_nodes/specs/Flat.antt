@@ -1,8 +1,9 @@
 -- SPDX-License-Identifier: Apache-2.0
 -- SPDX-FileCopyrightText: Copyright the Vortex contributors
 
--- The flat form of a message tree: its nodes in order, each message before its texts, its tags and its parts, and the
--- bytes of its texts in the same order. The fields of a node and their order are a choice of ours.
+-- The flat form of a message: its nodes in order, and the bytes of its texts in the same order. The node of a message
+-- comes before the nodes of its texts, of its tags and of its parts. The fields of a node and their order are a choice
+-- of this port.
 use Rattle.std.specs.Prelude.{◌≡◌, ℕ, ℤ, pos, List, [], ◌∷◌, ◌++◌, ◌+◌, length, map, Option, Some, None, Bool, true, false}
 use Rattle.std.specs.List.{flat_map}
 use Rattle.std.specs.String.{string_bytes}
@@ -20,7 +21,7 @@ abbrev pub bit : Bool → ℕ
 bit true = 1
 bit false = 0
 
--- the nodes of each kind, from the values of the message's fields
+-- the node of each kind, made from the values of the fields of the message
 abbrev pub plain : ℕ → Node
 plain k = record { kind = k; nullable = 0; keys_sorted = 0; has_first = 0; has_second = 0; names = 0; tags = 0; types = 0; number = 0; value = pos 0 }
 
@@ -33,21 +34,21 @@ primitive_node p f = record { kind = 3; nullable = bit f; keys_sorted = 0; has_f
 abbrev pub decimal_node : ℕ → ℤ → Bool → Node
 decimal_node p s f = record { kind = 4; nullable = bit f; keys_sorted = 0; has_first = 0; has_second = 0; names = 0; tags = 0; types = 0; number = p; value = s }
 
--- of a list, with a size 0, or of a fixed-size list
+-- the node of a list, for which the size is 0, or of a fixed-size list
 abbrev pub part_node : ℕ → Bool → ℕ → Bool → Node
 part_node k has n f = record { kind = k; nullable = bit f; keys_sorted = 0; has_first = bit has; has_second = 0; names = 0; tags = 0; types = 0; number = n; value = pos 0 }
 
 abbrev pub map_node : Bool → Bool → Bool → Bool → Node
 map_node k v o f = record { kind = 9; nullable = bit f; keys_sorted = bit o; has_first = bit k; has_second = bit v; names = 0; tags = 0; types = 0; number = 0; value = pos 0 }
 
--- of a struct, with no tags, or of a union
+-- the node of a struct, which has no tags, or of a union
 abbrev pub fields_node : ℕ → ℕ → ℕ → ℕ → Bool → Node
 fields_node k ns gs ts f = record { kind = k; nullable = bit f; keys_sorted = 0; has_first = 0; has_second = 0; names = ns; tags = gs; types = ts; number = 0; value = pos 0 }
 
 abbrev pub extension_node : Bool → Bool → Node
 extension_node s b = record { kind = 13; nullable = 0; keys_sorted = 0; has_first = bit s; has_second = bit b; names = 0; tags = 0; types = 0; number = 0; value = pos 0 }
 
--- of a text of this many bytes
+-- the node of a text of this many bytes
 abbrev pub sized_node : ℕ → Node
 sized_node n = record { kind = 14; nullable = 0; keys_sorted = 0; has_first = 0; has_second = 0; names = 0; tags = 0; types = 0; number = n; value = pos 0 }
 
@@ -57,7 +58,7 @@ tag_node t = record { kind = 15; nullable = 0; keys_sorted = 0; has_first = 0; h
 abbrev pub text_node : List ℕ → Node
 text_node t = sized_node (length t)
 
--- whether there is a child, and the bytes of metadata
+-- whether there is a part, and whether there is metadata
 abbrev pub is_present : Child → Bool
 is_present absent = false
 is_present (present m) = true
@@ -130,7 +131,7 @@ abbrev mutual
   all_texts no_message = []
   all_texts (more m ms) = flat_texts m ++ all_texts ms
 
--- the messages of a map, a struct, a union and an extension, by the fields of the plain data
+-- the message of a map, of a struct, of a union and of an extension, made from the fields of the `pb` struct
 abbrev pub map_with : Option (Box DType Global) → Option (Box DType Global) → Bool → Bool → Message
 map_with key value o f = map_of (child_message key) (child_message value) o f
 
@@ -143,6 +144,6 @@ union_of names tags dtypes f = union (map string_bytes names) (messages (map mes
 abbrev pub extension_of : String Global → Option (Vec ℕ Global) → Option (Box DType Global) → Message
 extension_of id metadata storage = extension (string_bytes id) (child_message storage) (bytes_of metadata)
 
--- these nodes or bytes are added behind those that were there
+-- the new list is the old list followed by what was added
 abbrev pub GrowsBy : {X : Type 0} → List X → List X → List X → Type 0
 GrowsBy added old new = new ≡ old ++ added

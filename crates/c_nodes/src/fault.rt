@@ -6,16 +6,17 @@ ghost use Rattle.c_nodes.specs.declared.fault.NodeFault.TheVariants.{OutOfMemory
 
 use std::alloc::{AllocError, AllocFailed};
 
-/// Why nodes and texts aren't a message, or a message has none.
+/// Why `message_of` or `nodes_of` failed.
 #[derive(Clone, Copy, Debug, PartialEq, Eq)]
 pub enum NodeFault {
     /// An allocation failed.
     OutOfMemory,
-    /// A text isn't UTF-8.
+    /// A name or an id isn't UTF-8.
     NotUtf8,
     /// A message is nested in more than 128 others.
     TooDeep,
-    /// The nodes and texts aren't those of a message, or a number of names, tags, types or bytes doesn't fit 32 bits.
+    /// For `message_of`: the nodes and texts aren't those of one message. For `nodes_of`: a number of names, tags,
+    /// types or bytes is above 2^32 - 1.
     OutOfRange,
 }
 

@@ -1,15 +1,19 @@
 // SPDX-License-Identifier: Apache-2.0
 // SPDX-FileCopyrightText: Copyright the Vortex contributors
 
-//! The flat form of the message of a type: an array of [`Node`]s and the bytes of its texts, for programs that have
-//! decoded a message and can't build Rattle's.
+//! The flat form of a message that describes a type: an array of [`Node`]s, and the bytes of the texts of the message.
+//! A program in another language that has decoded a message uses this form to pass it, because it can't build a
+//! `pb::DType`.
 //!
-//! `message_of` reads the message that nodes describe, and `nodes_of` returns the nodes of a message. For example the
-//! message of `struct(a=i32?)` has three nodes: the struct, with one name and one type; the name, of one byte; and the
-//! nullable primitive type 6. Its texts are the byte `a`.
+//! `message_of` returns the message that nodes and texts describe. `nodes_of` returns the nodes and the texts of a
+//! message. For example, the message of the type `{a=i32?}` has three nodes. The first is the struct, with one name and
+//! one type. The second is the name, which has one byte. The third is the primitive type 6 (`i32`), which is nullable.
+//! The texts are the byte `a`.
 //!
-//! What is proved: a message that is read has exactly the nodes and texts that it was read from, and those that are
-//! returned of a message are its nodes and texts (`specs/Flat`).
+//! What is proved (`specs/Flat`):
+//! - The nodes and the texts of the message that `message_of` returns are exactly the nodes and the texts that were
+//!   passed.
+//! - The nodes and the texts that `nodes_of` returns are exactly those of the message.
 #![tactic(auto)]
 
 pub use fault::NodeFault;

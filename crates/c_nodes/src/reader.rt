@@ -16,7 +16,7 @@ use std::alloc::Global;
 use std::str;
 use std::string::String;
 
-/// In how many others a message may be nested.
+/// The number of other messages in which a message may be nested.
 pub(crate) const MAX_LEVELS: u32 = 128;
 
 // What hasn't been read.
@@ -26,7 +26,7 @@ struct Rest<'a> {
     texts: &'a [u8],
 }
 
-/// Returns the message of these nodes and texts.
+/// Returns the message that these nodes and texts describe.
 ///
 /// # Errors
 ///

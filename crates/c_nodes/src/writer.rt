@@ -28,7 +28,7 @@ struct Flat {
 /// # Errors
 ///
 /// - `TooDeep`: a message is nested in more than 128 others.
-/// - `OutOfRange`: a number of names, tags, types or bytes doesn't fit 32 bits.
+/// - `OutOfRange`: a number of names, tags, types or bytes is above 2^32 - 1.
 /// - `OutOfMemory`: an allocation fails.
 pub fn nodes_of(alloc: Global, proto: &pb::DType) -> Result<(Vec<Node>, Vec<u8>), NodeFault>
     ensures nodes { IfOk result (λ r. r.0.items ≡ flat_nodes (message proto.now)) }

@@ -9,10 +9,10 @@
  * Slots. A slot is a place for one object (a type, a path, a set of paths and so on), and it owns the object.
  * Initialise a slot with {0}, which makes it empty. When you no longer need its object, call vlt_free, which drops the
  * object and leaves the slot empty. Never copy a slot by =, because then two slots own one object. A slot that a call
- * only reads keeps its object. If the comment of a function says that it puts something, the function puts it into the
- * slot `out`: if the call returns VLT_DONE, it drops the object that `out` contained before and puts the result there.
- * If the call returns any other number, `out` is unchanged. The slots of one call must be different. If two of them are
- * the same, the call returns VLT_SAME_SLOT and changes nothing.
+ * only reads keeps its object. If the comment of a function says that it stores something in `out`, then the function
+ * drops the object that `out` contained before and stores the result there if it returns VLT_DONE. If it returns any
+ * other number, `out` is unchanged. The slots of one call must be different. If two of them are the same, the call
+ * returns VLT_SAME_SLOT and changes nothing.
  *
  * Results. Each call returns a number, except vlt_free, vlt_kind and vlt_abi_version:
  *
@@ -143,173 +143,214 @@ typedef struct {
 
 /* == All objects == */
 
-/* Writes the answer of the console to a line, which is given without its newline. A line that is blank or a comment, and
- * one that ends the console, has no answer, and the call returns 1. Each call begins with no named set and no named
- * session. An answer may have several lines. An error is an answer too: `unreadable at 3: expected ..` returns 0. */
+/* Writes the answer that the console prints for this line to `buffer`. The line is passed without its newline. An
+ * answer may have several lines.
+ *
+ * If the line is blank, is a comment or ends the console, it has no answer, and the call returns 1. An error is an
+ * answer too. For example, if the answer begins with `unreadable at 3: expected`, the call returns 0. Each call begins
+ * without named sets and named sessions. */
 uint32_t vlt_answer(const uint8_t *line, size_t line_len, uint8_t *buffer, size_t buffer_len, size_t *length);
 
-/* Writes what a result means in a few words. If no export returns this number, it returns 9. */
+/* Writes a few words to `buffer` that say what the result `code` means, for example `a text is not UTF-8` for 3.
+ * Returns 9 if `code` is neither from 0 to 9 nor from 100 to 136. */
 uint32_t vlt_error_text(uint32_t code, uint8_t *buffer, size_t buffer_len, size_t *length);
 
-/* Returns the version of this interface: 1. */
+/* Returns the version of this interface, which is 1. */
 uint32_t vlt_abi_version(void);
 
 /* Drops the object in the slot, if there is one, and leaves the slot empty. */
 void vlt_free(vlt_slot *slot);
 
-/* Returns the kind of the object in the slot: 0 none, 1 a type, 2 a path, 3 a set of paths, 4 a list of paths, 5 a mask,
- * 6 the message of a type. */
+/* Returns the kind of the object in the slot: 0 if the slot is empty, 1 for a type, 2 for a path, 3 for a set of
+ * paths, 4 for a list of paths, 5 for a mask, and 6 for the message of a type. */
 uint32_t vlt_kind(vlt_slot *slot);
 
 
 /* == Types == */
 
-/* Puts the null type. */
+/* Stores in `out` the null type. */
 uint32_t vlt_dtype_null(vlt_slot *out);
 
-/* Puts the type of booleans. */
+/* Stores in `out` the type of booleans. The type is nullable if `nullable` is true. */
 uint32_t vlt_dtype_bool(bool nullable, vlt_slot *out);
 
-/* Puts the type of texts. */
+/* Stores in `out` the type of texts. The type is nullable if `nullable` is true. */
 uint32_t vlt_dtype_utf8(bool nullable, vlt_slot *out);
 
-/* Puts the type of byte strings. */
+/* Stores in `out` the type of byte strings. The type is nullable if `nullable` is true. */
 uint32_t vlt_dtype_binary(bool nullable, vlt_slot *out);
 
-/* Puts the type of values that carry their own types. */
+/* Stores in `out` the variant type. Its values each carry their own type. The type is nullable if `nullable` is true. */
 uint32_t vlt_dtype_variant(bool nullable, vlt_slot *out);
 
-/* Puts a primitive type, by its number from 0 to 10. */
+/* Stores in `out` a primitive type. The number is 0 for u8, 1 for u16, 2 for u32, 3 for u64, 4 for i8, 5 for i16, 6
+ * for i32, 7 for i64, 8 for f16, 9 for f32 and 10 for f64. Returns 9 if the number is above 10. The type is nullable
+ * if `nullable` is true. */
 uint32_t vlt_dtype_primitive(uint32_t number, bool nullable, vlt_slot *out);
 
-/* Puts a decimal type of this precision and scale. If the library accepts none of these, it returns 101 to 104. */
+/* Stores in `out` the decimal type of this precision and this scale. The type is nullable if `nullable` is true.
+ *
+ * Returns 101 if the precision is 0, 102 if the precision is above 76, 103 if the scale is above 76, and 104 if the
+ * scale is above the precision. If several of these are so, it returns the first of these numbers. */
 uint32_t vlt_dtype_decimal(uint8_t precision, int8_t scale, bool nullable, vlt_slot *out);
 
-/* Puts the type of lists of this element type.
- * If the element has 128 levels, it returns 6. */
+/* Stores in `out` a list type: the lists of any length whose elements are of the type in `element`. The list type is
+ * nullable if `nullable` is true. Returns 6 if the element type has 128 levels. */
 uint32_t vlt_dtype_list(vlt_slot *element, bool nullable, vlt_slot *out);
 
-/* Puts the type of lists of exactly `size` elements of this type.
- * If the element has 128 levels, it returns 6. */
+/* Stores in `out` a fixed-size list type: the lists of exactly `size` elements of the type in `element`. The list type
+ * is nullable if `nullable` is true. Returns 6 if the element type has 128 levels. */
 uint32_t vlt_dtype_fixed_size_list(vlt_slot *element, uint32_t size, bool nullable, vlt_slot *out);
 
-/* Puts a struct of these names and types, in order. If there are more or fewer names than types, it returns 9.
+/* Stores in `out` the struct type of these names and types, in order. The struct type is nullable if `nullable` is
+ * true.
  *
- * The names lie one after the other in `names`, and `name_lengths` has the number of bytes of each. */
+ * `names` contains the bytes of all names, one name directly after the other, and `name_lengths` contains the number
+ * of bytes of each name. For example, the names `id` and `city` are the bytes `idcity` with the lengths 2 and 4.
+ *
+ * Returns 3 if a name isn't UTF-8, 6 if one of the types has 128 levels, and 9 if the lengths don't add up to the
+ * number of bytes or if there are more or fewer names than types. */
 uint32_t vlt_dtype_struct(
         const uint8_t *names, size_t names_len, const size_t *name_lengths, size_t name_lengths_len, vlt_slot *dtypes,
         size_t dtypes_len, bool nullable, vlt_slot *out);
 
-/* Puts a union of these names, types and tags, in order, as `vlt_dtype_struct` takes names. */
+/* Stores in `out` the union type of these names, types and tags, in order. The names are passed in the same way as to
+ * `vlt_dtype_struct`. The union type is nullable if `nullable` is true.
+ *
+ * Returns 3 if a name isn't UTF-8, 6 if one of the types has 128 levels, and 9 if the lengths don't add up to the
+ * number of bytes. Otherwise it returns the first of these numbers that applies: 110 if there are more or fewer types
+ * than names, 111 if there are more or fewer tags than names, 112 if there are no names, 113 if a tag occurs twice,
+ * and 115 if a name occurs twice. */
 uint32_t vlt_dtype_union(
         const uint8_t *names, size_t names_len, const size_t *name_lengths, size_t name_lengths_len, vlt_slot *dtypes,
         size_t dtypes_len, const uint8_t *tags, size_t tags_len, bool nullable, vlt_slot *out);
 
-/* Puts a union of these names and types with the tags 0, 1, 2 and so on, as `vlt_dtype_struct` takes names. */
+/* Stores in `out` the union type of these names and types with the tags 0, 1, 2 and so on. The names are passed in the
+ * same way as to `vlt_dtype_struct`. The union type is nullable if `nullable` is true.
+ *
+ * Returns 3 if a name isn't UTF-8, 6 if one of the types has 128 levels, and 9 if the lengths don't add up to the
+ * number of bytes. Otherwise it returns the first of these numbers that applies: 114 if there are more than 256 names,
+ * 110 if there are more or fewer types than names, 112 if there are no names, and 115 if a name occurs twice. */
 uint32_t vlt_dtype_union_consecutive(
         const uint8_t *names, size_t names_len, const size_t *name_lengths, size_t name_lengths_len, vlt_slot *dtypes,
         size_t dtypes_len, bool nullable, vlt_slot *out);
 
-/* Puts the message that describes the type. */
+/* Stores in `out` the message that describes the type. */
 uint32_t vlt_dtype_to_message(vlt_slot *dtype, vlt_slot *out);
 
-/* Puts the type with this outer nullability; for an extension it is that of its storage. If the type can't be
- * non-nullable, it returns 5. */
+/* Stores in `out` the type with the outer nullability that `nullable` states: nullable if it is true, and non-nullable
+ * if it is false. For an extension, the outer nullability of its storage type is changed. Returns 5 if `nullable` is
+ * false and the type can't be made non-nullable, which `vlt_dtype_can_be_nonnullable` tests. */
 uint32_t vlt_dtype_with_nullability(vlt_slot *dtype, bool nullable, vlt_slot *out);
 
-/* Puts the type that is nullable if it was or if `nullable` is true. */
+/* Stores in `out` the type, made nullable if `nullable` is true. If it is false, the outer nullability stays the same. */
 uint32_t vlt_dtype_union_nullability(vlt_slot *dtype, bool nullable, vlt_slot *out);
 
-/* Writes a hash of the type, which is the same for equal types. It may differ from version to version. */
+/* Writes a hash of the type to `hash`. Equal types have the same hash. The hash of a type may differ between versions
+ * of the library. */
 uint32_t vlt_dtype_hash(vlt_slot *dtype, uint64_t *hash);
 
-/* Writes a hash of the type, which is the same for types that are equal when every nullability in them is ignored. */
+/* Writes a hash of the type to `hash` for which every nullability in the type is ignored. For example, `list(i32?)`
+ * and `list(i32)?` have the same hash. */
 uint32_t vlt_dtype_hash_ignore_nullability(vlt_slot *dtype, uint64_t *hash);
 
-/* Puts the element type of a list or of a fixed-size list. */
+/* Stores in `out` the element type of a list or of a fixed-size list. Returns 1 if the type is of another kind. */
 uint32_t vlt_dtype_element(vlt_slot *dtype, vlt_slot *out);
 
-/* Puts the key type of a map. */
+/* Stores in `out` the key type of a map. Returns 1 if the type isn't a map. */
 uint32_t vlt_dtype_key(vlt_slot *dtype, vlt_slot *out);
 
-/* Puts the value type of a map. */
+/* Stores in `out` the value type of a map. Returns 1 if the type isn't a map. */
 uint32_t vlt_dtype_value(vlt_slot *dtype, vlt_slot *out);
 
-/* Puts the storage type of an extension. */
+/* Stores in `out` the storage type of an extension. Returns 1 if the type isn't an extension. */
 uint32_t vlt_dtype_storage(vlt_slot *dtype, vlt_slot *out);
 
-/* Writes the number of a primitive type: 0 u8, 1 u16, 2 u32, 3 u64, 4 i8, 5 i16, 6 i32, 7 i64, 8 f16, 9 f32, 10 f64. */
+/* Writes the number of a primitive type to `number`: 0 u8, 1 u16, 2 u32, 3 u64, 4 i8, 5 i16, 6 i32, 7 i64, 8 f16, 9
+ * f32, 10 f64. Returns 1 if the type isn't primitive. */
 uint32_t vlt_dtype_ptype(vlt_slot *dtype, uint32_t *number);
 
-/* Writes the id of an extension. */
+/* Writes the id of an extension to `buffer`. Returns 1 if the type isn't an extension. */
 uint32_t vlt_dtype_id(vlt_slot *dtype, uint8_t *buffer, size_t buffer_len, size_t *length);
 
-/* Writes the metadata of an extension. */
+/* Writes the metadata of an extension to `buffer`. Returns 1 if the type isn't an extension. */
 uint32_t vlt_dtype_metadata(vlt_slot *dtype, uint8_t *buffer, size_t buffer_len, size_t *length);
 
-/* Writes the size of a fixed-size list. */
+/* Writes the size of a fixed-size list to `size`. Returns 1 if the type isn't a fixed-size list. */
 uint32_t vlt_dtype_fixed_size(vlt_slot *dtype, uint32_t *size);
 
-/* Writes the precision and the scale of a decimal. */
+/* Writes the precision and the scale of a decimal to `precision` and `scale`. Returns 1 if the type isn't a decimal. */
 uint32_t vlt_dtype_decimal_parts(vlt_slot *dtype, uint8_t *precision, int8_t *scale);
 
-/* Returns 0 if the keys of the map are declared sorted, and 5 if the type is no map. */
+/* Returns 0 if the keys of the map are declared to be sorted, 1 if they aren't, and 5 if the type isn't a map. */
 uint32_t vlt_dtype_keys_sorted(vlt_slot *dtype);
 
-/* Reads a type from its text in the form of the console, for example `{a=i32, b=list(utf8)?}`, and puts it.
+/* Reads a type from its text in the form of the console, for example `{a=i32, b=list(utf8)?}`, and stores it in `out`.
  *
- * If the text can't be read, `position` is the first byte that doesn't fit, counted from 1. */
+ * Returns 3 if the text isn't UTF-8. If the text can't be read, the call returns 4 and writes the position of the
+ * first byte that doesn't fit, counted from 1, to `position`. */
 uint32_t vlt_dtype_from_text(const uint8_t *text, size_t text_len, vlt_slot *out, size_t *position);
 
-/* Writes a type in the form of the console, which reads back as the same type. */
+/* Writes the type to `buffer` in the form of the console. `vlt_dtype_from_text` reads the same type from this text. */
 uint32_t vlt_dtype_to_text(vlt_slot *dtype, uint8_t *buffer, size_t buffer_len, size_t *length);
 
-/* Writes a type as the library displays it. */
+/* Writes the type to `buffer` as the library displays it, for example `{a=i32, b=list(utf8)?}`. */
 uint32_t vlt_dtype_display(vlt_slot *dtype, uint8_t *buffer, size_t buffer_len, size_t *length);
 
-/* Puts a copy of the type. */
+/* Stores in `out` a copy of the type. */
 uint32_t vlt_dtype_copy(vlt_slot *dtype, vlt_slot *out);
 
-/* Returns 0 if the types are equal. */
+/* Returns 0 if the two types are equal, and 1 if they aren't. */
 uint32_t vlt_dtype_eq(vlt_slot *one, vlt_slot *other);
 
-/* Returns 0 if the types are equal when every nullability in them is ignored. */
+/* Returns 0 if the two types are equal when every nullability in them is ignored, and 1 if they aren't. For example,
+ * it returns 0 for `list(i32?)` and `list(i32)?`. */
 uint32_t vlt_dtype_eq_ignore_nullability(vlt_slot *one, vlt_slot *other);
 
-/* Returns 0 if the types are equal except for nullabilities, and the other is nullable wherever the first is. */
+/* Returns 0 if the first type is a subset of the other, and 1 if it isn't. It is a subset if the two are equal except
+ * for nullabilities, and the other is nullable in each place in which the first is. For example, `i32` is a subset of
+ * `i32?`. */
 uint32_t vlt_dtype_nullability_subset(vlt_slot *one, vlt_slot *other);
 
-/* Returns 0 if the types are equal except for nullabilities, and the first is nullable wherever the other is. */
+/* Returns 0 if the other type is a subset of the first, and 1 if it isn't. It is a subset if the two are equal except
+ * for nullabilities, and the first is nullable in each place in which the other is. For example, `i32` is a subset of
+ * `i32?`. */
 uint32_t vlt_dtype_nullability_superset(vlt_slot *one, vlt_slot *other);
 
-/* Puts the least type that takes the values of both, if there is one. */
+/* Stores in `out` the least type of which both types are subsets. It is nullable in each place in which one of the two
+ * is. For example, it is `i32?` for `i32` and `i32?`. Returns 1 if the types differ in more than nullabilities. */
 uint32_t vlt_dtype_merge_nullability(vlt_slot *one, vlt_slot *other, vlt_slot *out);
 
-/* Puts the greatest type whose values both take, if there is one. */
+/* Stores in `out` the greatest type that is a subset of both types. It is nullable only in those places in which both
+ * are. For example, it is `i32` for `i32` and `i32?`. Returns 1 if the types differ in more than nullabilities. */
 uint32_t vlt_dtype_intersect_nullability(vlt_slot *one, vlt_slot *other, vlt_slot *out);
 
-/* Writes the kind of the type: 0 null, 1 bool, 2 primitive, 3 decimal, 4 utf8, 5 binary, 6 list, 7 fixed-size list, 8 map,
- * 9 struct, 10 union, 11 variant, 12 extension. */
+/* Writes the kind of the type to `number`: 0 null, 1 bool, 2 primitive, 3 decimal, 4 utf8, 5 binary, 6 list, 7
+ * fixed-size list, 8 map, 9 struct, 10 union, 11 variant, 12 extension. */
 uint32_t vlt_dtype_kind(vlt_slot *dtype, uint32_t *number);
 
-/* Returns 0 if values of the type may be null. */
+/* Returns 0 if the type is nullable, so that its values may be null, and 1 if it isn't. */
 uint32_t vlt_dtype_is_nullable(vlt_slot *dtype);
 
-/* Returns 0 if the type can be made non-nullable: not null, nor an extension over it. */
+/* Returns 0 if the type can be made non-nullable, and 1 if it can't. The null type can't, and an extension can't if
+ * its storage type can't. Every other type can. */
 uint32_t vlt_dtype_can_be_nonnullable(vlt_slot *dtype);
 
-/* Writes the number of bytes that each value of the type takes, if all take as many. If a part of a type of fixed width is
- * wider than a `usize` can hold, it returns 119. */
+/* Writes the number of bytes that each value of the type takes to `size`. Returns 1 if the type is of variable width,
+ * and 119 if it is of fixed width and its width, or the width of a part of it, is above the greatest `usize`. */
 uint32_t vlt_dtype_element_size(vlt_slot *dtype, size_t *size);
 
-/* Puts the type of the entries of a map: the non-nullable struct of the fields `key` and `value`. */
+/* Stores in `out` the type of the entries of a map: the non-nullable struct with the fields `key` and `value`. Returns
+ * 1 if the type isn't a map. */
 uint32_t vlt_dtype_entries(vlt_slot *dtype, vlt_slot *out);
 
-/* Puts the type of maps of these keys and values. If the key type is nullable, it returns 109, and if one of the two has
- * 128 levels, it returns 6. */
+/* Stores in `out` the type of maps with the key type in `one` and the value type in `other`. `keys_sorted` declares
+ * that the keys of each map are sorted, which nothing checks. The map type is nullable if `nullable` is true. Returns
+ * 6 if one of the two types has 128 levels, and 109 if the key type is nullable. */
 uint32_t vlt_dtype_map(vlt_slot *one, vlt_slot *other, bool keys_sorted, bool nullable, vlt_slot *out);
 
-/* Puts the extension of this id, metadata and storage type. If the storage has 128 levels, it returns 6. */
+/* Stores in `out` the extension type with this id, this metadata and this storage type. Returns 3 if the id isn't
+ * UTF-8, and 6 if the storage type has 128 levels. */
 uint32_t vlt_dtype_extension(
         const uint8_t *id, size_t id_len, const uint8_t *metadata, size_t metadata_len, vlt_slot *storage,
         vlt_slot *out);
@@ -317,264 +358,315 @@ uint32_t vlt_dtype_extension(
 
 /* == Structs (of another type the calls return VLT_CONDITION) == */
 
-/* Puts the struct without the field at the position, with the nullability of the type. If the position is not below the
- * number of fields, it returns 117. */
+/* Stores in `out` the struct without the field at the position `index`. It has the outer nullability of the original
+ * struct. Returns 5 if the type isn't a struct, and 117 if the position isn't below the number of fields. */
 uint32_t vlt_struct_without_field(vlt_slot *dtype, size_t index, vlt_slot *out);
 
-/* Puts the struct of the fields of the first type and then those of the other, with the nullability of the first. If a
- * name is there twice, it returns 118. */
+/* Stores in `out` the struct that has the fields of the first struct followed by those of the other. It has the outer
+ * nullability of the first. Returns 5 if one of the types isn't a struct, and 118 if a name occurs in both structs, or
+ * twice in one of them. */
 uint32_t vlt_struct_disjoint_merge(vlt_slot *one, vlt_slot *other, vlt_slot *out);
 
-/* Puts the struct of the first field of each of these names, in their order, with the nullability of the type. If no field
- * has one of the names, it returns 116.
+/* Stores in `out` the struct that has the fields with these names, in the order of the names. If several fields have
+ * the same name, the first of them is selected. The struct has the outer nullability of the original struct.
  *
- * The names lie one after the other in `names`, and `name_lengths` has the number of bytes of each. */
+ * The names are passed in the same way as to `vlt_dtype_struct`. Returns 3 if a name isn't UTF-8, 5 if the type isn't
+ * a struct, 9 if the lengths don't add up to the number of bytes, and 116 if one of the names isn't the name of any
+ * field. */
 uint32_t vlt_struct_project(
         vlt_slot *dtype, const uint8_t *names, size_t names_len, const size_t *name_lengths, size_t name_lengths_len,
         vlt_slot *out);
 
-/* Writes the number of fields. */
+/* Writes the number of fields of the struct to `count`. Returns 5 if the type isn't a struct. */
 uint32_t vlt_struct_nfields(vlt_slot *dtype, size_t *count);
 
-/* Puts the type of the field at the position, if it is below the number of fields. */
+/* Stores in `out` the type of the field at the position `index`. Returns 1 if the position isn't below the number of
+ * fields, and 5 if the type isn't a struct. */
 uint32_t vlt_struct_field_by_index(vlt_slot *dtype, size_t index, vlt_slot *out);
 
-/* Writes the position of the first field of the name, if there is one. */
+/* Writes the position of the first field with this name to `index`. Returns 1 if no field has the name, 3 if the name
+ * isn't UTF-8, and 5 if the type isn't a struct. */
 uint32_t vlt_struct_find(vlt_slot *dtype, const uint8_t *name, size_t name_len, size_t *index);
 
-/* Puts the type of the first field of the name, if there is one. */
+/* Stores in `out` the type of the first field with this name. Returns 1 if no field has the name, 3 if the name isn't
+ * UTF-8, and 5 if the type isn't a struct. */
 uint32_t vlt_struct_field(vlt_slot *dtype, const uint8_t *name, size_t name_len, vlt_slot *out);
 
-/* Writes the name of the field at the position, if it is below the number of fields. */
+/* Writes the name of the field at the position `index` to `buffer`. Returns 1 if the position isn't below the number
+ * of fields, and 5 if the type isn't a struct. */
 uint32_t vlt_struct_field_name(vlt_slot *dtype, size_t index, uint8_t *buffer, size_t buffer_len, size_t *length);
 
-/* Writes the fields of a struct over several lines, one field a line, as the library indents them. */
+/* Writes the fields of a struct to `buffer` as indented text, in which each field begins on a new line. Returns 5 if
+ * the type isn't a struct. */
 uint32_t vlt_struct_indented(vlt_slot *dtype, uint8_t *buffer, size_t buffer_len, size_t *length);
 
 
 /* == Unions (of another type the calls return VLT_CONDITION) == */
 
-/* Writes the number of variants. */
+/* Writes the number of variants of the union to `count`. Returns 5 if the type isn't a union. */
 uint32_t vlt_union_len(vlt_slot *dtype, size_t *count);
 
-/* Puts the type of the variant at the position, if it is below the number of variants. */
+/* Stores in `out` the type of the variant at the position `index`. Returns 1 if the position isn't below the number of
+ * variants, and 5 if the type isn't a union. */
 uint32_t vlt_union_variant_by_index(vlt_slot *dtype, size_t index, vlt_slot *out);
 
-/* Writes the position of the variant of the name, if there is one. */
+/* Writes the position of the variant with this name to `index`. Returns 1 if no variant has the name, 3 if the name
+ * isn't UTF-8, and 5 if the type isn't a union. */
 uint32_t vlt_union_find(vlt_slot *dtype, const uint8_t *name, size_t name_len, size_t *index);
 
-/* Puts the type of the variant of the name, if there is one. */
+/* Stores in `out` the type of the variant with this name. Returns 1 if no variant has the name, 3 if the name isn't
+ * UTF-8, and 5 if the type isn't a union. */
 uint32_t vlt_union_variant(vlt_slot *dtype, const uint8_t *name, size_t name_len, vlt_slot *out);
 
-/* Writes the position of the variant of the tag, if there is one. */
+/* Writes the position of the variant with this tag to `index`. Returns 1 if no variant has the tag, and 5 if the type
+ * isn't a union. */
 uint32_t vlt_union_tag_to_child_index(vlt_slot *dtype, uint8_t tag, size_t *index);
 
-/* Writes the tag of the variant at the position, if it is below the number of variants. */
+/* Writes the tag of the variant at the position `index` to `tag`. Returns 1 if the position isn't below the number of
+ * variants, and 5 if the type isn't a union. */
 uint32_t vlt_union_child_index_to_tag(vlt_slot *dtype, size_t index, uint8_t *tag);
 
-/* Writes the name of the variant at the position, if it is below the number of variants. */
+/* Writes the name of the variant at the position `index` to `buffer`. Returns 1 if the position isn't below the number
+ * of variants, and 5 if the type isn't a union. */
 uint32_t vlt_union_variant_name(vlt_slot *dtype, size_t index, uint8_t *buffer, size_t buffer_len, size_t *length);
 
-/* Returns 0 if the tags are 0, 1, 2 and so on. */
+/* Returns 0 if the tags are 0, 1, 2 and so on in the order of the variants, 1 if they aren't, and 5 if the type isn't
+ * a union. */
 uint32_t vlt_union_is_consecutive(vlt_slot *dtype);
 
 
 /* == Paths == */
 
-/* Puts the path that the message of a path describes, whose parts have these names, as `vlt_path_from_steps` takes names.
- * The length `ELEMENT` (the greatest `usize`) stands for a part without a kind, for which it returns 136. */
+/* Stores in `out` the path that the message of a path describes. The names of the parts of the message are passed in
+ * the same way as to `vlt_path_from_steps`. The length `ELEMENT` (the greatest `usize`) stands for a part without a
+ * kind. A message that has such a part describes no path, and the call returns 136. Returns 3 if a name isn't UTF-8,
+ * and 9 if the lengths don't add up to the number of bytes. */
 uint32_t vlt_path_from_message(
         const uint8_t *names, size_t names_len, const size_t *name_lengths, size_t name_lengths_len, vlt_slot *out);
 
 /* Reads the message of a path from its text in the form of the console, for example
- * `path { name: "a" } path { name: "b" }`, and puts the path that it describes. For a part without a kind it returns 136.
+ * `path { name: "a" } path { name: "b" }`, and stores in `out` the path that it describes. Returns 136 if a part of
+ * the message has no kind.
  *
- * If the text can't be read, `position` is the first byte that doesn't fit, counted from 1. */
+ * Returns 3 if the text isn't UTF-8. If the text can't be read, the call returns 4 and writes the position of the
+ * first byte that doesn't fit, counted from 1, to `position`. */
 uint32_t vlt_path_from_message_text(const uint8_t *text, size_t text_len, vlt_slot *out, size_t *position);
 
-/* Reads a path from its text in the form of the console, for example `a.[].b`, or `.` for the root, and puts it.
+/* Reads a path from its text in the form of the console and stores it in `out`. For example, `a.[].b` is a path of
+ * three steps, and `.` is the root.
  *
- * If the text can't be read, `position` is the first byte that doesn't fit, counted from 1. */
+ * Returns 3 if the text isn't UTF-8. If the text can't be read, the call returns 4 and writes the position of the
+ * first byte that doesn't fit, counted from 1, to `position`. */
 uint32_t vlt_path_from_text(const uint8_t *text, size_t text_len, vlt_slot *out, size_t *position);
 
-/* Writes a path in the form of the console, which reads back as the same path. */
+/* Writes the path to `buffer` in the form of the console, for example `a.[].b`. `vlt_path_from_text` reads the same
+ * path from this text. */
 uint32_t vlt_path_to_text(vlt_slot *path, uint8_t *buffer, size_t buffer_len, size_t *length);
 
-/* Puts the path with no step, the root. */
+/* Stores in `out` the root, which is the path without steps. */
 uint32_t vlt_path_root(vlt_slot *out);
 
-/* Writes the number of steps. */
+/* Writes the number of steps of the path to `count`. */
 uint32_t vlt_path_len(vlt_slot *path, size_t *count);
 
-/* Writes the step at this position: a name, or `ELEMENT` as the length for the step into the element. */
+/* Writes the step at the position `index`. For a step to a field, it writes the bytes of the name to `buffer` and
+ * their number to `length`. For the step to the element, it writes only the length `ELEMENT` (the greatest `usize`).
+ * Returns 1 if the position isn't below the number of steps. */
 uint32_t vlt_path_step(vlt_slot *path, size_t index, uint8_t *buffer, size_t buffer_len, size_t *length);
 
-/* Puts the path with one more step, into the field of this name. */
+/* Stores in `out` the path with one more step at its end: the step to the field with this name. Returns 3 if the name
+ * isn't UTF-8. */
 uint32_t vlt_path_push_name(vlt_slot *path, const uint8_t *name, size_t name_len, vlt_slot *out);
 
-/* Puts the path with one more step, into the element. */
+/* Stores in `out` the path with one more step at its end: the step to the element of a list. */
 uint32_t vlt_path_push_element(vlt_slot *path, vlt_slot *out);
 
-/* Puts the path without its first step; the root has none. */
+/* Stores in `out` the path without its first step. Returns 1 if the path is the root, which has no steps. */
 uint32_t vlt_path_step_into(vlt_slot *path, vlt_slot *out);
 
-/* Puts a copy of the path. */
+/* Stores in `out` a copy of the path. */
 uint32_t vlt_path_copy(vlt_slot *path, vlt_slot *out);
 
-/* Returns 0 if the paths are equal. */
+/* Returns 0 if the two paths are equal, and 1 if they aren't. */
 uint32_t vlt_path_eq(vlt_slot *one, vlt_slot *other);
 
-/* Returns 0 if one path is a prefix of the other. */
+/* Returns 0 if one of the two paths is a prefix of the other, and 1 if none is. For example, it returns 0 for `a` and
+ * `a.b`. */
 uint32_t vlt_path_overlap(vlt_slot *one, vlt_slot *other);
 
-/* Puts the type at the path in the type. */
+/* Stores in `out` the type at the path in the type `dtype`. For example, the type at `a.[]` in `{a=list(i32)}` is
+ * `i32`. Returns 1 if there is no type at the path. */
 uint32_t vlt_path_resolve(vlt_slot *dtype, vlt_slot *path, vlt_slot *out);
 
-/* Returns 0 if there is a type at the path in the type. */
+/* Returns 0 if there is a type at the path in the type `dtype`, and 1 if there is none. */
 uint32_t vlt_path_exists_in(vlt_slot *dtype, vlt_slot *path);
 
-/* Writes the path as the library displays it. */
+/* Writes the path to `buffer` as the library displays it, for example `$a.[].$b`. */
 uint32_t vlt_path_display(vlt_slot *path, uint8_t *buffer, size_t buffer_len, size_t *length);
 
-/* Returns 0 if the first step is into the field of this name, and 5 if it is into the element. */
+/* Returns 0 if the first step of the path is the step to the field with this name. Returns 1 if it is the step to
+ * another field, or if the path is the root. Returns 5 if it is the step to the element. */
 uint32_t vlt_path_starts_with_name(vlt_slot *path, const uint8_t *name, size_t name_len);
 
-/* Writes a hash of the path, which is the same for equal paths. It may differ from version to version. */
+/* Writes a hash of the path to `hash`. Equal paths have the same hash. The hash of a path may differ between versions
+ * of the library. */
 uint32_t vlt_path_hash(vlt_slot *path, uint64_t *hash);
 
-/* Puts the path of these steps. */
+/* Stores in `out` the path of these steps. `names` contains the bytes of all names, one name directly after the other,
+ * and `name_lengths` contains the number of bytes of the name of each step. The length `ELEMENT` (the greatest
+ * `usize`) stands for the step to the element, which has no bytes in `names`. Returns 3 if a name isn't UTF-8, and 9
+ * if the lengths don't add up to the number of bytes. */
 uint32_t vlt_path_from_steps(
         const uint8_t *names, size_t names_len, const size_t *name_lengths, size_t name_lengths_len, vlt_slot *out);
 
 
 /* == Sets of paths == */
 
-/* Writes what the set asks for below the path: whether the path itself is in it, whether a path of it goes on with the
- * element, and by how many names paths of it go on. Returns 1 if no path of the set begins with the path. */
+/* Writes how paths of the set continue after the path `path`. `is_end` is true if the path itself is in the set.
+ * `has_element` is true if some path of the set continues with the step to the element. `name_count` is the number of
+ * different names with which paths of the set continue. For example, for the set of `a`, `a.b` and `a.c` and the path
+ * `a` the call writes true, false and 2. Returns 1 if no path of the set begins with the path. */
 uint32_t vlt_set_below(vlt_slot *paths, vlt_slot *path, bool *is_end, bool *has_element, size_t *name_count);
 
-/* Puts the names by which paths of the set go on below the path: a list of paths of one step each, in no promised order.
- * Returns 1 if no path of the set begins with the path. */
+/* Stores in `out` the list of the names with which paths of the set continue after the path `path`. The list contains
+ * a path of one step for each name, in no particular order. For example, for the set of `a.b` and `a.c` and the path
+ * `a` the list contains the paths `b` and `c`. Returns 1 if no path of the set begins with the path. */
 uint32_t vlt_set_names_below(vlt_slot *paths, vlt_slot *path, vlt_slot *out);
 
-/* Puts the empty set. */
+/* Stores in `out` the empty set. */
 uint32_t vlt_set_new(vlt_slot *out);
 
-/* Inserts a copy of the path. After an error the set is unchanged. */
+/* Inserts a copy of the path into the set. If the call doesn't return 0, the set is unchanged. */
 uint32_t vlt_set_insert(vlt_slot *paths, vlt_slot *path);
 
-/* Returns 0 if the path is in the set. */
+/* Returns 0 if the path is in the set, and 1 if it isn't. */
 uint32_t vlt_set_contains(vlt_slot *paths, vlt_slot *path);
 
-/* Puts a copy of the set. */
+/* Stores in `out` a copy of the set. */
 uint32_t vlt_set_copy(vlt_slot *paths, vlt_slot *out);
 
-/* Puts the list of the fewest paths that cover those of the set, each once, in no promised order. */
+/* Stores in `out` the list of the least paths of the set. These are the paths of the set of which no other path of the
+ * set is a prefix. They are the fewest paths that cover what the set covers. For example, the only least path of the
+ * set of `a` and `a.b` is `a`. Each path is in the list once, in no particular order. */
 uint32_t vlt_set_cover(vlt_slot *paths, vlt_slot *out);
 
-/* Puts the list of the paths of the set, each once, in no promised order. */
+/* Stores in `out` the list of the paths of the set. Each path is in the list once, in no particular order. */
 uint32_t vlt_set_members(vlt_slot *paths, vlt_slot *out);
 
-/* Puts the list of the paths of the set at which there is no type in the type, each once, in no promised order. */
+/* Stores in `out` the list of those paths of the set that don't exist in the type `dtype`. Each path is in the list
+ * once, in no particular order. */
 uint32_t vlt_set_unresolved(vlt_slot *paths, vlt_slot *dtype, vlt_slot *out);
 
-/* Writes how many paths are in the set. */
+/* Writes the number of paths of the set to `count`. */
 uint32_t vlt_set_len(vlt_slot *paths, size_t *count);
 
-/* Inserts copies of the paths in these slots, in their order, and writes how many were inserted. After an error those
- * before it are in. */
+/* Inserts copies of the paths in these slots into the set, in order, and writes to `inserted` how many were inserted.
+ * If a slot contains no path, or an allocation fails, the call stops there. The paths before it stay inserted. */
 uint32_t vlt_set_extend(vlt_slot *set, vlt_slot *paths, size_t paths_len, size_t *inserted);
 
-/* Inserts copies of the paths of the list, in their order. After an error those before it are in. */
+/* Inserts copies of the paths of the list into the set, in order. If an allocation fails, the call stops there. The
+ * paths that it inserted before stay in the set. */
 uint32_t vlt_set_extend_from_list(vlt_slot *paths, vlt_slot *list);
 
 
 /* == Lists of paths == */
 
-/* Writes how many paths are in the list. */
+/* Writes the number of paths of the list to `count`. */
 uint32_t vlt_paths_len(vlt_slot *paths, size_t *count);
 
-/* Puts a copy of the path at this position of the list. */
+/* Stores in `out` a copy of the path at the position `index` of the list. Returns 1 if the position isn't below the
+ * length of the list. */
 uint32_t vlt_paths_get(vlt_slot *paths, size_t index, vlt_slot *out);
 
 
 /* == The part of a type that paths lead to == */
 
-/* Puts the part of the type that the paths of the set lead to. If no path of the set exists in the type, it returns 1. */
+/* Stores in `out` the type without the fields to which no path of the set leads. For example, for `{a=i32, b=utf8}`
+ * and the set of `a` it stores `{a=i32}`. Returns 1 if no path of the set exists in the type. */
 uint32_t vlt_project_paths(vlt_slot *dtype, vlt_slot *set, vlt_slot *out);
 
 
 /* == Masks == */
 
-/* Puts the mask that selects everything. */
+/* Stores in `out` the mask that selects every path. */
 uint32_t vlt_mask_all(vlt_slot *out);
 
-/* Puts the mask of the path and of everything below it. */
+/* Stores in `out` the mask that selects the path and every path that begins with it. */
 uint32_t vlt_mask_prefix(vlt_slot *path, vlt_slot *out);
 
-/* Puts the mask of the path alone. */
+/* Stores in `out` the mask that selects only the path. */
 uint32_t vlt_mask_exact(vlt_slot *path, vlt_slot *out);
 
-/* Writes which mask it is: 0 of everything, 1 of a path and what is below it, 2 of a path alone. */
+/* Writes the kind of the mask to `kind`: 0 for the mask of `vlt_mask_all`, which selects every path; 1 for a mask of
+ * `vlt_mask_prefix`, which selects a path and every path that begins with it; and 2 for a mask of `vlt_mask_exact`,
+ * which selects only one path. */
 uint32_t vlt_mask_kind(vlt_slot *mask, uint32_t *kind);
 
-/* Puts the path of the mask; the mask of everything has none. */
+/* Stores in `out` the path of the mask. Returns 1 if the mask is the one of `vlt_mask_all`, which has no path. */
 uint32_t vlt_mask_path(vlt_slot *mask, vlt_slot *out);
 
-/* Puts a copy of the mask. */
+/* Stores in `out` a copy of the mask. */
 uint32_t vlt_mask_copy(vlt_slot *mask, vlt_slot *out);
 
-/* Puts the mask after the first step of its path. Of the mask of the root alone it returns 120. */
+/* Stores in `out` the mask that is left after the first step of the path of this mask. For example, for the mask that
+ * `vlt_mask_prefix` makes of `a.b`, it is the mask that `vlt_mask_prefix` makes of `b`. Returns 120 if the mask
+ * selects only the root. */
 uint32_t vlt_mask_step_into(vlt_slot *mask, vlt_slot *out);
 
-/* Writes the first step of the mask's path, as `vlt_path_step` does. Of the mask of everything it returns 121. */
+/* Writes the first step of the path of the mask, in the same way as `vlt_path_step` writes a step. Returns 1 if the
+ * path is the root, and 121 if the mask is the one of `vlt_mask_all`, which has no path. */
 uint32_t vlt_mask_starting_field(vlt_slot *mask, uint8_t *buffer, size_t buffer_len, size_t *length);
 
-/* Returns 0 if every path is in the mask. */
+/* Returns 0 if the mask selects every path, and 1 if it doesn't. */
 uint32_t vlt_mask_matches_all(vlt_slot *mask);
 
-/* Returns 0 if the root is in the mask. */
+/* Returns 0 if the mask selects the root, and 1 if it doesn't. */
 uint32_t vlt_mask_matches_root(vlt_slot *mask);
 
-/* Returns 0 if the masks are equal. */
+/* Returns 0 if the two masks are equal, and 1 if they aren't. */
 uint32_t vlt_mask_eq(vlt_slot *one, vlt_slot *other);
 
 
 /* == Messages of types == */
 
-/* Reads the message of a type from its text in the form of the console, protobuf's text format, for example
- * `list { element_type { primitive { type: I32 } } }`, and puts it.
+/* Reads the message of a type from its text in the form of the console, and stores the message in `out`. The form is
+ * protobuf's text format, for example `list { element_type { primitive { type: I32 } } }`.
  *
- * If the text can't be read, `position` is the first byte that doesn't fit, counted from 1. */
+ * Returns 3 if the text isn't UTF-8. If the text can't be read, the call returns 4 and writes the position of the
+ * first byte that doesn't fit, counted from 1, to `position`. */
 uint32_t vlt_message_from_text(const uint8_t *text, size_t text_len, vlt_slot *out, size_t *position);
 
-/* Writes a message in the form of the console, which reads back as the same message. */
+/* Writes the message to `buffer` in the form of the console. `vlt_message_from_text` reads the same message from this
+ * text. */
 uint32_t vlt_message_to_text(vlt_slot *message, uint8_t *buffer, size_t buffer_len, size_t *length);
 
-/* Puts a copy of the message. */
+/* Stores in `out` a copy of the message. */
 uint32_t vlt_message_copy(vlt_slot *message, vlt_slot *out);
 
-/* Returns 0 if the messages are equal. */
+/* Returns 0 if the two messages are equal, and 1 if they aren't. */
 uint32_t vlt_message_eq(vlt_slot *one, vlt_slot *other);
 
-/* Puts the type that the message describes, under a session without plugins. If `allow_unknown` is false, it returns 135
- * for an extension, because no id is known. If it is true, the extension keeps its metadata. A message that describes no
- * type returns the number of its first fault, for example 124 for a message without a kind. */
+/* Stores in `out` the type that the message describes. No plugin is registered, so no id of an extension is known. If
+ * `allow_unknown` is true, an extension keeps its metadata. If it is false, the call returns 135 for an extension. If
+ * the message describes no type, the call returns the number of its first fault. For example, it returns 124 for a
+ * message without a kind. */
 uint32_t vlt_message_to_dtype(vlt_slot *message, bool allow_unknown, vlt_slot *out);
 
-/* Puts the normal form of the message: the message of the type that it describes, with every child, flag and number, and
- * with the metadata of each extension, even if that is empty. `allow_unknown` and the errors are those of
- * `vlt_message_to_dtype`. */
+/* Stores in `out` the normal form of the message. If a message describes a type, its normal form is the message that
+ * `vlt_dtype_to_message` makes of this type. It has every child, flag and number, and the metadata of each extension,
+ * even if the metadata is empty. `allow_unknown` and the errors are those of `vlt_message_to_dtype`. */
 uint32_t vlt_message_normal(vlt_slot *message, bool allow_unknown, vlt_slot *out);
 
-/* Puts the message that the nodes and the bytes of the texts describe. If they are not the nodes and the texts of one
- * message, it returns 9, and if a message is nested in more than 128 others, it returns 6. */
+/* Stores in `out` the message that the nodes and the bytes of the texts describe. Returns 3 if a name or an id isn't
+ * UTF-8, 6 if a message is nested in more than 128 others, and 9 if the nodes and the texts aren't those of one
+ * message. */
 uint32_t vlt_message_from_nodes(
         const vlt_node *nodes, size_t nodes_len, const uint8_t *texts, size_t texts_len, vlt_slot *out);
 
-/* Writes the nodes of the message and the bytes of its texts to the front of the two buffers, and the numbers of both
- * beside them. If one of the buffers is too small, it writes the two numbers alone. If the message has more names, tags,
- * types or bytes of a text than 32 bits can count, it returns 9.
+/* Writes the nodes of the message to the front of `nodes`, the bytes of its texts to the front of `texts`, and the
+ * numbers of both to `node_count` and `text_length`. If one of the two buffers is too small, the call returns 7 and
+ * writes only the two numbers. It returns 6 if a message is nested in more than 128 others, and 9 if a number of
+ * names, tags, types or bytes of a text is above 2^32 - 1.
  *
  * Nodes and texts are plain bytes, so another thread can read them. */
 uint32_t vlt_message_to_nodes(

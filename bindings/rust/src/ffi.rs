@@ -332,28 +332,32 @@ unsafe extern "C" {
     ) -> u32;
 }
 
-/// Writes the answer of the console to a line, which is given without its newline. A line that is blank or a comment, and
-/// one that ends the console, has no answer, and the call returns 1. Each call begins with no named set and no named
-/// session. An answer may have several lines. An error is an answer too: `unreadable at 3: expected ..` returns 0.
+/// Writes the answer that the console prints for this line to `buffer`. The line is passed without its newline. An
+/// answer may have several lines.
+///
+/// If the line is blank, is a comment or ends the console, it has no answer, and the call returns 1. An error is an
+/// answer too. For example, if the answer begins with `unreadable at 3: expected`, the call returns 0. Each call begins
+/// without named sets and named sessions.
 pub(crate) fn answer(line: &[u8], buffer: &mut [u8], length: &mut usize) -> u32 {
     // SAFETY: see the head of this file.
     unsafe { vlt_answer(line.as_ptr(), line.len(), buffer.as_mut_ptr(), buffer.len(), length) }
 }
 
-/// Writes what a result means in a few words. If no export returns this number, it returns 9.
+/// Writes a few words to `buffer` that say what the result `code` means, for example `a text is not UTF-8` for 3.
+/// Returns 9 if `code` is neither from 0 to 9 nor from 100 to 136.
 pub(crate) fn error_text(code: u32, buffer: &mut [u8], length: &mut usize) -> u32 {
     // SAFETY: see the head of this file.
     unsafe { vlt_error_text(code, buffer.as_mut_ptr(), buffer.len(), length) }
 }
 
-/// Returns the version of this interface: 1.
+/// Returns the version of this interface, which is 1.
 pub(crate) fn abi_version() -> u32 {
     // SAFETY: see the head of this file.
     unsafe { vlt_abi_version() }
 }
 
-/// Returns the kind of the object in the slot: 0 none, 1 a type, 2 a path, 3 a set of paths, 4 a list of paths, 5 a mask,
-/// 6 the message of a type.
+/// Returns the kind of the object in the slot: 0 if the slot is empty, 1 for a type, 2 for a path, 3 for a set of
+/// paths, 4 for a list of paths, 5 for a mask, and 6 for the message of a type.
 pub(crate) fn kind(slot: &Slot) -> u32 {
     let mut lent_slot = slot.lent();
     // SAFETY: see the head of this file.
@@ -362,50 +366,55 @@ pub(crate) fn kind(slot: &Slot) -> u32 {
     result
 }
 
-/// Puts the null type.
+/// Stores in `out` the null type.
 pub(crate) fn dtype_null(out: &mut Slot) -> u32 {
     // SAFETY: see the head of this file.
     unsafe { vlt_dtype_null(out) }
 }
 
-/// Puts the type of booleans.
+/// Stores in `out` the type of booleans. The type is nullable if `nullable` is true.
 pub(crate) fn dtype_bool(nullable: bool, out: &mut Slot) -> u32 {
     // SAFETY: see the head of this file.
     unsafe { vlt_dtype_bool(nullable, out) }
 }
 
-/// Puts the type of texts.
+/// Stores in `out` the type of texts. The type is nullable if `nullable` is true.
 pub(crate) fn dtype_utf8(nullable: bool, out: &mut Slot) -> u32 {
     // SAFETY: see the head of this file.
     unsafe { vlt_dtype_utf8(nullable, out) }
 }
 
-/// Puts the type of byte strings.
+/// Stores in `out` the type of byte strings. The type is nullable if `nullable` is true.
 pub(crate) fn dtype_binary(nullable: bool, out: &mut Slot) -> u32 {
     // SAFETY: see the head of this file.
     unsafe { vlt_dtype_binary(nullable, out) }
 }
 
-/// Puts the type of values that carry their own types.
+/// Stores in `out` the variant type. Its values each carry their own type. The type is nullable if `nullable` is true.
 pub(crate) fn dtype_variant(nullable: bool, out: &mut Slot) -> u32 {
     // SAFETY: see the head of this file.
     unsafe { vlt_dtype_variant(nullable, out) }
 }
 
-/// Puts a primitive type, by its number from 0 to 10.
+/// Stores in `out` a primitive type. The number is 0 for u8, 1 for u16, 2 for u32, 3 for u64, 4 for i8, 5 for i16, 6
+/// for i32, 7 for i64, 8 for f16, 9 for f32 and 10 for f64. Returns 9 if the number is above 10. The type is nullable
+/// if `nullable` is true.
 pub(crate) fn dtype_primitive(number: u32, nullable: bool, out: &mut Slot) -> u32 {
     // SAFETY: see the head of this file.
     unsafe { vlt_dtype_primitive(number, nullable, out) }
 }
 
-/// Puts a decimal type of this precision and scale. If the library accepts none of these, it returns 101 to 104.
+/// Stores in `out` the decimal type of this precision and this scale. The type is nullable if `nullable` is true.
+///
+/// Returns 101 if the precision is 0, 102 if the precision is above 76, 103 if the scale is above 76, and 104 if the
+/// scale is above the precision. If several of these are so, it returns the first of these numbers.
 pub(crate) fn dtype_decimal(precision: u8, scale: i8, nullable: bool, out: &mut Slot) -> u32 {
     // SAFETY: see the head of this file.
     unsafe { vlt_dtype_decimal(precision, scale, nullable, out) }
 }
 
-/// Puts the type of lists of this element type.
-/// If the element has 128 levels, it returns 6.
+/// Stores in `out` a list type: the lists of any length whose elements are of the type in `element`. The list type is
+/// nullable if `nullable` is true. Returns 6 if the element type has 128 levels.
 pub(crate) fn dtype_list(element: &Slot, nullable: bool, out: &mut Slot) -> u32 {
     let mut lent_element = element.lent();
     // SAFETY: see the head of this file.
@@ -414,8 +423,8 @@ pub(crate) fn dtype_list(element: &Slot, nullable: bool, out: &mut Slot) -> u32 
     result
 }
 
-/// Puts the type of lists of exactly `size` elements of this type.
-/// If the element has 128 levels, it returns 6.
+/// Stores in `out` a fixed-size list type: the lists of exactly `size` elements of the type in `element`. The list type
+/// is nullable if `nullable` is true. Returns 6 if the element type has 128 levels.
 pub(crate) fn dtype_fixed_size_list(element: &Slot, size: u32, nullable: bool, out: &mut Slot) -> u32 {
     let mut lent_element = element.lent();
     // SAFETY: see the head of this file.
@@ -424,9 +433,14 @@ pub(crate) fn dtype_fixed_size_list(element: &Slot, size: u32, nullable: bool, o
     result
 }
 
-/// Puts a struct of these names and types, in order. If there are more or fewer names than types, it returns 9.
+/// Stores in `out` the struct type of these names and types, in order. The struct type is nullable if `nullable` is
+/// true.
 ///
-/// The names lie one after the other in `names`, and `name_lengths` has the number of bytes of each.
+/// `names` contains the bytes of all names, one name directly after the other, and `name_lengths` contains the number
+/// of bytes of each name. For example, the names `id` and `city` are the bytes `idcity` with the lengths 2 and 4.
+///
+/// Returns 3 if a name isn't UTF-8, 6 if one of the types has 128 levels, and 9 if the lengths don't add up to the
+/// number of bytes or if there are more or fewer names than types.
 pub(crate) fn dtype_struct(
     names: &[u8],
     name_lengths: &[usize],
@@ -449,7 +463,13 @@ pub(crate) fn dtype_struct(
     }
 }
 
-/// Puts a union of these names, types and tags, in order, as `vlt_dtype_struct` takes names.
+/// Stores in `out` the union type of these names, types and tags, in order. The names are passed in the same way as to
+/// `vlt_dtype_struct`. The union type is nullable if `nullable` is true.
+///
+/// Returns 3 if a name isn't UTF-8, 6 if one of the types has 128 levels, and 9 if the lengths don't add up to the
+/// number of bytes. Otherwise it returns the first of these numbers that applies: 110 if there are more or fewer types
+/// than names, 111 if there are more or fewer tags than names, 112 if there are no names, 113 if a tag occurs twice,
+/// and 115 if a name occurs twice.
 pub(crate) fn dtype_union(
     names: &[u8],
     name_lengths: &[usize],
@@ -475,7 +495,12 @@ pub(crate) fn dtype_union(
     }
 }
 
-/// Puts a union of these names and types with the tags 0, 1, 2 and so on, as `vlt_dtype_struct` takes names.
+/// Stores in `out` the union type of these names and types with the tags 0, 1, 2 and so on. The names are passed in the
+/// same way as to `vlt_dtype_struct`. The union type is nullable if `nullable` is true.
+///
+/// Returns 3 if a name isn't UTF-8, 6 if one of the types has 128 levels, and 9 if the lengths don't add up to the
+/// number of bytes. Otherwise it returns the first of these numbers that applies: 114 if there are more than 256 names,
+/// 110 if there are more or fewer types than names, 112 if there are no names, and 115 if a name occurs twice.
 pub(crate) fn dtype_union_consecutive(
     names: &[u8],
     name_lengths: &[usize],
@@ -498,7 +523,7 @@ pub(crate) fn dtype_union_consecutive(
     }
 }
 
-/// Puts the message that describes the type.
+/// Stores in `out` the message that describes the type.
 pub(crate) fn dtype_to_message(dtype: &Slot, out: &mut Slot) -> u32 {
     let mut lent_dtype = dtype.lent();
     // SAFETY: see the head of this file.
@@ -507,8 +532,9 @@ pub(crate) fn dtype_to_message(dtype: &Slot, out: &mut Slot) -> u32 {
     result
 }
 
-/// Puts the type with this outer nullability; for an extension it is that of its storage. If the type can't be
-/// non-nullable, it returns 5.
+/// Stores in `out` the type with the outer nullability that `nullable` states: nullable if it is true, and non-nullable
+/// if it is false. For an extension, the outer nullability of its storage type is changed. Returns 5 if `nullable` is
+/// false and the type can't be made non-nullable, which `vlt_dtype_can_be_nonnullable` tests.
 pub(crate) fn dtype_with_nullability(dtype: &Slot, nullable: bool, out: &mut Slot) -> u32 {
     let mut lent_dtype = dtype.lent();
     // SAFETY: see the head of this file.
@@ -517,7 +543,7 @@ pub(crate) fn dtype_with_nullability(dtype: &Slot, nullable: bool, out: &mut Slo
     result
 }
 
-/// Puts the type that is nullable if it was or if `nullable` is true.
+/// Stores in `out` the type, made nullable if `nullable` is true. If it is false, the outer nullability stays the same.
 pub(crate) fn dtype_union_nullability(dtype: &Slot, nullable: bool, out: &mut Slot) -> u32 {
     let mut lent_dtype = dtype.lent();
     // SAFETY: see the head of this file.
@@ -526,7 +552,8 @@ pub(crate) fn dtype_union_nullability(dtype: &Slot, nullable: bool, out: &mut Sl
     result
 }
 
-/// Writes a hash of the type, which is the same for equal types. It may differ from version to version.
+/// Writes a hash of the type to `hash`. Equal types have the same hash. The hash of a type may differ between versions
+/// of the library.
 pub(crate) fn dtype_hash(dtype: &Slot, hash: &mut u64) -> u32 {
     let mut lent_dtype = dtype.lent();
     // SAFETY: see the head of this file.
@@ -535,7 +562,8 @@ pub(crate) fn dtype_hash(dtype: &Slot, hash: &mut u64) -> u32 {
     result
 }
 
-/// Writes a hash of the type, which is the same for types that are equal when every nullability in them is ignored.
+/// Writes a hash of the type to `hash` for which every nullability in the type is ignored. For example, `list(i32?)`
+/// and `list(i32)?` have the same hash.
 pub(crate) fn dtype_hash_ignore_nullability(dtype: &Slot, hash: &mut u64) -> u32 {
     let mut lent_dtype = dtype.lent();
     // SAFETY: see the head of this file.
@@ -544,7 +572,7 @@ pub(crate) fn dtype_hash_ignore_nullability(dtype: &Slot, hash: &mut u64) -> u32
     result
 }
 
-/// Puts the element type of a list or of a fixed-size list.
+/// Stores in `out` the element type of a list or of a fixed-size list. Returns 1 if the type is of another kind.
 pub(crate) fn dtype_element(dtype: &Slot, out: &mut Slot) -> u32 {
     let mut lent_dtype = dtype.lent();
     // SAFETY: see the head of this file.
@@ -553,7 +581,7 @@ pub(crate) fn dtype_element(dtype: &Slot, out: &mut Slot) -> u32 {
     result
 }
 
-/// Puts the key type of a map.
+/// Stores in `out` the key type of a map. Returns 1 if the type isn't a map.
 pub(crate) fn dtype_key(dtype: &Slot, out: &mut Slot) -> u32 {
     let mut lent_dtype = dtype.lent();
     // SAFETY: see the head of this file.
@@ -562,7 +590,7 @@ pub(crate) fn dtype_key(dtype: &Slot, out: &mut Slot) -> u32 {
     result
 }
 
-/// Puts the value type of a map.
+/// Stores in `out` the value type of a map. Returns 1 if the type isn't a map.
 pub(crate) fn dtype_value(dtype: &Slot, out: &mut Slot) -> u32 {
     let mut lent_dtype = dtype.lent();
     // SAFETY: see the head of this file.
@@ -571,7 +599,7 @@ pub(crate) fn dtype_value(dtype: &Slot, out: &mut Slot) -> u32 {
     result
 }
 
-/// Puts the storage type of an extension.
+/// Stores in `out` the storage type of an extension. Returns 1 if the type isn't an extension.
 pub(crate) fn dtype_storage(dtype: &Slot, out: &mut Slot) -> u32 {
     let mut lent_dtype = dtype.lent();
     // SAFETY: see the head of this file.
@@ -580,7 +608,8 @@ pub(crate) fn dtype_storage(dtype: &Slot, out: &mut Slot) -> u32 {
     result
 }
 
-/// Writes the number of a primitive type: 0 u8, 1 u16, 2 u32, 3 u64, 4 i8, 5 i16, 6 i32, 7 i64, 8 f16, 9 f32, 10 f64.
+/// Writes the number of a primitive type to `number`: 0 u8, 1 u16, 2 u32, 3 u64, 4 i8, 5 i16, 6 i32, 7 i64, 8 f16, 9
+/// f32, 10 f64. Returns 1 if the type isn't primitive.
 pub(crate) fn dtype_ptype(dtype: &Slot, number: &mut u32) -> u32 {
     let mut lent_dtype = dtype.lent();
     // SAFETY: see the head of this file.
@@ -589,7 +618,7 @@ pub(crate) fn dtype_ptype(dtype: &Slot, number: &mut u32) -> u32 {
     result
 }
 
-/// Writes the id of an extension.
+/// Writes the id of an extension to `buffer`. Returns 1 if the type isn't an extension.
 pub(crate) fn dtype_id(dtype: &Slot, buffer: &mut [u8], length: &mut usize) -> u32 {
     let mut lent_dtype = dtype.lent();
     // SAFETY: see the head of this file.
@@ -598,7 +627,7 @@ pub(crate) fn dtype_id(dtype: &Slot, buffer: &mut [u8], length: &mut usize) -> u
     result
 }
 
-/// Writes the metadata of an extension.
+/// Writes the metadata of an extension to `buffer`. Returns 1 if the type isn't an extension.
 pub(crate) fn dtype_metadata(dtype: &Slot, buffer: &mut [u8], length: &mut usize) -> u32 {
     let mut lent_dtype = dtype.lent();
     // SAFETY: see the head of this file.
@@ -607,7 +636,7 @@ pub(crate) fn dtype_metadata(dtype: &Slot, buffer: &mut [u8], length: &mut usize
     result
 }
 
-/// Writes the size of a fixed-size list.
+/// Writes the size of a fixed-size list to `size`. Returns 1 if the type isn't a fixed-size list.
 pub(crate) fn dtype_fixed_size(dtype: &Slot, size: &mut u32) -> u32 {
     let mut lent_dtype = dtype.lent();
     // SAFETY: see the head of this file.
@@ -616,7 +645,7 @@ pub(crate) fn dtype_fixed_size(dtype: &Slot, size: &mut u32) -> u32 {
     result
 }
 
-/// Writes the precision and the scale of a decimal.
+/// Writes the precision and the scale of a decimal to `precision` and `scale`. Returns 1 if the type isn't a decimal.
 pub(crate) fn dtype_decimal_parts(dtype: &Slot, precision: &mut u8, scale: &mut i8) -> u32 {
     let mut lent_dtype = dtype.lent();
     // SAFETY: see the head of this file.
@@ -625,7 +654,7 @@ pub(crate) fn dtype_decimal_parts(dtype: &Slot, precision: &mut u8, scale: &mut 
     result
 }
 
-/// Returns 0 if the keys of the map are declared sorted, and 5 if the type is no map.
+/// Returns 0 if the keys of the map are declared to be sorted, 1 if they aren't, and 5 if the type isn't a map.
 pub(crate) fn dtype_keys_sorted(dtype: &Slot) -> u32 {
     let mut lent_dtype = dtype.lent();
     // SAFETY: see the head of this file.
@@ -634,15 +663,16 @@ pub(crate) fn dtype_keys_sorted(dtype: &Slot) -> u32 {
     result
 }
 
-/// Reads a type from its text in the form of the console, for example `{a=i32, b=list(utf8)?}`, and puts it.
+/// Reads a type from its text in the form of the console, for example `{a=i32, b=list(utf8)?}`, and stores it in `out`.
 ///
-/// If the text can't be read, `position` is the first byte that doesn't fit, counted from 1.
+/// Returns 3 if the text isn't UTF-8. If the text can't be read, the call returns 4 and writes the position of the
+/// first byte that doesn't fit, counted from 1, to `position`.
 pub(crate) fn dtype_from_text(text: &[u8], out: &mut Slot, position: &mut usize) -> u32 {
     // SAFETY: see the head of this file.
     unsafe { vlt_dtype_from_text(text.as_ptr(), text.len(), out, position) }
 }
 
-/// Writes a type in the form of the console, which reads back as the same type.
+/// Writes the type to `buffer` in the form of the console. `vlt_dtype_from_text` reads the same type from this text.
 pub(crate) fn dtype_to_text(dtype: &Slot, buffer: &mut [u8], length: &mut usize) -> u32 {
     let mut lent_dtype = dtype.lent();
     // SAFETY: see the head of this file.
@@ -651,7 +681,7 @@ pub(crate) fn dtype_to_text(dtype: &Slot, buffer: &mut [u8], length: &mut usize)
     result
 }
 
-/// Writes a type as the library displays it.
+/// Writes the type to `buffer` as the library displays it, for example `{a=i32, b=list(utf8)?}`.
 pub(crate) fn dtype_display(dtype: &Slot, buffer: &mut [u8], length: &mut usize) -> u32 {
     let mut lent_dtype = dtype.lent();
     // SAFETY: see the head of this file.
@@ -660,7 +690,7 @@ pub(crate) fn dtype_display(dtype: &Slot, buffer: &mut [u8], length: &mut usize)
     result
 }
 
-/// Puts a copy of the type.
+/// Stores in `out` a copy of the type.
 pub(crate) fn dtype_copy(dtype: &Slot, out: &mut Slot) -> u32 {
     let mut lent_dtype = dtype.lent();
     // SAFETY: see the head of this file.
@@ -669,7 +699,7 @@ pub(crate) fn dtype_copy(dtype: &Slot, out: &mut Slot) -> u32 {
     result
 }
 
-/// Returns 0 if the types are equal.
+/// Returns 0 if the two types are equal, and 1 if they aren't.
 pub(crate) fn dtype_eq(one: &Slot, other: &Slot) -> u32 {
     if one.is(other) {
         return SAME_SLOT;
@@ -683,7 +713,8 @@ pub(crate) fn dtype_eq(one: &Slot, other: &Slot) -> u32 {
     result
 }
 
-/// Returns 0 if the types are equal when every nullability in them is ignored.
+/// Returns 0 if the two types are equal when every nullability in them is ignored, and 1 if they aren't. For example,
+/// it returns 0 for `list(i32?)` and `list(i32)?`.
 pub(crate) fn dtype_eq_ignore_nullability(one: &Slot, other: &Slot) -> u32 {
     if one.is(other) {
         return SAME_SLOT;
@@ -697,7 +728,9 @@ pub(crate) fn dtype_eq_ignore_nullability(one: &Slot, other: &Slot) -> u32 {
     result
 }
 
-/// Returns 0 if the types are equal except for nullabilities, and the other is nullable wherever the first is.
+/// Returns 0 if the first type is a subset of the other, and 1 if it isn't. It is a subset if the two are equal except
+/// for nullabilities, and the other is nullable in each place in which the first is. For example, `i32` is a subset of
+/// `i32?`.
 pub(crate) fn dtype_nullability_subset(one: &Slot, other: &Slot) -> u32 {
     if one.is(other) {
         return SAME_SLOT;
@@ -711,7 +744,9 @@ pub(crate) fn dtype_nullability_subset(one: &Slot, other: &Slot) -> u32 {
     result
 }
 
-/// Returns 0 if the types are equal except for nullabilities, and the first is nullable wherever the other is.
+/// Returns 0 if the other type is a subset of the first, and 1 if it isn't. It is a subset if the two are equal except
+/// for nullabilities, and the first is nullable in each place in which the other is. For example, `i32` is a subset of
+/// `i32?`.
 pub(crate) fn dtype_nullability_superset(one: &Slot, other: &Slot) -> u32 {
     if one.is(other) {
         return SAME_SLOT;
@@ -725,7 +760,8 @@ pub(crate) fn dtype_nullability_superset(one: &Slot, other: &Slot) -> u32 {
     result
 }
 
-/// Puts the least type that takes the values of both, if there is one.
+/// Stores in `out` the least type of which both types are subsets. It is nullable in each place in which one of the two
+/// is. For example, it is `i32?` for `i32` and `i32?`. Returns 1 if the types differ in more than nullabilities.
 pub(crate) fn dtype_merge_nullability(one: &Slot, other: &Slot, out: &mut Slot) -> u32 {
     if one.is(other) {
         return SAME_SLOT;
@@ -739,7 +775,8 @@ pub(crate) fn dtype_merge_nullability(one: &Slot, other: &Slot, out: &mut Slot) 
     result
 }
 
-/// Puts the greatest type whose values both take, if there is one.
+/// Stores in `out` the greatest type that is a subset of both types. It is nullable only in those places in which both
+/// are. For example, it is `i32` for `i32` and `i32?`. Returns 1 if the types differ in more than nullabilities.
 pub(crate) fn dtype_intersect_nullability(one: &Slot, other: &Slot, out: &mut Slot) -> u32 {
     if one.is(other) {
         return SAME_SLOT;
@@ -753,8 +790,8 @@ pub(crate) fn dtype_intersect_nullability(one: &Slot, other: &Slot, out: &mut Sl
     result
 }
 
-/// Writes the kind of the type: 0 null, 1 bool, 2 primitive, 3 decimal, 4 utf8, 5 binary, 6 list, 7 fixed-size list, 8 map,
-/// 9 struct, 10 union, 11 variant, 12 extension.
+/// Writes the kind of the type to `number`: 0 null, 1 bool, 2 primitive, 3 decimal, 4 utf8, 5 binary, 6 list, 7
+/// fixed-size list, 8 map, 9 struct, 10 union, 11 variant, 12 extension.
 pub(crate) fn dtype_kind(dtype: &Slot, number: &mut u32) -> u32 {
     let mut lent_dtype = dtype.lent();
     // SAFETY: see the head of this file.
@@ -763,7 +800,7 @@ pub(crate) fn dtype_kind(dtype: &Slot, number: &mut u32) -> u32 {
     result
 }
 
-/// Returns 0 if values of the type may be null.
+/// Returns 0 if the type is nullable, so that its values may be null, and 1 if it isn't.
 pub(crate) fn dtype_is_nullable(dtype: &Slot) -> u32 {
     let mut lent_dtype = dtype.lent();
     // SAFETY: see the head of this file.
@@ -772,7 +809,8 @@ pub(crate) fn dtype_is_nullable(dtype: &Slot) -> u32 {
     result
 }
 
-/// Returns 0 if the type can be made non-nullable: not null, nor an extension over it.
+/// Returns 0 if the type can be made non-nullable, and 1 if it can't. The null type can't, and an extension can't if
+/// its storage type can't. Every other type can.
 pub(crate) fn dtype_can_be_nonnullable(dtype: &Slot) -> u32 {
     let mut lent_dtype = dtype.lent();
     // SAFETY: see the head of this file.
@@ -781,8 +819,8 @@ pub(crate) fn dtype_can_be_nonnullable(dtype: &Slot) -> u32 {
     result
 }
 
-/// Writes the number of bytes that each value of the type takes, if all take as many. If a part of a type of fixed width is
-/// wider than a `usize` can hold, it returns 119.
+/// Writes the number of bytes that each value of the type takes to `size`. Returns 1 if the type is of variable width,
+/// and 119 if it is of fixed width and its width, or the width of a part of it, is above the greatest `usize`.
 pub(crate) fn dtype_element_size(dtype: &Slot, size: &mut usize) -> u32 {
     let mut lent_dtype = dtype.lent();
     // SAFETY: see the head of this file.
@@ -791,7 +829,8 @@ pub(crate) fn dtype_element_size(dtype: &Slot, size: &mut usize) -> u32 {
     result
 }
 
-/// Puts the type of the entries of a map: the non-nullable struct of the fields `key` and `value`.
+/// Stores in `out` the type of the entries of a map: the non-nullable struct with the fields `key` and `value`. Returns
+/// 1 if the type isn't a map.
 pub(crate) fn dtype_entries(dtype: &Slot, out: &mut Slot) -> u32 {
     let mut lent_dtype = dtype.lent();
     // SAFETY: see the head of this file.
@@ -800,8 +839,9 @@ pub(crate) fn dtype_entries(dtype: &Slot, out: &mut Slot) -> u32 {
     result
 }
 
-/// Puts the type of maps of these keys and values. If the key type is nullable, it returns 109, and if one of the two has
-/// 128 levels, it returns 6.
+/// Stores in `out` the type of maps with the key type in `one` and the value type in `other`. `keys_sorted` declares
+/// that the keys of each map are sorted, which nothing checks. The map type is nullable if `nullable` is true. Returns
+/// 6 if one of the two types has 128 levels, and 109 if the key type is nullable.
 pub(crate) fn dtype_map(one: &Slot, other: &Slot, keys_sorted: bool, nullable: bool, out: &mut Slot) -> u32 {
     if one.is(other) {
         return SAME_SLOT;
@@ -815,7 +855,8 @@ pub(crate) fn dtype_map(one: &Slot, other: &Slot, keys_sorted: bool, nullable: b
     result
 }
 
-/// Puts the extension of this id, metadata and storage type. If the storage has 128 levels, it returns 6.
+/// Stores in `out` the extension type with this id, this metadata and this storage type. Returns 3 if the id isn't
+/// UTF-8, and 6 if the storage type has 128 levels.
 pub(crate) fn dtype_extension(id: &[u8], metadata: &[u8], storage: &Slot, out: &mut Slot) -> u32 {
     let mut lent_storage = storage.lent();
     // SAFETY: see the head of this file.
@@ -826,8 +867,8 @@ pub(crate) fn dtype_extension(id: &[u8], metadata: &[u8], storage: &Slot, out: &
     result
 }
 
-/// Puts the struct without the field at the position, with the nullability of the type. If the position is not below the
-/// number of fields, it returns 117.
+/// Stores in `out` the struct without the field at the position `index`. It has the outer nullability of the original
+/// struct. Returns 5 if the type isn't a struct, and 117 if the position isn't below the number of fields.
 pub(crate) fn struct_without_field(dtype: &Slot, index: usize, out: &mut Slot) -> u32 {
     let mut lent_dtype = dtype.lent();
     // SAFETY: see the head of this file.
@@ -836,8 +877,9 @@ pub(crate) fn struct_without_field(dtype: &Slot, index: usize, out: &mut Slot) -
     result
 }
 
-/// Puts the struct of the fields of the first type and then those of the other, with the nullability of the first. If a
-/// name is there twice, it returns 118.
+/// Stores in `out` the struct that has the fields of the first struct followed by those of the other. It has the outer
+/// nullability of the first. Returns 5 if one of the types isn't a struct, and 118 if a name occurs in both structs, or
+/// twice in one of them.
 pub(crate) fn struct_disjoint_merge(one: &Slot, other: &Slot, out: &mut Slot) -> u32 {
     if one.is(other) {
         return SAME_SLOT;
@@ -851,10 +893,12 @@ pub(crate) fn struct_disjoint_merge(one: &Slot, other: &Slot, out: &mut Slot) ->
     result
 }
 
-/// Puts the struct of the first field of each of these names, in their order, with the nullability of the type. If no field
-/// has one of the names, it returns 116.
+/// Stores in `out` the struct that has the fields with these names, in the order of the names. If several fields have
+/// the same name, the first of them is selected. The struct has the outer nullability of the original struct.
 ///
-/// The names lie one after the other in `names`, and `name_lengths` has the number of bytes of each.
+/// The names are passed in the same way as to `vlt_dtype_struct`. Returns 3 if a name isn't UTF-8, 5 if the type isn't
+/// a struct, 9 if the lengths don't add up to the number of bytes, and 116 if one of the names isn't the name of any
+/// field.
 pub(crate) fn struct_project(dtype: &Slot, names: &[u8], name_lengths: &[usize], out: &mut Slot) -> u32 {
     let mut lent_dtype = dtype.lent();
     // SAFETY: see the head of this file.
@@ -865,7 +909,7 @@ pub(crate) fn struct_project(dtype: &Slot, names: &[u8], name_lengths: &[usize],
     result
 }
 
-/// Writes the number of fields.
+/// Writes the number of fields of the struct to `count`. Returns 5 if the type isn't a struct.
 pub(crate) fn struct_nfields(dtype: &Slot, count: &mut usize) -> u32 {
     let mut lent_dtype = dtype.lent();
     // SAFETY: see the head of this file.
@@ -874,7 +918,8 @@ pub(crate) fn struct_nfields(dtype: &Slot, count: &mut usize) -> u32 {
     result
 }
 
-/// Puts the type of the field at the position, if it is below the number of fields.
+/// Stores in `out` the type of the field at the position `index`. Returns 1 if the position isn't below the number of
+/// fields, and 5 if the type isn't a struct.
 pub(crate) fn struct_field_by_index(dtype: &Slot, index: usize, out: &mut Slot) -> u32 {
     let mut lent_dtype = dtype.lent();
     // SAFETY: see the head of this file.
@@ -883,7 +928,8 @@ pub(crate) fn struct_field_by_index(dtype: &Slot, index: usize, out: &mut Slot) 
     result
 }
 
-/// Writes the position of the first field of the name, if there is one.
+/// Writes the position of the first field with this name to `index`. Returns 1 if no field has the name, 3 if the name
+/// isn't UTF-8, and 5 if the type isn't a struct.
 pub(crate) fn struct_find(dtype: &Slot, name: &[u8], index: &mut usize) -> u32 {
     let mut lent_dtype = dtype.lent();
     // SAFETY: see the head of this file.
@@ -892,7 +938,8 @@ pub(crate) fn struct_find(dtype: &Slot, name: &[u8], index: &mut usize) -> u32 {
     result
 }
 
-/// Puts the type of the first field of the name, if there is one.
+/// Stores in `out` the type of the first field with this name. Returns 1 if no field has the name, 3 if the name isn't
+/// UTF-8, and 5 if the type isn't a struct.
 pub(crate) fn struct_field(dtype: &Slot, name: &[u8], out: &mut Slot) -> u32 {
     let mut lent_dtype = dtype.lent();
     // SAFETY: see the head of this file.
@@ -901,7 +948,8 @@ pub(crate) fn struct_field(dtype: &Slot, name: &[u8], out: &mut Slot) -> u32 {
     result
 }
 
-/// Writes the name of the field at the position, if it is below the number of fields.
+/// Writes the name of the field at the position `index` to `buffer`. Returns 1 if the position isn't below the number
+/// of fields, and 5 if the type isn't a struct.
 pub(crate) fn struct_field_name(dtype: &Slot, index: usize, buffer: &mut [u8], length: &mut usize) -> u32 {
     let mut lent_dtype = dtype.lent();
     // SAFETY: see the head of this file.
@@ -910,7 +958,8 @@ pub(crate) fn struct_field_name(dtype: &Slot, index: usize, buffer: &mut [u8], l
     result
 }
 
-/// Writes the fields of a struct over several lines, one field a line, as the library indents them.
+/// Writes the fields of a struct to `buffer` as indented text, in which each field begins on a new line. Returns 5 if
+/// the type isn't a struct.
 pub(crate) fn struct_indented(dtype: &Slot, buffer: &mut [u8], length: &mut usize) -> u32 {
     let mut lent_dtype = dtype.lent();
     // SAFETY: see the head of this file.
@@ -919,7 +968,7 @@ pub(crate) fn struct_indented(dtype: &Slot, buffer: &mut [u8], length: &mut usiz
     result
 }
 
-/// Writes the number of variants.
+/// Writes the number of variants of the union to `count`. Returns 5 if the type isn't a union.
 pub(crate) fn union_len(dtype: &Slot, count: &mut usize) -> u32 {
     let mut lent_dtype = dtype.lent();
     // SAFETY: see the head of this file.
@@ -928,7 +977,8 @@ pub(crate) fn union_len(dtype: &Slot, count: &mut usize) -> u32 {
     result
 }
 
-/// Puts the type of the variant at the position, if it is below the number of variants.
+/// Stores in `out` the type of the variant at the position `index`. Returns 1 if the position isn't below the number of
+/// variants, and 5 if the type isn't a union.
 pub(crate) fn union_variant_by_index(dtype: &Slot, index: usize, out: &mut Slot) -> u32 {
     let mut lent_dtype = dtype.lent();
     // SAFETY: see the head of this file.
@@ -937,7 +987,8 @@ pub(crate) fn union_variant_by_index(dtype: &Slot, index: usize, out: &mut Slot)
     result
 }
 
-/// Writes the position of the variant of the name, if there is one.
+/// Writes the position of the variant with this name to `index`. Returns 1 if no variant has the name, 3 if the name
+/// isn't UTF-8, and 5 if the type isn't a union.
 pub(crate) fn union_find(dtype: &Slot, name: &[u8], index: &mut usize) -> u32 {
     let mut lent_dtype = dtype.lent();
     // SAFETY: see the head of this file.
@@ -946,7 +997,8 @@ pub(crate) fn union_find(dtype: &Slot, name: &[u8], index: &mut usize) -> u32 {
     result
 }
 
-/// Puts the type of the variant of the name, if there is one.
+/// Stores in `out` the type of the variant with this name. Returns 1 if no variant has the name, 3 if the name isn't
+/// UTF-8, and 5 if the type isn't a union.
 pub(crate) fn union_variant(dtype: &Slot, name: &[u8], out: &mut Slot) -> u32 {
     let mut lent_dtype = dtype.lent();
     // SAFETY: see the head of this file.
@@ -955,7 +1007,8 @@ pub(crate) fn union_variant(dtype: &Slot, name: &[u8], out: &mut Slot) -> u32 {
     result
 }
 
-/// Writes the position of the variant of the tag, if there is one.
+/// Writes the position of the variant with this tag to `index`. Returns 1 if no variant has the tag, and 5 if the type
+/// isn't a union.
 pub(crate) fn union_tag_to_child_index(dtype: &Slot, tag: u8, index: &mut usize) -> u32 {
     let mut lent_dtype = dtype.lent();
     // SAFETY: see the head of this file.
@@ -964,7 +1017,8 @@ pub(crate) fn union_tag_to_child_index(dtype: &Slot, tag: u8, index: &mut usize)
     result
 }
 
-/// Writes the tag of the variant at the position, if it is below the number of variants.
+/// Writes the tag of the variant at the position `index` to `tag`. Returns 1 if the position isn't below the number of
+/// variants, and 5 if the type isn't a union.
 pub(crate) fn union_child_index_to_tag(dtype: &Slot, index: usize, tag: &mut u8) -> u32 {
     let mut lent_dtype = dtype.lent();
     // SAFETY: see the head of this file.
@@ -973,7 +1027,8 @@ pub(crate) fn union_child_index_to_tag(dtype: &Slot, index: usize, tag: &mut u8)
     result
 }
 
-/// Writes the name of the variant at the position, if it is below the number of variants.
+/// Writes the name of the variant at the position `index` to `buffer`. Returns 1 if the position isn't below the number
+/// of variants, and 5 if the type isn't a union.
 pub(crate) fn union_variant_name(dtype: &Slot, index: usize, buffer: &mut [u8], length: &mut usize) -> u32 {
     let mut lent_dtype = dtype.lent();
     // SAFETY: see the head of this file.
@@ -982,7 +1037,8 @@ pub(crate) fn union_variant_name(dtype: &Slot, index: usize, buffer: &mut [u8], 
     result
 }
 
-/// Returns 0 if the tags are 0, 1, 2 and so on.
+/// Returns 0 if the tags are 0, 1, 2 and so on in the order of the variants, 1 if they aren't, and 5 if the type isn't
+/// a union.
 pub(crate) fn union_is_consecutive(dtype: &Slot) -> u32 {
     let mut lent_dtype = dtype.lent();
     // SAFETY: see the head of this file.
@@ -991,31 +1047,38 @@ pub(crate) fn union_is_consecutive(dtype: &Slot) -> u32 {
     result
 }
 
-/// Puts the path that the message of a path describes, whose parts have these names, as `vlt_path_from_steps` takes names.
-/// The length `ELEMENT` (the greatest `usize`) stands for a part without a kind, for which it returns 136.
+/// Stores in `out` the path that the message of a path describes. The names of the parts of the message are passed in
+/// the same way as to `vlt_path_from_steps`. The length `ELEMENT` (the greatest `usize`) stands for a part without a
+/// kind. A message that has such a part describes no path, and the call returns 136. Returns 3 if a name isn't UTF-8,
+/// and 9 if the lengths don't add up to the number of bytes.
 pub(crate) fn path_from_message(names: &[u8], name_lengths: &[usize], out: &mut Slot) -> u32 {
     // SAFETY: see the head of this file.
     unsafe { vlt_path_from_message(names.as_ptr(), names.len(), name_lengths.as_ptr(), name_lengths.len(), out) }
 }
 
 /// Reads the message of a path from its text in the form of the console, for example
-/// `path { name: "a" } path { name: "b" }`, and puts the path that it describes. For a part without a kind it returns 136.
+/// `path { name: "a" } path { name: "b" }`, and stores in `out` the path that it describes. Returns 136 if a part of
+/// the message has no kind.
 ///
-/// If the text can't be read, `position` is the first byte that doesn't fit, counted from 1.
+/// Returns 3 if the text isn't UTF-8. If the text can't be read, the call returns 4 and writes the position of the
+/// first byte that doesn't fit, counted from 1, to `position`.
 pub(crate) fn path_from_message_text(text: &[u8], out: &mut Slot, position: &mut usize) -> u32 {
     // SAFETY: see the head of this file.
     unsafe { vlt_path_from_message_text(text.as_ptr(), text.len(), out, position) }
 }
 
-/// Reads a path from its text in the form of the console, for example `a.[].b`, or `.` for the root, and puts it.
+/// Reads a path from its text in the form of the console and stores it in `out`. For example, `a.[].b` is a path of
+/// three steps, and `.` is the root.
 ///
-/// If the text can't be read, `position` is the first byte that doesn't fit, counted from 1.
+/// Returns 3 if the text isn't UTF-8. If the text can't be read, the call returns 4 and writes the position of the
+/// first byte that doesn't fit, counted from 1, to `position`.
 pub(crate) fn path_from_text(text: &[u8], out: &mut Slot, position: &mut usize) -> u32 {
     // SAFETY: see the head of this file.
     unsafe { vlt_path_from_text(text.as_ptr(), text.len(), out, position) }
 }
 
-/// Writes a path in the form of the console, which reads back as the same path.
+/// Writes the path to `buffer` in the form of the console, for example `a.[].b`. `vlt_path_from_text` reads the same
+/// path from this text.
 pub(crate) fn path_to_text(path: &Slot, buffer: &mut [u8], length: &mut usize) -> u32 {
     let mut lent_path = path.lent();
     // SAFETY: see the head of this file.
@@ -1024,13 +1087,13 @@ pub(crate) fn path_to_text(path: &Slot, buffer: &mut [u8], length: &mut usize) -
     result
 }
 
-/// Puts the path with no step, the root.
+/// Stores in `out` the root, which is the path without steps.
 pub(crate) fn path_root(out: &mut Slot) -> u32 {
     // SAFETY: see the head of this file.
     unsafe { vlt_path_root(out) }
 }
 
-/// Writes the number of steps.
+/// Writes the number of steps of the path to `count`.
 pub(crate) fn path_len(path: &Slot, count: &mut usize) -> u32 {
     let mut lent_path = path.lent();
     // SAFETY: see the head of this file.
@@ -1039,7 +1102,9 @@ pub(crate) fn path_len(path: &Slot, count: &mut usize) -> u32 {
     result
 }
 
-/// Writes the step at this position: a name, or `ELEMENT` as the length for the step into the element.
+/// Writes the step at the position `index`. For a step to a field, it writes the bytes of the name to `buffer` and
+/// their number to `length`. For the step to the element, it writes only the length `ELEMENT` (the greatest `usize`).
+/// Returns 1 if the position isn't below the number of steps.
 pub(crate) fn path_step(path: &Slot, index: usize, buffer: &mut [u8], length: &mut usize) -> u32 {
     let mut lent_path = path.lent();
     // SAFETY: see the head of this file.
@@ -1048,7 +1113,8 @@ pub(crate) fn path_step(path: &Slot, index: usize, buffer: &mut [u8], length: &m
     result
 }
 
-/// Puts the path with one more step, into the field of this name.
+/// Stores in `out` the path with one more step at its end: the step to the field with this name. Returns 3 if the name
+/// isn't UTF-8.
 pub(crate) fn path_push_name(path: &Slot, name: &[u8], out: &mut Slot) -> u32 {
     let mut lent_path = path.lent();
     // SAFETY: see the head of this file.
@@ -1057,7 +1123,7 @@ pub(crate) fn path_push_name(path: &Slot, name: &[u8], out: &mut Slot) -> u32 {
     result
 }
 
-/// Puts the path with one more step, into the element.
+/// Stores in `out` the path with one more step at its end: the step to the element of a list.
 pub(crate) fn path_push_element(path: &Slot, out: &mut Slot) -> u32 {
     let mut lent_path = path.lent();
     // SAFETY: see the head of this file.
@@ -1066,7 +1132,7 @@ pub(crate) fn path_push_element(path: &Slot, out: &mut Slot) -> u32 {
     result
 }
 
-/// Puts the path without its first step; the root has none.
+/// Stores in `out` the path without its first step. Returns 1 if the path is the root, which has no steps.
 pub(crate) fn path_step_into(path: &Slot, out: &mut Slot) -> u32 {
     let mut lent_path = path.lent();
     // SAFETY: see the head of this file.
@@ -1075,7 +1141,7 @@ pub(crate) fn path_step_into(path: &Slot, out: &mut Slot) -> u32 {
     result
 }
 
-/// Puts a copy of the path.
+/// Stores in `out` a copy of the path.
 pub(crate) fn path_copy(path: &Slot, out: &mut Slot) -> u32 {
     let mut lent_path = path.lent();
     // SAFETY: see the head of this file.
@@ -1084,7 +1150,7 @@ pub(crate) fn path_copy(path: &Slot, out: &mut Slot) -> u32 {
     result
 }
 
-/// Returns 0 if the paths are equal.
+/// Returns 0 if the two paths are equal, and 1 if they aren't.
 pub(crate) fn path_eq(one: &Slot, other: &Slot) -> u32 {
     if one.is(other) {
         return SAME_SLOT;
@@ -1098,7 +1164,8 @@ pub(crate) fn path_eq(one: &Slot, other: &Slot) -> u32 {
     result
 }
 
-/// Returns 0 if one path is a prefix of the other.
+/// Returns 0 if one of the two paths is a prefix of the other, and 1 if none is. For example, it returns 0 for `a` and
+/// `a.b`.
 pub(crate) fn path_overlap(one: &Slot, other: &Slot) -> u32 {
     if one.is(other) {
         return SAME_SLOT;
@@ -1112,7 +1179,8 @@ pub(crate) fn path_overlap(one: &Slot, other: &Slot) -> u32 {
     result
 }
 
-/// Puts the type at the path in the type.
+/// Stores in `out` the type at the path in the type `dtype`. For example, the type at `a.[]` in `{a=list(i32)}` is
+/// `i32`. Returns 1 if there is no type at the path.
 pub(crate) fn path_resolve(dtype: &Slot, path: &Slot, out: &mut Slot) -> u32 {
     if dtype.is(path) {
         return SAME_SLOT;
@@ -1126,7 +1194,7 @@ pub(crate) fn path_resolve(dtype: &Slot, path: &Slot, out: &mut Slot) -> u32 {
     result
 }
 
-/// Returns 0 if there is a type at the path in the type.
+/// Returns 0 if there is a type at the path in the type `dtype`, and 1 if there is none.
 pub(crate) fn path_exists_in(dtype: &Slot, path: &Slot) -> u32 {
     if dtype.is(path) {
         return SAME_SLOT;
@@ -1140,7 +1208,7 @@ pub(crate) fn path_exists_in(dtype: &Slot, path: &Slot) -> u32 {
     result
 }
 
-/// Writes the path as the library displays it.
+/// Writes the path to `buffer` as the library displays it, for example `$a.[].$b`.
 pub(crate) fn path_display(path: &Slot, buffer: &mut [u8], length: &mut usize) -> u32 {
     let mut lent_path = path.lent();
     // SAFETY: see the head of this file.
@@ -1149,7 +1217,8 @@ pub(crate) fn path_display(path: &Slot, buffer: &mut [u8], length: &mut usize) -
     result
 }
 
-/// Returns 0 if the first step is into the field of this name, and 5 if it is into the element.
+/// Returns 0 if the first step of the path is the step to the field with this name. Returns 1 if it is the step to
+/// another field, or if the path is the root. Returns 5 if it is the step to the element.
 pub(crate) fn path_starts_with_name(path: &Slot, name: &[u8]) -> u32 {
     let mut lent_path = path.lent();
     // SAFETY: see the head of this file.
@@ -1158,7 +1227,8 @@ pub(crate) fn path_starts_with_name(path: &Slot, name: &[u8]) -> u32 {
     result
 }
 
-/// Writes a hash of the path, which is the same for equal paths. It may differ from version to version.
+/// Writes a hash of the path to `hash`. Equal paths have the same hash. The hash of a path may differ between versions
+/// of the library.
 pub(crate) fn path_hash(path: &Slot, hash: &mut u64) -> u32 {
     let mut lent_path = path.lent();
     // SAFETY: see the head of this file.
@@ -1167,14 +1237,19 @@ pub(crate) fn path_hash(path: &Slot, hash: &mut u64) -> u32 {
     result
 }
 
-/// Puts the path of these steps.
+/// Stores in `out` the path of these steps. `names` contains the bytes of all names, one name directly after the other,
+/// and `name_lengths` contains the number of bytes of the name of each step. The length `ELEMENT` (the greatest
+/// `usize`) stands for the step to the element, which has no bytes in `names`. Returns 3 if a name isn't UTF-8, and 9
+/// if the lengths don't add up to the number of bytes.
 pub(crate) fn path_from_steps(names: &[u8], name_lengths: &[usize], out: &mut Slot) -> u32 {
     // SAFETY: see the head of this file.
     unsafe { vlt_path_from_steps(names.as_ptr(), names.len(), name_lengths.as_ptr(), name_lengths.len(), out) }
 }
 
-/// Writes what the set asks for below the path: whether the path itself is in it, whether a path of it goes on with the
-/// element, and by how many names paths of it go on. Returns 1 if no path of the set begins with the path.
+/// Writes how paths of the set continue after the path `path`. `is_end` is true if the path itself is in the set.
+/// `has_element` is true if some path of the set continues with the step to the element. `name_count` is the number of
+/// different names with which paths of the set continue. For example, for the set of `a`, `a.b` and `a.c` and the path
+/// `a` the call writes true, false and 2. Returns 1 if no path of the set begins with the path.
 pub(crate) fn set_below(
     paths: &Slot,
     path: &Slot,
@@ -1194,8 +1269,9 @@ pub(crate) fn set_below(
     result
 }
 
-/// Puts the names by which paths of the set go on below the path: a list of paths of one step each, in no promised order.
-/// Returns 1 if no path of the set begins with the path.
+/// Stores in `out` the list of the names with which paths of the set continue after the path `path`. The list contains
+/// a path of one step for each name, in no particular order. For example, for the set of `a.b` and `a.c` and the path
+/// `a` the list contains the paths `b` and `c`. Returns 1 if no path of the set begins with the path.
 pub(crate) fn set_names_below(paths: &Slot, path: &Slot, out: &mut Slot) -> u32 {
     if paths.is(path) {
         return SAME_SLOT;
@@ -1209,13 +1285,13 @@ pub(crate) fn set_names_below(paths: &Slot, path: &Slot, out: &mut Slot) -> u32 
     result
 }
 
-/// Puts the empty set.
+/// Stores in `out` the empty set.
 pub(crate) fn set_new(out: &mut Slot) -> u32 {
     // SAFETY: see the head of this file.
     unsafe { vlt_set_new(out) }
 }
 
-/// Inserts a copy of the path. After an error the set is unchanged.
+/// Inserts a copy of the path into the set. If the call doesn't return 0, the set is unchanged.
 pub(crate) fn set_insert(paths: &Slot, path: &Slot) -> u32 {
     if paths.is(path) {
         return SAME_SLOT;
@@ -1229,7 +1305,7 @@ pub(crate) fn set_insert(paths: &Slot, path: &Slot) -> u32 {
     result
 }
 
-/// Returns 0 if the path is in the set.
+/// Returns 0 if the path is in the set, and 1 if it isn't.
 pub(crate) fn set_contains(paths: &Slot, path: &Slot) -> u32 {
     if paths.is(path) {
         return SAME_SLOT;
@@ -1243,7 +1319,7 @@ pub(crate) fn set_contains(paths: &Slot, path: &Slot) -> u32 {
     result
 }
 
-/// Puts a copy of the set.
+/// Stores in `out` a copy of the set.
 pub(crate) fn set_copy(paths: &Slot, out: &mut Slot) -> u32 {
     let mut lent_paths = paths.lent();
     // SAFETY: see the head of this file.
@@ -1252,7 +1328,9 @@ pub(crate) fn set_copy(paths: &Slot, out: &mut Slot) -> u32 {
     result
 }
 
-/// Puts the list of the fewest paths that cover those of the set, each once, in no promised order.
+/// Stores in `out` the list of the least paths of the set. These are the paths of the set of which no other path of the
+/// set is a prefix. They are the fewest paths that cover what the set covers. For example, the only least path of the
+/// set of `a` and `a.b` is `a`. Each path is in the list once, in no particular order.
 pub(crate) fn set_cover(paths: &Slot, out: &mut Slot) -> u32 {
     let mut lent_paths = paths.lent();
     // SAFETY: see the head of this file.
@@ -1261,7 +1339,7 @@ pub(crate) fn set_cover(paths: &Slot, out: &mut Slot) -> u32 {
     result
 }
 
-/// Puts the list of the paths of the set, each once, in no promised order.
+/// Stores in `out` the list of the paths of the set. Each path is in the list once, in no particular order.
 pub(crate) fn set_members(paths: &Slot, out: &mut Slot) -> u32 {
     let mut lent_paths = paths.lent();
     // SAFETY: see the head of this file.
@@ -1270,7 +1348,8 @@ pub(crate) fn set_members(paths: &Slot, out: &mut Slot) -> u32 {
     result
 }
 
-/// Puts the list of the paths of the set at which there is no type in the type, each once, in no promised order.
+/// Stores in `out` the list of those paths of the set that don't exist in the type `dtype`. Each path is in the list
+/// once, in no particular order.
 pub(crate) fn set_unresolved(paths: &Slot, dtype: &Slot, out: &mut Slot) -> u32 {
     if paths.is(dtype) {
         return SAME_SLOT;
@@ -1284,7 +1363,7 @@ pub(crate) fn set_unresolved(paths: &Slot, dtype: &Slot, out: &mut Slot) -> u32 
     result
 }
 
-/// Writes how many paths are in the set.
+/// Writes the number of paths of the set to `count`.
 pub(crate) fn set_len(paths: &Slot, count: &mut usize) -> u32 {
     let mut lent_paths = paths.lent();
     // SAFETY: see the head of this file.
@@ -1293,8 +1372,8 @@ pub(crate) fn set_len(paths: &Slot, count: &mut usize) -> u32 {
     result
 }
 
-/// Inserts copies of the paths in these slots, in their order, and writes how many were inserted. After an error those
-/// before it are in.
+/// Inserts copies of the paths in these slots into the set, in order, and writes to `inserted` how many were inserted.
+/// If a slot contains no path, or an allocation fails, the call stops there. The paths before it stay inserted.
 pub(crate) fn set_extend(set: &Slot, paths: &mut [Slot], inserted: &mut usize) -> u32 {
     let mut lent_set = set.lent();
     // SAFETY: see the head of this file.
@@ -1303,7 +1382,8 @@ pub(crate) fn set_extend(set: &Slot, paths: &mut [Slot], inserted: &mut usize) -
     result
 }
 
-/// Inserts copies of the paths of the list, in their order. After an error those before it are in.
+/// Inserts copies of the paths of the list into the set, in order. If an allocation fails, the call stops there. The
+/// paths that it inserted before stay in the set.
 pub(crate) fn set_extend_from_list(paths: &Slot, list: &Slot) -> u32 {
     if paths.is(list) {
         return SAME_SLOT;
@@ -1317,7 +1397,7 @@ pub(crate) fn set_extend_from_list(paths: &Slot, list: &Slot) -> u32 {
     result
 }
 
-/// Writes how many paths are in the list.
+/// Writes the number of paths of the list to `count`.
 pub(crate) fn paths_len(paths: &Slot, count: &mut usize) -> u32 {
     let mut lent_paths = paths.lent();
     // SAFETY: see the head of this file.
@@ -1326,7 +1406,8 @@ pub(crate) fn paths_len(paths: &Slot, count: &mut usize) -> u32 {
     result
 }
 
-/// Puts a copy of the path at this position of the list.
+/// Stores in `out` a copy of the path at the position `index` of the list. Returns 1 if the position isn't below the
+/// length of the list.
 pub(crate) fn paths_get(paths: &Slot, index: usize, out: &mut Slot) -> u32 {
     let mut lent_paths = paths.lent();
     // SAFETY: see the head of this file.
@@ -1335,7 +1416,8 @@ pub(crate) fn paths_get(paths: &Slot, index: usize, out: &mut Slot) -> u32 {
     result
 }
 
-/// Puts the part of the type that the paths of the set lead to. If no path of the set exists in the type, it returns 1.
+/// Stores in `out` the type without the fields to which no path of the set leads. For example, for `{a=i32, b=utf8}`
+/// and the set of `a` it stores `{a=i32}`. Returns 1 if no path of the set exists in the type.
 pub(crate) fn project_paths(dtype: &Slot, set: &Slot, out: &mut Slot) -> u32 {
     if dtype.is(set) {
         return SAME_SLOT;
@@ -1349,13 +1431,13 @@ pub(crate) fn project_paths(dtype: &Slot, set: &Slot, out: &mut Slot) -> u32 {
     result
 }
 
-/// Puts the mask that selects everything.
+/// Stores in `out` the mask that selects every path.
 pub(crate) fn mask_all(out: &mut Slot) -> u32 {
     // SAFETY: see the head of this file.
     unsafe { vlt_mask_all(out) }
 }
 
-/// Puts the mask of the path and of everything below it.
+/// Stores in `out` the mask that selects the path and every path that begins with it.
 pub(crate) fn mask_prefix(path: &Slot, out: &mut Slot) -> u32 {
     let mut lent_path = path.lent();
     // SAFETY: see the head of this file.
@@ -1364,7 +1446,7 @@ pub(crate) fn mask_prefix(path: &Slot, out: &mut Slot) -> u32 {
     result
 }
 
-/// Puts the mask of the path alone.
+/// Stores in `out` the mask that selects only the path.
 pub(crate) fn mask_exact(path: &Slot, out: &mut Slot) -> u32 {
     let mut lent_path = path.lent();
     // SAFETY: see the head of this file.
@@ -1373,7 +1455,9 @@ pub(crate) fn mask_exact(path: &Slot, out: &mut Slot) -> u32 {
     result
 }
 
-/// Writes which mask it is: 0 of everything, 1 of a path and what is below it, 2 of a path alone.
+/// Writes the kind of the mask to `kind`: 0 for the mask of `vlt_mask_all`, which selects every path; 1 for a mask of
+/// `vlt_mask_prefix`, which selects a path and every path that begins with it; and 2 for a mask of `vlt_mask_exact`,
+/// which selects only one path.
 pub(crate) fn mask_kind(mask: &Slot, kind: &mut u32) -> u32 {
     let mut lent_mask = mask.lent();
     // SAFETY: see the head of this file.
@@ -1382,7 +1466,7 @@ pub(crate) fn mask_kind(mask: &Slot, kind: &mut u32) -> u32 {
     result
 }
 
-/// Puts the path of the mask; the mask of everything has none.
+/// Stores in `out` the path of the mask. Returns 1 if the mask is the one of `vlt_mask_all`, which has no path.
 pub(crate) fn mask_path(mask: &Slot, out: &mut Slot) -> u32 {
     let mut lent_mask = mask.lent();
     // SAFETY: see the head of this file.
@@ -1391,7 +1475,7 @@ pub(crate) fn mask_path(mask: &Slot, out: &mut Slot) -> u32 {
     result
 }
 
-/// Puts a copy of the mask.
+/// Stores in `out` a copy of the mask.
 pub(crate) fn mask_copy(mask: &Slot, out: &mut Slot) -> u32 {
     let mut lent_mask = mask.lent();
     // SAFETY: see the head of this file.
@@ -1400,7 +1484,9 @@ pub(crate) fn mask_copy(mask: &Slot, out: &mut Slot) -> u32 {
     result
 }
 
-/// Puts the mask after the first step of its path. Of the mask of the root alone it returns 120.
+/// Stores in `out` the mask that is left after the first step of the path of this mask. For example, for the mask that
+/// `vlt_mask_prefix` makes of `a.b`, it is the mask that `vlt_mask_prefix` makes of `b`. Returns 120 if the mask
+/// selects only the root.
 pub(crate) fn mask_step_into(mask: &Slot, out: &mut Slot) -> u32 {
     let mut lent_mask = mask.lent();
     // SAFETY: see the head of this file.
@@ -1409,7 +1495,8 @@ pub(crate) fn mask_step_into(mask: &Slot, out: &mut Slot) -> u32 {
     result
 }
 
-/// Writes the first step of the mask's path, as `vlt_path_step` does. Of the mask of everything it returns 121.
+/// Writes the first step of the path of the mask, in the same way as `vlt_path_step` writes a step. Returns 1 if the
+/// path is the root, and 121 if the mask is the one of `vlt_mask_all`, which has no path.
 pub(crate) fn mask_starting_field(mask: &Slot, buffer: &mut [u8], length: &mut usize) -> u32 {
     let mut lent_mask = mask.lent();
     // SAFETY: see the head of this file.
@@ -1418,7 +1505,7 @@ pub(crate) fn mask_starting_field(mask: &Slot, buffer: &mut [u8], length: &mut u
     result
 }
 
-/// Returns 0 if every path is in the mask.
+/// Returns 0 if the mask selects every path, and 1 if it doesn't.
 pub(crate) fn mask_matches_all(mask: &Slot) -> u32 {
     let mut lent_mask = mask.lent();
     // SAFETY: see the head of this file.
@@ -1427,7 +1514,7 @@ pub(crate) fn mask_matches_all(mask: &Slot) -> u32 {
     result
 }
 
-/// Returns 0 if the root is in the mask.
+/// Returns 0 if the mask selects the root, and 1 if it doesn't.
 pub(crate) fn mask_matches_root(mask: &Slot) -> u32 {
     let mut lent_mask = mask.lent();
     // SAFETY: see the head of this file.
@@ -1436,7 +1523,7 @@ pub(crate) fn mask_matches_root(mask: &Slot) -> u32 {
     result
 }
 
-/// Returns 0 if the masks are equal.
+/// Returns 0 if the two masks are equal, and 1 if they aren't.
 pub(crate) fn mask_eq(one: &Slot, other: &Slot) -> u32 {
     if one.is(other) {
         return SAME_SLOT;
@@ -1450,16 +1537,18 @@ pub(crate) fn mask_eq(one: &Slot, other: &Slot) -> u32 {
     result
 }
 
-/// Reads the message of a type from its text in the form of the console, protobuf's text format, for example
-/// `list { element_type { primitive { type: I32 } } }`, and puts it.
+/// Reads the message of a type from its text in the form of the console, and stores the message in `out`. The form is
+/// protobuf's text format, for example `list { element_type { primitive { type: I32 } } }`.
 ///
-/// If the text can't be read, `position` is the first byte that doesn't fit, counted from 1.
+/// Returns 3 if the text isn't UTF-8. If the text can't be read, the call returns 4 and writes the position of the
+/// first byte that doesn't fit, counted from 1, to `position`.
 pub(crate) fn message_from_text(text: &[u8], out: &mut Slot, position: &mut usize) -> u32 {
     // SAFETY: see the head of this file.
     unsafe { vlt_message_from_text(text.as_ptr(), text.len(), out, position) }
 }
 
-/// Writes a message in the form of the console, which reads back as the same message.
+/// Writes the message to `buffer` in the form of the console. `vlt_message_from_text` reads the same message from this
+/// text.
 pub(crate) fn message_to_text(message: &Slot, buffer: &mut [u8], length: &mut usize) -> u32 {
     let mut lent_message = message.lent();
     // SAFETY: see the head of this file.
@@ -1468,7 +1557,7 @@ pub(crate) fn message_to_text(message: &Slot, buffer: &mut [u8], length: &mut us
     result
 }
 
-/// Puts a copy of the message.
+/// Stores in `out` a copy of the message.
 pub(crate) fn message_copy(message: &Slot, out: &mut Slot) -> u32 {
     let mut lent_message = message.lent();
     // SAFETY: see the head of this file.
@@ -1477,7 +1566,7 @@ pub(crate) fn message_copy(message: &Slot, out: &mut Slot) -> u32 {
     result
 }
 
-/// Returns 0 if the messages are equal.
+/// Returns 0 if the two messages are equal, and 1 if they aren't.
 pub(crate) fn message_eq(one: &Slot, other: &Slot) -> u32 {
     if one.is(other) {
         return SAME_SLOT;
@@ -1491,9 +1580,10 @@ pub(crate) fn message_eq(one: &Slot, other: &Slot) -> u32 {
     result
 }
 
-/// Puts the type that the message describes, under a session without plugins. If `allow_unknown` is false, it returns 135
-/// for an extension, because no id is known. If it is true, the extension keeps its metadata. A message that describes no
-/// type returns the number of its first fault, for example 124 for a message without a kind.
+/// Stores in `out` the type that the message describes. No plugin is registered, so no id of an extension is known. If
+/// `allow_unknown` is true, an extension keeps its metadata. If it is false, the call returns 135 for an extension. If
+/// the message describes no type, the call returns the number of its first fault. For example, it returns 124 for a
+/// message without a kind.
 pub(crate) fn message_to_dtype(message: &Slot, allow_unknown: bool, out: &mut Slot) -> u32 {
     let mut lent_message = message.lent();
     // SAFETY: see the head of this file.
@@ -1502,9 +1592,9 @@ pub(crate) fn message_to_dtype(message: &Slot, allow_unknown: bool, out: &mut Sl
     result
 }
 
-/// Puts the normal form of the message: the message of the type that it describes, with every child, flag and number, and
-/// with the metadata of each extension, even if that is empty. `allow_unknown` and the errors are those of
-/// `vlt_message_to_dtype`.
+/// Stores in `out` the normal form of the message. If a message describes a type, its normal form is the message that
+/// `vlt_dtype_to_message` makes of this type. It has every child, flag and number, and the metadata of each extension,
+/// even if the metadata is empty. `allow_unknown` and the errors are those of `vlt_message_to_dtype`.
 pub(crate) fn message_normal(message: &Slot, allow_unknown: bool, out: &mut Slot) -> u32 {
     let mut lent_message = message.lent();
     // SAFETY: see the head of this file.
@@ -1513,16 +1603,18 @@ pub(crate) fn message_normal(message: &Slot, allow_unknown: bool, out: &mut Slot
     result
 }
 
-/// Puts the message that the nodes and the bytes of the texts describe. If they are not the nodes and the texts of one
-/// message, it returns 9, and if a message is nested in more than 128 others, it returns 6.
+/// Stores in `out` the message that the nodes and the bytes of the texts describe. Returns 3 if a name or an id isn't
+/// UTF-8, 6 if a message is nested in more than 128 others, and 9 if the nodes and the texts aren't those of one
+/// message.
 pub(crate) fn message_from_nodes(nodes: &[Node], texts: &[u8], out: &mut Slot) -> u32 {
     // SAFETY: see the head of this file.
     unsafe { vlt_message_from_nodes(nodes.as_ptr(), nodes.len(), texts.as_ptr(), texts.len(), out) }
 }
 
-/// Writes the nodes of the message and the bytes of its texts to the front of the two buffers, and the numbers of both
-/// beside them. If one of the buffers is too small, it writes the two numbers alone. If the message has more names, tags,
-/// types or bytes of a text than 32 bits can count, it returns 9.
+/// Writes the nodes of the message to the front of `nodes`, the bytes of its texts to the front of `texts`, and the
+/// numbers of both to `node_count` and `text_length`. If one of the two buffers is too small, the call returns 7 and
+/// writes only the two numbers. It returns 6 if a message is nested in more than 128 others, and 9 if a number of
+/// names, tags, types or bytes of a text is above 2^32 - 1.
 ///
 /// Nodes and texts are plain bytes, so another thread can read them.
 pub(crate) fn message_to_nodes(

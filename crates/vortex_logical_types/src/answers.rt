@@ -10,9 +10,12 @@ use console_answers::{Answer, Console};
 use console_core::ConsoleError;
 use std::alloc::Global;
 
-/// Writes the answer of the console to a line, which is given without its newline. A line that is blank or a comment, and
-/// one that ends the console, has no answer, and the call returns 1. Each call begins with no named set and no named
-/// session. An answer may have several lines. An error is an answer too: `unreadable at 3: expected ..` returns 0.
+/// Writes the answer that the console prints for this line to `buffer`. The line is passed without its newline. An
+/// answer may have several lines.
+///
+/// If the line is blank, is a comment or ends the console, it has no answer, and the call returns 1. An error is an
+/// answer too. For example, if the answer begins with `unreadable at 3: expected`, the call returns 0. Each call begins
+/// without named sets and named sessions.
 #[unsafe(no_mangle)]
 pub extern "C" fn vlt_answer(
     alloc: Global,

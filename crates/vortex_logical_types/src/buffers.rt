@@ -6,7 +6,8 @@ ghost use Rattle.vortex_logical_types.specs.Answers.{WritesBytes};
 
 use crate::errors::{OK, TOO_SMALL};
 
-/// Writes bytes to the front of a buffer and their number beside it. If they don't fit, it writes the number alone.
+/// Writes the bytes to the front of `buffer` and the number of bytes to `length`, and returns 0. If the bytes don't
+/// fit, it writes only their number and returns 7.
 pub fn write_bytes(bytes: &[u8], buffer: &mut [u8], length: &mut usize) -> u32
     ensures { WritesBytes bytes.now result (buffer.old, length.old) (buffer.new, length.new) }
 {

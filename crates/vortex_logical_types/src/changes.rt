@@ -41,8 +41,8 @@ fn put_fields(
     }
 }
 
-/// Puts the struct without the field at the position, with the nullability of the type. If the position is not below the
-/// number of fields, it returns 117.
+/// Stores in `out` the struct without the field at the position `index`. It has the outer nullability of the original
+/// struct. Returns 5 if the type isn't a struct, and 117 if the position isn't below the number of fields.
 #[unsafe(no_mangle)]
 pub extern "C" fn vlt_struct_without_field(
     alloc: Global,
@@ -85,8 +85,9 @@ fn without(
     put_fields(alloc, out, fields.without_field(alloc, index), n)
 }
 
-/// Puts the struct of the fields of the first type and then those of the other, with the nullability of the first. If a
-/// name is there twice, it returns 118.
+/// Stores in `out` the struct that has the fields of the first struct followed by those of the other. It has the outer
+/// nullability of the first. Returns 5 if one of the types isn't a struct, and 118 if a name occurs in both structs, or
+/// twice in one of them.
 #[unsafe(no_mangle)]
 pub extern "C" fn vlt_struct_disjoint_merge(
     alloc: Global,
@@ -141,10 +142,12 @@ fn join(
     put_fields(alloc, out, fields.disjoint_merge(alloc, others), n)
 }
 
-/// Puts the struct of the first field of each of these names, in their order, with the nullability of the type. If no field
-/// has one of the names, it returns 116.
+/// Stores in `out` the struct that has the fields with these names, in the order of the names. If several fields have
+/// the same name, the first of them is selected. The struct has the outer nullability of the original struct.
 ///
-/// The names lie one after the other in `names`, and `name_lengths` has the number of bytes of each.
+/// The names are passed in the same way as to `vlt_dtype_struct`. Returns 3 if a name isn't UTF-8, 5 if the type isn't
+/// a struct, 9 if the lengths don't add up to the number of bytes, and 116 if one of the names isn't the name of any
+/// field.
 #[unsafe(no_mangle)]
 pub extern "C" fn vlt_struct_project(
     alloc: Global,

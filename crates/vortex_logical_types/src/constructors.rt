@@ -20,14 +20,14 @@ use dtype_base::{DecimalDType, Nullability, PType, VortexResult};
 use dtype_types::DType;
 use std::alloc::Global;
 
-/// Puts a type.
+/// Stores the type in the slot.
 pub fn put_new(alloc: Global, out: &mut Slot, dtype: DType) -> u32
     ensures { PutsThe (Some (tree dtype)) result out.old.value out.new.value }
 {
     put(alloc, out, Object::DType(dtype))
 }
 
-/// Puts the null type.
+/// Stores in `out` the null type.
 #[unsafe(no_mangle)]
 pub extern "C" fn vlt_dtype_null(alloc: Global, out: &mut Slot) -> u32
     ensures { PutsThe (Some (t.null)) result out.old.value out.new.value }
@@ -35,7 +35,7 @@ pub extern "C" fn vlt_dtype_null(alloc: Global, out: &mut Slot) -> u32
     put_new(alloc, out, DType::Null)
 }
 
-/// Puts the type of booleans.
+/// Stores in `out` the type of booleans. The type is nullable if `nullable` is true.
 #[unsafe(no_mangle)]
 pub extern "C" fn vlt_dtype_bool(alloc: Global, nullable: bool, out: &mut Slot) -> u32
     ensures { PutsThe (Some (t.bool (nullability_of nullable))) result out.old.value out.new.value }
@@ -43,7 +43,7 @@ pub extern "C" fn vlt_dtype_bool(alloc: Global, nullable: bool, out: &mut Slot) 
     put_new(alloc, out, DType::Bool(Nullability::from(nullable)))
 }
 
-/// Puts the type of texts.
+/// Stores in `out` the type of texts. The type is nullable if `nullable` is true.
 #[unsafe(no_mangle)]
 pub extern "C" fn vlt_dtype_utf8(alloc: Global, nullable: bool, out: &mut Slot) -> u32
     ensures { PutsThe (Some (t.utf8 (nullability_of nullable))) result out.old.value out.new.value }
@@ -51,7 +51,7 @@ pub extern "C" fn vlt_dtype_utf8(alloc: Global, nullable: bool, out: &mut Slot) 
     put_new(alloc, out, DType::Utf8(Nullability::from(nullable)))
 }
 
-/// Puts the type of byte strings.
+/// Stores in `out` the type of byte strings. The type is nullable if `nullable` is true.
 #[unsafe(no_mangle)]
 pub extern "C" fn vlt_dtype_binary(alloc: Global, nullable: bool, out: &mut Slot) -> u32
     ensures { PutsThe (Some (t.binary (nullability_of nullable))) result out.old.value out.new.value }
@@ -59,7 +59,7 @@ pub extern "C" fn vlt_dtype_binary(alloc: Global, nullable: bool, out: &mut Slot
     put_new(alloc, out, DType::Binary(Nullability::from(nullable)))
 }
 
-/// Puts the type of values that carry their own types.
+/// Stores in `out` the variant type. Its values each carry their own type. The type is nullable if `nullable` is true.
 #[unsafe(no_mangle)]
 pub extern "C" fn vlt_dtype_variant(alloc: Global, nullable: bool, out: &mut Slot) -> u32
     ensures { PutsThe (Some (t.variant (nullability_of nullable))) result out.old.value out.new.value }
@@ -67,7 +67,9 @@ pub extern "C" fn vlt_dtype_variant(alloc: Global, nullable: bool, out: &mut Slo
     put_new(alloc, out, DType::Variant(Nullability::from(nullable)))
 }
 
-/// Puts a primitive type, by its number from 0 to 10.
+/// Stores in `out` a primitive type. The number is 0 for u8, 1 for u16, 2 for u32, 3 for u64, 4 for i8, 5 for i16, 6
+/// for i32, 7 for i64, 8 for f16, 9 for f32 and 10 for f64. Returns 9 if the number is above 10. The type is nullable
+/// if `nullable` is true.
 #[unsafe(no_mangle)]
 pub extern "C" fn vlt_dtype_primitive(
     alloc: Global,
@@ -106,7 +108,10 @@ fn ptype_of_number(number: u32) -> Option<PType>
     }
 }
 
-/// Puts a decimal type of this precision and scale. If the library accepts none of these, it returns 101 to 104.
+/// Stores in `out` the decimal type of this precision and this scale. The type is nullable if `nullable` is true.
+///
+/// Returns 101 if the precision is 0, 102 if the precision is above 76, 103 if the scale is above 76, and 104 if the
+/// scale is above the precision. If several of these are so, it returns the first of these numbers.
 #[unsafe(no_mangle)]
 pub extern "C" fn vlt_dtype_decimal(
     alloc: Global,
@@ -129,8 +134,8 @@ pub extern "C" fn vlt_dtype_decimal(
     }
 }
 
-/// Puts the type of lists of this element type.
-/// If the element has 128 levels, it returns 6.
+/// Stores in `out` a list type: the lists of any length whose elements are of the type in `element`. The list type is
+/// nullable if `nullable` is true. Returns 6 if the element type has 128 levels.
 #[unsafe(no_mangle)]
 pub extern "C" fn vlt_dtype_list(
     alloc: Global,
@@ -172,8 +177,8 @@ fn list_of(alloc: Global, element: &DType, n: Nullability) -> VortexResult<DType
     Ok(made)
 }
 
-/// Puts the type of lists of exactly `size` elements of this type.
-/// If the element has 128 levels, it returns 6.
+/// Stores in `out` a fixed-size list type: the lists of exactly `size` elements of the type in `element`. The list type
+/// is nullable if `nullable` is true. Returns 6 if the element type has 128 levels.
 #[unsafe(no_mangle)]
 pub extern "C" fn vlt_dtype_fixed_size_list(
     alloc: Global,

@@ -1,7 +1,7 @@
 // SPDX-License-Identifier: Apache-2.0
 // SPDX-FileCopyrightText: Copyright the Vortex contributors
 
-// What a set asks for below a path.
+// Which paths of a set continue after a path.
 ghost use Rattle.std.specs.Prelude.{◌≡◌, ◌∷◌, ℕ, List, [], map};
 ghost use Rattle.std.specs.FinSet as set;
 ghost use Rattle.std.specs.declared.option.Option.TheVariants.{Some};
@@ -18,7 +18,7 @@ use dtype_base::VortexResult;
 use dtype_paths::{Field, FieldPath, FieldPathCursor, FieldPathSet};
 use std::alloc::Global;
 
-// Returns the cursor of the set at the path, if a path of the set goes on there.
+// Returns the cursor of the set at the path, or `None` if no path of the set begins with the path.
 #[tactic(auto, using(std::proofs::lemmas::Grind::common_steps, crate::proofs::Below::below_none))]
 fn cursor_at<'a>(paths: &'a FieldPathSet, path: &FieldPath) -> Option<FieldPathCursor<'a>>
     ensures { contains_below_if result ≡ after_steps path.now (set.contains paths.now) }
@@ -30,8 +30,10 @@ fn cursor_at<'a>(paths: &'a FieldPathSet, path: &FieldPath) -> Option<FieldPathC
     Some(here)
 }
 
-/// Writes what the set asks for below the path: whether the path itself is in it, whether a path of it goes on with the
-/// element, and by how many names paths of it go on. Returns 1 if no path of the set begins with the path.
+/// Writes how paths of the set continue after the path `path`. `is_end` is true if the path itself is in the set.
+/// `has_element` is true if some path of the set continues with the step to the element. `name_count` is the number of
+/// different names with which paths of the set continue. For example, for the set of `a`, `a.b` and `a.c` and the path
+/// `a` the call writes true, false and 2. Returns 1 if no path of the set begins with the path.
 #[unsafe(no_mangle)]
 pub extern "C" fn vlt_set_below(
     alloc: Global,
@@ -97,8 +99,9 @@ fn below(
     OK
 }
 
-/// Puts the names by which paths of the set go on below the path: a list of paths of one step each, in no promised order.
-/// Returns 1 if no path of the set begins with the path.
+/// Stores in `out` the list of the names with which paths of the set continue after the path `path`. The list contains
+/// a path of one step for each name, in no particular order. For example, for the set of `a.b` and `a.c` and the path
+/// `a` the list contains the paths `b` and `c`. Returns 1 if no path of the set begins with the path.
 #[unsafe(no_mangle)]
 pub extern "C" fn vlt_set_names_below(
     alloc: Global,
@@ -147,7 +150,7 @@ fn names(alloc: Global, paths: &FieldPathSet, path: &FieldPath, out: &mut Slot) 
     }
 }
 
-// Returns a path of one step for each name with which paths of the cursor go on.
+// Returns a path of one step for each name with which paths of the cursor begin.
 fn names_at(alloc: Global, cursor: FieldPathCursor<'_>) -> VortexResult<Vec<FieldPath>>
     ensures { Makes result (λ ps. (ns : List (List ℕ × PathPredicate)) × AreNames (contains_below cursor.entry) ns × (ps.items ≡ map (λ e. Name e.0 ∷ []) ns)) }
 {

@@ -8,38 +8,39 @@ ghost use Rattle.dtype_base.specs.Errors.{number_of};
 use console_core::ConsoleError;
 use dtype_base::VortexError;
 
-/// The call did what it says, or the answer is yes.
+/// The call has succeeded, or the answer is yes.
 pub const OK: u32 = 0;
-/// There is none, or the answer is no.
+/// There is no result, or the answer is no.
 pub const NONE: u32 = 1;
-/// A slot is empty or has an object of another kind.
+/// A slot is empty or contains an object of another kind than the call takes.
 pub const KIND: u32 = 2;
 /// A text isn't UTF-8.
 pub const NOT_UTF8: u32 = 3;
 /// A text can't be read.
 pub const UNREADABLE: u32 = 4;
-/// A condition of the call isn't met.
+/// The call has a precondition, and the arguments don't meet it.
 pub const CONDITION: u32 = 5;
-/// A type would be nested too deeply.
+/// A type or a message would be nested more than 128 levels deep.
 pub const TOO_DEEP: u32 = 6;
 /// A buffer is too small.
 pub const TOO_SMALL: u32 = 7;
-/// Two slots of one call are the same. Only the callers' side returns it.
+/// Two slots of one call are the same slot. No export returns this number. The code that calls the exports does, for
+/// example the inline functions of the C header.
 pub const SAME_SLOT: u32 = 8;
 /// An argument is out of its range.
 pub const RANGE: u32 = 9;
-/// The first of the library's errors: an allocation failed.
+/// An allocation failed. This is also the number to which the number of an error of the library is added.
 pub const LIBRARY: u32 = 100;
 
-/// Returns what an export returns of this error.
+/// Returns the number that an export returns for this error: 100 plus the number of the error.
 pub fn of_library(error: VortexError) -> u32
     ensures { result ≡ 100 + number_of error }
 {
     LIBRARY + u32::from(error.number())
 }
 
-/// Returns what an export returns of this error of the console's reader. If a text can't be read, it writes the position of
-/// the first byte that doesn't fit, counted from 1.
+/// Returns the number that an export returns for this error of the reader of the console. If a text can't be read, the
+/// number is 4, and the position of the first byte that doesn't fit, counted from 1, is written to `position`.
 pub fn of_console(error: &ConsoleError, position: &mut usize) -> u32
     ensures code { 4 ≤ result }
     ensures unchanged { (result ≡ 4) ⊎ (position.new ≡ position.old) }

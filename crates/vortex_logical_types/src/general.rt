@@ -10,7 +10,7 @@ use crate::errors::OK;
 use c_objects::{Object, Slot};
 use std::alloc::Global;
 
-/// Returns the version of this interface: 1.
+/// Returns the version of this interface, which is 1.
 #[unsafe(no_mangle)]
 pub extern "C" fn vlt_abi_version() -> u32
     ensures { result ≡ 1 }
@@ -28,8 +28,8 @@ pub extern "C" fn vlt_free(alloc: Global, slot: &mut Slot)
     }
 }
 
-/// Returns the kind of the object in the slot: 0 none, 1 a type, 2 a path, 3 a set of paths, 4 a list of paths, 5 a mask,
-/// 6 the message of a type.
+/// Returns the kind of the object in the slot: 0 if the slot is empty, 1 for a type, 2 for a path, 3 for a set of
+/// paths, 4 for a list of paths, 5 for a mask, and 6 for the message of a type.
 #[unsafe(no_mangle)]
 pub extern "C" fn vlt_kind(alloc: Global, slot: &mut Slot) -> u32
     ensures kind { result ≡ object_kind slot.old.value }

@@ -17,9 +17,14 @@ use dtype_base::{FieldNames, Nullability};
 use dtype_types::{DType, StructFields, UnionVariants};
 use std::alloc::Global;
 
-/// Puts a struct of these names and types, in order. If there are more or fewer names than types, it returns 9.
+/// Stores in `out` the struct type of these names and types, in order. The struct type is nullable if `nullable` is
+/// true.
 ///
-/// The names lie one after the other in `names`, and `name_lengths` has the number of bytes of each.
+/// `names` contains the bytes of all names, one name directly after the other, and `name_lengths` contains the number
+/// of bytes of each name. For example, the names `id` and `city` are the bytes `idcity` with the lengths 2 and 4.
+///
+/// Returns 3 if a name isn't UTF-8, 6 if one of the types has 128 levels, and 9 if the lengths don't add up to the
+/// number of bytes or if there are more or fewer names than types.
 #[unsafe(no_mangle)]
 pub extern "C" fn vlt_dtype_struct(
     alloc: Global,
@@ -57,7 +62,13 @@ fn put_struct(
     }
 }
 
-/// Puts a union of these names, types and tags, in order, as `vlt_dtype_struct` takes names.
+/// Stores in `out` the union type of these names, types and tags, in order. The names are passed in the same way as to
+/// `vlt_dtype_struct`. The union type is nullable if `nullable` is true.
+///
+/// Returns 3 if a name isn't UTF-8, 6 if one of the types has 128 levels, and 9 if the lengths don't add up to the
+/// number of bytes. Otherwise it returns the first of these numbers that applies: 110 if there are more or fewer types
+/// than names, 111 if there are more or fewer tags than names, 112 if there are no names, 113 if a tag occurs twice,
+/// and 115 if a name occurs twice.
 #[unsafe(no_mangle)]
 pub extern "C" fn vlt_dtype_union(
     alloc: Global,
@@ -112,7 +123,12 @@ fn put_variants(
     }
 }
 
-/// Puts a union of these names and types with the tags 0, 1, 2 and so on, as `vlt_dtype_struct` takes names.
+/// Stores in `out` the union type of these names and types with the tags 0, 1, 2 and so on. The names are passed in the
+/// same way as to `vlt_dtype_struct`. The union type is nullable if `nullable` is true.
+///
+/// Returns 3 if a name isn't UTF-8, 6 if one of the types has 128 levels, and 9 if the lengths don't add up to the
+/// number of bytes. Otherwise it returns the first of these numbers that applies: 114 if there are more than 256 names,
+/// 110 if there are more or fewer types than names, 112 if there are no names, and 115 if a name occurs twice.
 #[unsafe(no_mangle)]
 pub extern "C" fn vlt_dtype_union_consecutive(
     alloc: Global,

@@ -4,10 +4,11 @@
 // How deep a type is.
 use dtype_types::{DType, DTypeIter};
 
-/// The most levels below a type that is made through these exports. Dropping one of these can't exhaust the stack.
+/// The greatest number of levels below a type that is made by these exports. Dropping such a type can't exhaust the
+/// stack.
 pub const MAX_LEVELS: u32 = 128;
 
-/// Returns whether the type has at most this many levels below it, for example 1 for `list(i32)`.
+/// Returns whether the type has at most this many levels below it. For example, `list(i32)` has 1 level below it.
 #[cycle(levels)]
 pub fn fits(dtype: &DType, levels: u32) -> bool {
     match dtype {

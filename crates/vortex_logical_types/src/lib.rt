@@ -1,16 +1,22 @@
 // SPDX-License-Identifier: Apache-2.0
 // SPDX-FileCopyrightText: Copyright the Vortex contributors
 
-//! The calls of the library as functions for C, which `rt lib` builds into `out/libvortex_logical_types.a`.
+//! The functions of the library for C. `rt lib` builds them into `out/libvortex_logical_types.a`.
 //!
-//! Each export takes its objects in slots (`c_objects`), and returns what happened as a number: 0 to 9 as in `errors`, or
-//! 100 and the number of the library's error. A slot that an export only reads keeps its object. A slot `out` has a new
-//! object exactly if the export returns 0, and what it had before is dropped then.
+//! An exported function takes its objects in slots (`c_objects`) and returns a number: 0 to 9 (`errors`), or 100 plus
+//! the number of an error of the library. If a function only reads a slot, the slot keeps its object. If a function
+//! stores a result in the slot `out` and returns 0, the object that `out` contained before is dropped. If it returns
+//! another number, `out` is unchanged.
 //!
-//! What is proved of each export is what its contract says of the values of its slots (`specs/`): which code it returns in
-//! each case, and what it leaves. Of the texts in the form of the console, and of the answers of `vlt_answer`, it is proved
-//! that nothing else is written, but not what they are. No export requires anything of its caller, except what C has to meet
-//! for the types of the parameters: valid pointers, slots that are distinct, and one thread at a time.
+//! These results are the same for all functions, so the comments of the functions don't repeat them: 2 if a slot is
+//! empty or contains an object of another kind than the function takes, 7 if a buffer is too small, and 100 if an
+//! allocation fails.
+//!
+//! What is proved of an exported function is its contract. It specifies what the slots of the function contain
+//! afterwards and, for most functions, which number is returned in which case (`specs/`). For the texts in the form of
+//! the console, and for the answers of `vlt_answer`, it is only proved that nothing else is written, and not which
+//! bytes are written. No exported function requires anything of its caller, except what C must guarantee for the types
+//! of the parameters: valid pointers, distinct slots, and one thread at a time.
 #![tactic(auto)]
 
 mod answers;

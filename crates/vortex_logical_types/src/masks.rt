@@ -17,7 +17,7 @@ use c_objects::{Object, Slot};
 use dtype_paths::{FieldMask, FieldPath};
 use std::alloc::Global;
 
-/// Puts the mask that selects everything.
+/// Stores in `out` the mask that selects every path.
 #[unsafe(no_mangle)]
 pub extern "C" fn vlt_mask_all(alloc: Global, out: &mut Slot) -> u32
     ensures { Gives mask_in (Some All) result out.old.value out.new.value }
@@ -25,7 +25,7 @@ pub extern "C" fn vlt_mask_all(alloc: Global, out: &mut Slot) -> u32
     put(alloc, out, Object::Mask(FieldMask::All))
 }
 
-/// Puts the mask of the path and of everything below it.
+/// Stores in `out` the mask that selects the path and every path that begins with it.
 #[unsafe(no_mangle)]
 pub extern "C" fn vlt_mask_prefix(alloc: Global, path: &mut Slot, out: &mut Slot) -> u32
     ensures made { GivesOf (path_in path.old.value) mask_in (λ p. Some (Prefix p)) result out.old.value out.new.value }
@@ -51,7 +51,7 @@ fn prefix(alloc: Global, path: &FieldPath, out: &mut Slot) -> u32
     }
 }
 
-/// Puts the mask of the path alone.
+/// Stores in `out` the mask that selects only the path.
 #[unsafe(no_mangle)]
 pub extern "C" fn vlt_mask_exact(alloc: Global, path: &mut Slot, out: &mut Slot) -> u32
     ensures made { GivesOf (path_in path.old.value) mask_in (λ p. Some (Exact p)) result out.old.value out.new.value }
@@ -77,7 +77,9 @@ fn exact(alloc: Global, path: &FieldPath, out: &mut Slot) -> u32
     }
 }
 
-/// Writes which mask it is: 0 of everything, 1 of a path and what is below it, 2 of a path alone.
+/// Writes the kind of the mask to `kind`: 0 for the mask of `vlt_mask_all`, which selects every path; 1 for a mask of
+/// `vlt_mask_prefix`, which selects a path and every path that begins with it; and 2 for a mask of `vlt_mask_exact`,
+/// which selects only one path.
 #[unsafe(no_mangle)]
 pub extern "C" fn vlt_mask_kind(alloc: Global, mask: &mut Slot, kind: &mut u32) -> u32
     ensures kind { WritesOf (mask_in mask.old.value) mask_number result kind.old kind.new }
@@ -105,7 +107,7 @@ fn kind_of(mask: &FieldMask, kind: &mut u32) -> u32
     OK
 }
 
-/// Puts the path of the mask; the mask of everything has none.
+/// Stores in `out` the path of the mask. Returns 1 if the mask is the one of `vlt_mask_all`, which has no path.
 #[unsafe(no_mangle)]
 pub extern "C" fn vlt_mask_path(alloc: Global, mask: &mut Slot, out: &mut Slot) -> u32
     ensures made { GivesOf (mask_in mask.old.value) path_in mask_path result out.old.value out.new.value }
@@ -131,7 +133,7 @@ fn path_of(alloc: Global, mask: &FieldMask, out: &mut Slot) -> u32
     }
 }
 
-/// Puts a copy of the mask.
+/// Stores in `out` a copy of the mask.
 #[unsafe(no_mangle)]
 pub extern "C" fn vlt_mask_copy(alloc: Global, mask: &mut Slot, out: &mut Slot) -> u32
     ensures made { GivesOf (mask_in mask.old.value) mask_in Some result out.old.value out.new.value }
@@ -157,7 +159,9 @@ fn copy(alloc: Global, mask: &FieldMask, out: &mut Slot) -> u32
     }
 }
 
-/// Puts the mask after the first step of its path. Of the mask of the root alone it returns 120.
+/// Stores in `out` the mask that is left after the first step of the path of this mask. For example, for the mask that
+/// `vlt_mask_prefix` makes of `a.b`, it is the mask that `vlt_mask_prefix` makes of `b`. Returns 120 if the mask
+/// selects only the root.
 #[unsafe(no_mangle)]
 pub extern "C" fn vlt_mask_step_into(alloc: Global, mask: &mut Slot, out: &mut Slot) -> u32
     ensures made { StepsMask (mask_in mask.old.value) result out.old.value out.new.value }
@@ -192,7 +196,8 @@ fn put_stepped(alloc: Global, mask: FieldMask, out: &mut Slot) -> u32
     }
 }
 
-/// Writes the first step of the mask's path, as `vlt_path_step` does. Of the mask of everything it returns 121.
+/// Writes the first step of the path of the mask, in the same way as `vlt_path_step` writes a step. Returns 1 if the
+/// path is the root, and 121 if the mask is the one of `vlt_mask_all`, which has no path.
 #[unsafe(no_mangle)]
 pub extern "C" fn vlt_mask_starting_field(
     alloc: Global,
@@ -221,7 +226,7 @@ fn starting_field(mask: &FieldMask, buffer: &mut [u8], length: &mut usize) -> u3
     }
 }
 
-/// Returns 0 if every path is in the mask.
+/// Returns 0 if the mask selects every path, and 1 if it doesn't.
 #[unsafe(no_mangle)]
 pub extern "C" fn vlt_mask_matches_all(alloc: Global, mask: &mut Slot) -> u32
     ensures answer { Asks (mask_in mask.old.value) (λ m. (q : List Field) → In m q) result }
@@ -244,7 +249,7 @@ fn matches_all(mask: &FieldMask) -> u32
     if mask.matches_all() { OK } else { NONE }
 }
 
-/// Returns 0 if the root is in the mask.
+/// Returns 0 if the mask selects the root, and 1 if it doesn't.
 #[unsafe(no_mangle)]
 pub extern "C" fn vlt_mask_matches_root(alloc: Global, mask: &mut Slot) -> u32
     ensures answer { Asks (mask_in mask.old.value) (λ m. In m []) result }
@@ -267,7 +272,7 @@ fn matches_root(mask: &FieldMask) -> u32
     if mask.matches_root() { OK } else { NONE }
 }
 
-/// Returns 0 if the masks are equal.
+/// Returns 0 if the two masks are equal, and 1 if they aren't.
 #[unsafe(no_mangle)]
 pub extern "C" fn vlt_mask_eq(alloc: Global, one: &mut Slot, other: &mut Slot) -> u32
     ensures answer { AsksBoth (mask_in one.old.value) (mask_in other.old.value) (λ a b. a ≡ b) result }

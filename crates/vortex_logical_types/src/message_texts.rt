@@ -17,10 +17,11 @@ use dtype_messages::pb;
 use std::alloc::Global;
 use std::str;
 
-/// Reads the message of a type from its text in the form of the console, protobuf's text format, for example
-/// `list { element_type { primitive { type: I32 } } }`, and puts it.
+/// Reads the message of a type from its text in the form of the console, and stores the message in `out`. The form is
+/// protobuf's text format, for example `list { element_type { primitive { type: I32 } } }`.
 ///
-/// If the text can't be read, `position` is the first byte that doesn't fit, counted from 1.
+/// Returns 3 if the text isn't UTF-8. If the text can't be read, the call returns 4 and writes the position of the
+/// first byte that doesn't fit, counted from 1, to `position`.
 #[unsafe(no_mangle)]
 pub extern "C" fn vlt_message_from_text(
     alloc: Global,
@@ -54,7 +55,8 @@ fn read_message(alloc: Global, text: &str) -> ConsoleResult<pb::DType> {
     line.then_end(message)
 }
 
-/// Writes a message in the form of the console, which reads back as the same message.
+/// Writes the message to `buffer` in the form of the console. `vlt_message_from_text` reads the same message from this
+/// text.
 #[unsafe(no_mangle)]
 pub extern "C" fn vlt_message_to_text(
     alloc: Global,

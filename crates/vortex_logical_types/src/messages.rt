@@ -22,7 +22,7 @@ use dtype_types::DType;
 use std::alloc::Global;
 use vortex_dtype::{DTypeProto, DTypeSession};
 
-/// Puts a message that a call of the library made, or returns its error.
+/// Stores in the slot the message that a call of the library returned, or returns the number of its error.
 fn put_message(alloc: Global, out: &mut Slot, made: VortexResult<pb::DType>) -> u32
     ensures { PutsMessage made result out.old.value out.new.value }
 {
@@ -32,7 +32,7 @@ fn put_message(alloc: Global, out: &mut Slot, made: VortexResult<pb::DType>) -> 
     }
 }
 
-/// Puts a copy of the message.
+/// Stores in `out` a copy of the message.
 #[unsafe(no_mangle)]
 pub extern "C" fn vlt_message_copy(alloc: Global, message: &mut Slot, out: &mut Slot) -> u32
     ensures made { GivesOf (message_in message.old.value) message_in Some result out.old.value out.new.value }
@@ -55,7 +55,7 @@ fn copy(alloc: Global, proto: &pb::DType, out: &mut Slot) -> u32
     put_message(alloc, out, proto.try_clone(alloc))
 }
 
-/// Returns 0 if the messages are equal.
+/// Returns 0 if the two messages are equal, and 1 if they aren't.
 #[unsafe(no_mangle)]
 pub extern "C" fn vlt_message_eq(alloc: Global, one: &mut Slot, other: &mut Slot) -> u32
     ensures answer { AsksBoth (message_in one.old.value) (message_in other.old.value) (λ m n. m ≡ n) result }
@@ -91,9 +91,10 @@ fn eq(one: &pb::DType, other: &pb::DType) -> u32
     if *one == *other { OK } else { NONE }
 }
 
-/// Puts the type that the message describes, under a session without plugins. If `allow_unknown` is false, it returns 135
-/// for an extension, because no id is known. If it is true, the extension keeps its metadata. A message that describes no
-/// type returns the number of its first fault, for example 124 for a message without a kind.
+/// Stores in `out` the type that the message describes. No plugin is registered, so no id of an extension is known. If
+/// `allow_unknown` is true, an extension keeps its metadata. If it is false, the call returns 135 for an extension. If
+/// the message describes no type, the call returns the number of its first fault. For example, it returns 124 for a
+/// message without a kind.
 #[unsafe(no_mangle)]
 pub extern "C" fn vlt_message_to_dtype(
     alloc: Global,
@@ -155,9 +156,9 @@ fn read_strictly(alloc: Global, proto: &pb::DType) -> VortexResult<DType>
     DType::from_proto(alloc, proto, &session)
 }
 
-/// Puts the normal form of the message: the message of the type that it describes, with every child, flag and number, and
-/// with the metadata of each extension, even if that is empty. `allow_unknown` and the errors are those of
-/// `vlt_message_to_dtype`.
+/// Stores in `out` the normal form of the message. If a message describes a type, its normal form is the message that
+/// `vlt_dtype_to_message` makes of this type. It has every child, flag and number, and the metadata of each extension,
+/// even if the metadata is empty. `allow_unknown` and the errors are those of `vlt_message_to_dtype`.
 #[unsafe(no_mangle)]
 pub extern "C" fn vlt_message_normal(
     alloc: Global,
@@ -194,7 +195,7 @@ fn normal_form(alloc: Global, proto: &pb::DType, allow_unknown: bool) -> VortexR
     Ok(dtype.to_proto(alloc)?)
 }
 
-/// Puts the message that describes the type.
+/// Stores in `out` the message that describes the type.
 #[unsafe(no_mangle)]
 pub extern "C" fn vlt_dtype_to_message(alloc: Global, dtype: &mut Slot, out: &mut Slot) -> u32
     ensures made { GivesOf (type_in dtype.old.value) message_in (λ t. Some (written t)) result out.old.value out.new.value }

@@ -15,7 +15,8 @@ use dtype_types::DType;
 use std::alloc::Global;
 use std::str;
 
-/// Returns the names whose bytes lie one after the other, each of its length, or what the export returns instead.
+/// Returns the names with these lengths, whose bytes are directly one after the other in `names`. If they can't be
+/// read, it returns the number that the export returns.
 pub fn names_of(alloc: Global, names: &[u8], lengths: &[usize]) -> Result<FieldNames, u32>
     ensures { MatchResult result
         (λ ns. names_cut names.now lengths.now ≡ Some ns)
@@ -65,7 +66,8 @@ fn push_name(alloc: Global, all: &mut Vec<FieldName>, name: &str) -> Result<(), 
     }
 }
 
-/// Returns copies of the types in these slots, or what the export returns instead. The slots keep them.
+/// Returns copies of the types in these slots, which keep their types. If a slot contains no type or an allocation
+/// fails, it returns the number that the export returns.
 pub fn types_of(alloc: Global, slots: &mut [Slot]) -> Result<Vec<DType>, u32>
     ensures copies { MatchResult result
         (λ v. each_in type_in (objects_in slots.old) ≡ Some (map tree v.items))

@@ -14,8 +14,9 @@ use c_objects::{Object, Slot};
 use dtype_messages::pb;
 use std::alloc::Global;
 
-/// Puts the message that the nodes and the bytes of the texts describe. If they are not the nodes and the texts of one
-/// message, it returns 9, and if a message is nested in more than 128 others, it returns 6.
+/// Stores in `out` the message that the nodes and the bytes of the texts describe. Returns 3 if a name or an id isn't
+/// UTF-8, 6 if a message is nested in more than 128 others, and 9 if the nodes and the texts aren't those of one
+/// message.
 #[unsafe(no_mangle)]
 pub extern "C" fn vlt_message_from_nodes(
     alloc: Global,
@@ -43,9 +44,10 @@ fn code_of(fault: NodeFault) -> u32
     }
 }
 
-/// Writes the nodes of the message and the bytes of its texts to the front of the two buffers, and the numbers of both
-/// beside them. If one of the buffers is too small, it writes the two numbers alone. If the message has more names, tags,
-/// types or bytes of a text than 32 bits can count, it returns 9.
+/// Writes the nodes of the message to the front of `nodes`, the bytes of its texts to the front of `texts`, and the
+/// numbers of both to `node_count` and `text_length`. If one of the two buffers is too small, the call returns 7 and
+/// writes only the two numbers. It returns 6 if a message is nested in more than 128 others, and 9 if a number of
+/// names, tags, types or bytes of a text is above 2^32 - 1.
 ///
 /// Nodes and texts are plain bytes, so another thread can read them.
 #[unsafe(no_mangle)]

@@ -14,7 +14,8 @@ use dtype_base::VortexResult;
 use dtype_types::DType;
 use std::alloc::Global;
 
-/// Puts an object into a slot, and drops what was there.
+/// Stores the object in the slot and returns 0. The object that the slot contained is dropped. If an allocation fails,
+/// the slot is unchanged, and the call returns 100.
 pub fn put(alloc: Global, slot: &mut Slot, object: Object) -> u32
     ensures { ((result ≡ 0) × (slot.new.value ≡ Some object)) ⊎ ((result ≡ 100) × (slot.new.value ≡ slot.old.value)) }
 {
@@ -27,7 +28,7 @@ pub fn put(alloc: Global, slot: &mut Slot, object: Object) -> u32
     }
 }
 
-/// Puts a type that a call of the library made, or returns its error.
+/// Stores in the slot the type that a call of the library returned, or returns the number of its error.
 pub fn put_made(alloc: Global, slot: &mut Slot, made: VortexResult<DType>) -> u32
     ensures { PutsMade made result slot.old.value slot.new.value }
 {
@@ -37,7 +38,7 @@ pub fn put_made(alloc: Global, slot: &mut Slot, made: VortexResult<DType>) -> u3
     }
 }
 
-/// Puts a copy of a type, if there is one.
+/// Stores in the slot a copy of the type, or returns 1 if there is no type.
 pub fn put_copy(alloc: Global, slot: &mut Slot, dtype: Option<&DType>) -> u32
     ensures { PutsThe (shown tree dtype.entry) result slot.old.value slot.new.value }
 {

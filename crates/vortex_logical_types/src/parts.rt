@@ -18,7 +18,7 @@ use dtype_base::PType;
 use dtype_types::DType;
 use std::alloc::Global;
 
-/// Puts the element type of a list or of a fixed-size list.
+/// Stores in `out` the element type of a list or of a fixed-size list. Returns 1 if the type is of another kind.
 #[unsafe(no_mangle)]
 pub extern "C" fn vlt_dtype_element(alloc: Global, dtype: &mut Slot, out: &mut Slot) -> u32
     ensures puts { Puts (type_in dtype.old.value) any_size_list_element result out.old.value out.new.value }
@@ -41,7 +41,7 @@ fn element(alloc: Global, dtype: &DType, out: &mut Slot) -> u32
     put_copy(alloc, out, dtype.as_any_size_list_element_opt())
 }
 
-/// Puts the key type of a map.
+/// Stores in `out` the key type of a map. Returns 1 if the type isn't a map.
 #[unsafe(no_mangle)]
 pub extern "C" fn vlt_dtype_key(alloc: Global, dtype: &mut Slot, out: &mut Slot) -> u32
     ensures puts { Puts (type_in dtype.old.value) key_of result out.old.value out.new.value }
@@ -67,7 +67,7 @@ fn key(alloc: Global, dtype: &DType, out: &mut Slot) -> u32
     }
 }
 
-/// Puts the value type of a map.
+/// Stores in `out` the value type of a map. Returns 1 if the type isn't a map.
 #[unsafe(no_mangle)]
 pub extern "C" fn vlt_dtype_value(alloc: Global, dtype: &mut Slot, out: &mut Slot) -> u32
     ensures puts { Puts (type_in dtype.old.value) value_of result out.old.value out.new.value }
@@ -93,7 +93,7 @@ fn value(alloc: Global, dtype: &DType, out: &mut Slot) -> u32
     }
 }
 
-/// Puts the storage type of an extension.
+/// Stores in `out` the storage type of an extension. Returns 1 if the type isn't an extension.
 #[unsafe(no_mangle)]
 pub extern "C" fn vlt_dtype_storage(alloc: Global, dtype: &mut Slot, out: &mut Slot) -> u32
     ensures puts { Puts (type_in dtype.old.value) storage_of result out.old.value out.new.value }
@@ -119,7 +119,8 @@ fn storage(alloc: Global, dtype: &DType, out: &mut Slot) -> u32
     }
 }
 
-/// Writes the number of a primitive type: 0 u8, 1 u16, 2 u32, 3 u64, 4 i8, 5 i16, 6 i32, 7 i64, 8 f16, 9 f32, 10 f64.
+/// Writes the number of a primitive type to `number`: 0 u8, 1 u16, 2 u32, 3 u64, 4 i8, 5 i16, 6 i32, 7 i64, 8 f16, 9
+/// f32, 10 f64. Returns 1 if the type isn't primitive.
 #[unsafe(no_mangle)]
 pub extern "C" fn vlt_dtype_ptype(alloc: Global, dtype: &mut Slot, number: &mut u32) -> u32
     ensures writes { Writes (type_in dtype.old.value) ptype_number_of result number.old number.new }
@@ -166,7 +167,7 @@ fn number_of_ptype(ptype: PType) -> u32
     }
 }
 
-/// Writes the id of an extension.
+/// Writes the id of an extension to `buffer`. Returns 1 if the type isn't an extension.
 #[unsafe(no_mangle)]
 pub extern "C" fn vlt_dtype_id(
     alloc: Global,
@@ -197,7 +198,7 @@ fn id(dtype: &DType, buffer: &mut [u8], length: &mut usize) -> u32
     }
 }
 
-/// Writes the metadata of an extension.
+/// Writes the metadata of an extension to `buffer`. Returns 1 if the type isn't an extension.
 #[unsafe(no_mangle)]
 pub extern "C" fn vlt_dtype_metadata(
     alloc: Global,
@@ -228,7 +229,7 @@ fn metadata(dtype: &DType, buffer: &mut [u8], length: &mut usize) -> u32
     }
 }
 
-/// Writes the size of a fixed-size list.
+/// Writes the size of a fixed-size list to `size`. Returns 1 if the type isn't a fixed-size list.
 #[unsafe(no_mangle)]
 pub extern "C" fn vlt_dtype_fixed_size(alloc: Global, dtype: &mut Slot, size: &mut u32) -> u32
     ensures writes { Writes (type_in dtype.old.value) fixed_size_of result size.old size.new }
@@ -257,7 +258,7 @@ fn fixed_size(dtype: &DType, size: &mut u32) -> u32
     }
 }
 
-/// Writes the precision and the scale of a decimal.
+/// Writes the precision and the scale of a decimal to `precision` and `scale`. Returns 1 if the type isn't a decimal.
 #[unsafe(no_mangle)]
 pub extern "C" fn vlt_dtype_decimal_parts(
     alloc: Global,
@@ -292,7 +293,7 @@ fn decimal_parts(dtype: &DType, precision: &mut u8, scale: &mut i8) -> u32
     }
 }
 
-/// Returns 0 if the keys of the map are declared sorted, and 5 if the type is no map.
+/// Returns 0 if the keys of the map are declared to be sorted, 1 if they aren't, and 5 if the type isn't a map.
 #[unsafe(no_mangle)]
 pub extern "C" fn vlt_dtype_keys_sorted(alloc: Global, dtype: &mut Slot) -> u32
     ensures answer { Within (type_in dtype.old.value) map_parts (λ code. result ≡ code) (λ m. result ≡ holds m.2) }

@@ -22,8 +22,10 @@ use std::str;
 use std::string::String;
 use vortex_dtype::FieldPathProto;
 
-/// Puts the path that the message of a path describes, whose parts have these names, as `vlt_path_from_steps` takes names.
-/// The length `ELEMENT` (the greatest `usize`) stands for a part without a kind, for which it returns 136.
+/// Stores in `out` the path that the message of a path describes. The names of the parts of the message are passed in
+/// the same way as to `vlt_path_from_steps`. The length `ELEMENT` (the greatest `usize`) stands for a part without a
+/// kind. A message that has such a part describes no path, and the call returns 136. Returns 3 if a name isn't UTF-8,
+/// and 9 if the lengths don't add up to the number of bytes.
 #[unsafe(no_mangle)]
 pub extern "C" fn vlt_path_from_message(
     alloc: Global,
@@ -73,9 +75,11 @@ fn part(alloc: Global, names: &mut Names<'_>, length: usize) -> Result<pb::Field
 }
 
 /// Reads the message of a path from its text in the form of the console, for example
-/// `path { name: "a" } path { name: "b" }`, and puts the path that it describes. For a part without a kind it returns 136.
+/// `path { name: "a" } path { name: "b" }`, and stores in `out` the path that it describes. Returns 136 if a part of
+/// the message has no kind.
 ///
-/// If the text can't be read, `position` is the first byte that doesn't fit, counted from 1.
+/// Returns 3 if the text isn't UTF-8. If the text can't be read, the call returns 4 and writes the position of the
+/// first byte that doesn't fit, counted from 1, to `position`.
 #[unsafe(no_mangle)]
 pub extern "C" fn vlt_path_from_message_text(
     alloc: Global,

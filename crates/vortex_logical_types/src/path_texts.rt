@@ -16,9 +16,11 @@ use dtype_paths::{Field, FieldPath};
 use std::alloc::Global;
 use std::str;
 
-/// Reads a path from its text in the form of the console, for example `a.[].b`, or `.` for the root, and puts it.
+/// Reads a path from its text in the form of the console and stores it in `out`. For example, `a.[].b` is a path of
+/// three steps, and `.` is the root.
 ///
-/// If the text can't be read, `position` is the first byte that doesn't fit, counted from 1.
+/// Returns 3 if the text isn't UTF-8. If the text can't be read, the call returns 4 and writes the position of the
+/// first byte that doesn't fit, counted from 1, to `position`.
 #[unsafe(no_mangle)]
 pub extern "C" fn vlt_path_from_text(
     alloc: Global,
@@ -68,7 +70,8 @@ fn read_step(alloc: Global, line: &mut Line<'_>) -> ConsoleResult<Field> {
     Ok(Field::Name(line.step_name(alloc)?))
 }
 
-/// Writes a path in the form of the console, which reads back as the same path.
+/// Writes the path to `buffer` in the form of the console, for example `a.[].b`. `vlt_path_from_text` reads the same
+/// path from this text.
 #[unsafe(no_mangle)]
 pub extern "C" fn vlt_path_to_text(
     alloc: Global,

@@ -25,10 +25,10 @@ use std::alloc::Global;
 use std::hash::{DefaultHasher, Hash, Hasher};
 use std::str;
 
-/// The length that stands for the step into the element.
+/// The length that stands for the step to the element, in place of the length of a name.
 pub const ELEMENT: usize = usize::MAX;
 
-/// Puts the path with no step, the root.
+/// Stores in `out` the root, which is the path without steps.
 #[unsafe(no_mangle)]
 pub extern "C" fn vlt_path_root(alloc: Global, out: &mut Slot) -> u32
     ensures { Gives path_in (Some []) result out.old.value out.new.value }
@@ -36,7 +36,7 @@ pub extern "C" fn vlt_path_root(alloc: Global, out: &mut Slot) -> u32
     put(alloc, out, Object::Path(FieldPath::root(alloc)))
 }
 
-/// Puts a path that a call of the library made, or returns its error.
+/// Stores in the slot the path that a call of the library returned, or returns the number of its error.
 pub fn put_path(alloc: Global, out: &mut Slot, made: VortexResult<FieldPath>) -> u32
     ensures { PutsPath made result out.old.value out.new.value }
 {
@@ -46,7 +46,7 @@ pub fn put_path(alloc: Global, out: &mut Slot, made: VortexResult<FieldPath>) ->
     }
 }
 
-/// Writes the number of steps.
+/// Writes the number of steps of the path to `count`.
 #[unsafe(no_mangle)]
 pub extern "C" fn vlt_path_len(alloc: Global, path: &mut Slot, count: &mut usize) -> u32
     ensures steps { WritesOf (path_in path.old.value) (λ p. length p) result count.old count.new }
@@ -70,7 +70,9 @@ fn len(path: &FieldPath, count: &mut usize) -> u32
     OK
 }
 
-/// Writes the step at this position: a name, or `ELEMENT` as the length for the step into the element.
+/// Writes the step at the position `index`. For a step to a field, it writes the bytes of the name to `buffer` and
+/// their number to `length`. For the step to the element, it writes only the length `ELEMENT` (the greatest `usize`).
+/// Returns 1 if the position isn't below the number of steps.
 #[unsafe(no_mangle)]
 pub extern "C" fn vlt_path_step(
     alloc: Global,
@@ -102,7 +104,8 @@ fn step(path: &FieldPath, index: usize, buffer: &mut [u8], length: &mut usize) -
     }
 }
 
-/// Writes a step.
+/// Writes the step: the bytes of a name to `buffer` and their number to `length`, or only the length `ELEMENT` for the
+/// step to the element.
 pub fn write_step(step: &Field, buffer: &mut [u8], length: &mut usize) -> u32
     ensures { WritesStep (Some step.now) result (buffer.old, length.old) (buffer.new, length.new) }
 {
@@ -115,7 +118,8 @@ pub fn write_step(step: &Field, buffer: &mut [u8], length: &mut usize) -> u32
     }
 }
 
-/// Puts the path with one more step, into the field of this name.
+/// Stores in `out` the path with one more step at its end: the step to the field with this name. Returns 3 if the name
+/// isn't UTF-8.
 #[unsafe(no_mangle)]
 pub extern "C" fn vlt_path_push_name(
     alloc: Global,
@@ -155,7 +159,7 @@ fn with_name(alloc: Global, path: &FieldPath, name: &str) -> VortexResult<FieldP
         .push(Field::Name(FieldName::new(alloc, name)?))
 }
 
-/// Puts the path with one more step, into the element.
+/// Stores in `out` the path with one more step at its end: the step to the element of a list.
 #[unsafe(no_mangle)]
 pub extern "C" fn vlt_path_push_element(alloc: Global, path: &mut Slot, out: &mut Slot) -> u32
     ensures made { GivesOf (path_in path.old.value) path_in (λ p. Some (p ++ (ElementType ∷ []))) result out.old.value out.new.value }
@@ -184,7 +188,7 @@ fn with_element(path: &FieldPath) -> VortexResult<FieldPath>
     path.try_clone()?.push(Field::ElementType)
 }
 
-/// Puts the path without its first step; the root has none.
+/// Stores in `out` the path without its first step. Returns 1 if the path is the root, which has no steps.
 #[unsafe(no_mangle)]
 pub extern "C" fn vlt_path_step_into(alloc: Global, path: &mut Slot, out: &mut Slot) -> u32
     ensures made { GivesIfOf (path_in path.old.value) path_in tail_of result out.old.value out.new.value }
@@ -219,7 +223,7 @@ fn put_tail(alloc: Global, path: FieldPath, out: &mut Slot) -> u32
     }
 }
 
-/// Puts a copy of the path.
+/// Stores in `out` a copy of the path.
 #[unsafe(no_mangle)]
 pub extern "C" fn vlt_path_copy(alloc: Global, path: &mut Slot, out: &mut Slot) -> u32
     ensures made { GivesOf (path_in path.old.value) path_in Some result out.old.value out.new.value }
@@ -242,7 +246,7 @@ fn copy(alloc: Global, path: &FieldPath, out: &mut Slot) -> u32
     put_path(alloc, out, path.try_clone())
 }
 
-/// Returns 0 if the paths are equal.
+/// Returns 0 if the two paths are equal, and 1 if they aren't.
 #[unsafe(no_mangle)]
 pub extern "C" fn vlt_path_eq(alloc: Global, one: &mut Slot, other: &mut Slot) -> u32
     ensures answer { AsksBoth (path_in one.old.value) (path_in other.old.value) (λ p q. p ≡ q) result }
@@ -277,7 +281,8 @@ fn eq(one: &FieldPath, other: &FieldPath) -> u32
     if one.eq(other) { OK } else { NONE }
 }
 
-/// Returns 0 if one path is a prefix of the other.
+/// Returns 0 if one of the two paths is a prefix of the other, and 1 if none is. For example, it returns 0 for `a` and
+/// `a.b`.
 #[unsafe(no_mangle)]
 pub extern "C" fn vlt_path_overlap(alloc: Global, one: &mut Slot, other: &mut Slot) -> u32
     ensures answer { AsksBoth (path_in one.old.value) (path_in other.old.value) Overlaps result }
@@ -312,7 +317,8 @@ fn overlap(one: &FieldPath, other: &FieldPath) -> u32
     if one.overlap(other) { OK } else { NONE }
 }
 
-/// Puts the type at the path in the type.
+/// Stores in `out` the type at the path in the type `dtype`. For example, the type at `a.[]` in `{a=list(i32)}` is
+/// `i32`. Returns 1 if there is no type at the path.
 #[unsafe(no_mangle)]
 pub extern "C" fn vlt_path_resolve(
     alloc: Global,
@@ -352,7 +358,7 @@ fn resolve(alloc: Global, dtype: &DType, path: &FieldPath, out: &mut Slot) -> u3
     put_copy(alloc, out, path.resolve(dtype))
 }
 
-/// Returns 0 if there is a type at the path in the type.
+/// Returns 0 if there is a type at the path in the type `dtype`, and 1 if there is none.
 #[unsafe(no_mangle)]
 pub extern "C" fn vlt_path_exists_in(alloc: Global, dtype: &mut Slot, path: &mut Slot) -> u32
     ensures answer { AsksBoth (type_in dtype.old.value) (path_in path.old.value) ExistsIn result }
@@ -387,7 +393,7 @@ fn exists(dtype: &DType, path: &FieldPath) -> u32
     if path.exists_in(dtype) { OK } else { NONE }
 }
 
-/// Writes the path as the library displays it.
+/// Writes the path to `buffer` as the library displays it, for example `$a.[].$b`.
 #[unsafe(no_mangle)]
 pub extern "C" fn vlt_path_display(
     alloc: Global,
@@ -426,7 +432,8 @@ fn displayed(alloc: Global, path: &FieldPath) -> VortexResult<String>
     Ok(text)
 }
 
-/// Returns 0 if the first step is into the field of this name, and 5 if it is into the element.
+/// Returns 0 if the first step of the path is the step to the field with this name. Returns 1 if it is the step to
+/// another field, or if the path is the root. Returns 5 if it is the step to the element.
 #[unsafe(no_mangle)]
 pub extern "C" fn vlt_path_starts_with_name(alloc: Global, path: &mut Slot, name: &[u8]) -> u32
     ensures answer { StartsWithOf (path_in path.old.value) name.now result }
@@ -459,7 +466,8 @@ fn same_bytes(one: &[u8], other: &[u8]) -> u32
     if one == other { OK } else { NONE }
 }
 
-/// Writes a hash of the path, which is the same for equal paths. It may differ from version to version.
+/// Writes a hash of the path to `hash`. Equal paths have the same hash. The hash of a path may differ between versions
+/// of the library.
 #[unsafe(no_mangle)]
 pub extern "C" fn vlt_path_hash(alloc: Global, path: &mut Slot, hash: &mut u64) -> u32
     ensures writes { WritesOf (path_in path.old.value) hash_of_path result hash.old hash.new }

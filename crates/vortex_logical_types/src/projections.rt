@@ -17,7 +17,8 @@ use dtype_projection::project_paths;
 use dtype_types::DType;
 use std::alloc::Global;
 
-/// Puts the part of the type that the paths of the set lead to. If no path of the set exists in the type, it returns 1.
+/// Stores in `out` the type without the fields to which no path of the set leads. For example, for `{a=i32, b=utf8}`
+/// and the set of `a` it stores `{a=i32}`. Returns 1 if no path of the set exists in the type.
 #[unsafe(no_mangle)]
 pub extern "C" fn vlt_project_paths(
     alloc: Global,

@@ -26,7 +26,7 @@ use dtype_types::DType;
 use std::alloc::Global;
 use std::vec;
 
-/// Puts the empty set.
+/// Stores in `out` the empty set.
 #[unsafe(no_mangle)]
 pub extern "C" fn vlt_set_new(alloc: Global, out: &mut Slot) -> u32
     ensures { Gives set_in (Some set.empty) result out.old.value out.new.value }
@@ -34,7 +34,7 @@ pub extern "C" fn vlt_set_new(alloc: Global, out: &mut Slot) -> u32
     put(alloc, out, Object::Set(FieldPathSet::new(alloc)))
 }
 
-/// Inserts a copy of the path. After an error the set is unchanged.
+/// Inserts a copy of the path into the set. If the call doesn't return 0, the set is unchanged.
 #[unsafe(no_mangle)]
 pub extern "C" fn vlt_set_insert(alloc: Global, paths: &mut Slot, path: &mut Slot) -> u32
     ensures gains { GainsOf (set_in paths.old.value) (path_in path.old.value) set.insert result paths.old.value paths.new.value }
@@ -81,7 +81,7 @@ fn insert_path(paths: &mut FieldPathSet, path: FieldPath) -> u32
     }
 }
 
-/// Returns 0 if the path is in the set.
+/// Returns 0 if the path is in the set, and 1 if it isn't.
 #[unsafe(no_mangle)]
 pub extern "C" fn vlt_set_contains(alloc: Global, paths: &mut Slot, path: &mut Slot) -> u32
     ensures answer { AsksBoth (set_in paths.old.value) (path_in path.old.value) (λ s p. IsTrue (set.contains s p)) result }
@@ -116,7 +116,7 @@ fn contains(paths: &FieldPathSet, path: &FieldPath) -> u32
     if paths.contains(path) { OK } else { NONE }
 }
 
-/// Puts a copy of the set.
+/// Stores in `out` a copy of the set.
 #[unsafe(no_mangle)]
 pub extern "C" fn vlt_set_copy(alloc: Global, paths: &mut Slot, out: &mut Slot) -> u32
     ensures made { GivesOf (set_in paths.old.value) set_in Some result out.old.value out.new.value }
@@ -152,7 +152,9 @@ fn put_list(alloc: Global, out: &mut Slot, made: VortexResult<Vec<FieldPath>>) -
     }
 }
 
-/// Puts the list of the fewest paths that cover those of the set, each once, in no promised order.
+/// Stores in `out` the list of the least paths of the set. These are the paths of the set of which no other path of the
+/// set is a prefix. They are the fewest paths that cover what the set covers. For example, the only least path of the
+/// set of `a` and `a.b` is `a`. Each path is in the list once, in no particular order.
 #[unsafe(no_mangle)]
 pub extern "C" fn vlt_set_cover(alloc: Global, paths: &mut Slot, out: &mut Slot) -> u32
     ensures list { GivesListOf (set_in paths.old.value) (λ s ps. (set_of ps ≡ least s) × Distinct ps) result out.old.value out.new.value }
@@ -181,7 +183,7 @@ fn cover_of(alloc: Global, paths: &FieldPathSet) -> VortexResult<Vec<FieldPath>>
     Ok(paths.try_clone()?.into_iter()?.collect(alloc)?)
 }
 
-/// Puts the list of the paths of the set, each once, in no promised order.
+/// Stores in `out` the list of the paths of the set. Each path is in the list once, in no particular order.
 #[unsafe(no_mangle)]
 pub extern "C" fn vlt_set_members(alloc: Global, paths: &mut Slot, out: &mut Slot) -> u32
     ensures list { GivesListOf (set_in paths.old.value) (λ s ps. (set_of ps ≡ s) × Distinct ps) result out.old.value out.new.value }
@@ -210,7 +212,8 @@ fn members_of(alloc: Global, paths: &FieldPathSet) -> VortexResult<Vec<FieldPath
     copies_of(alloc, paths.iter()?)
 }
 
-/// Puts the list of the paths of the set at which there is no type in the type, each once, in no promised order.
+/// Stores in `out` the list of those paths of the set that don't exist in the type `dtype`. Each path is in the list
+/// once, in no particular order.
 #[unsafe(no_mangle)]
 pub extern "C" fn vlt_set_unresolved(
     alloc: Global,
@@ -267,7 +270,7 @@ fn copies_of(alloc: Global, paths: vec::IntoIter<&FieldPath>) -> VortexResult<Ve
     Ok(copies)
 }
 
-/// Writes how many paths are in the set.
+/// Writes the number of paths of the set to `count`.
 #[unsafe(no_mangle)]
 pub extern "C" fn vlt_set_len(alloc: Global, paths: &mut Slot, count: &mut usize) -> u32
     ensures count { WritesCount (set_in paths.old.value) result count.old count.new }
@@ -297,7 +300,7 @@ fn len(paths: &FieldPathSet, count: &mut usize) -> u32
     }
 }
 
-/// Writes how many paths are in the list.
+/// Writes the number of paths of the list to `count`.
 #[unsafe(no_mangle)]
 pub extern "C" fn vlt_paths_len(alloc: Global, paths: &mut Slot, count: &mut usize) -> u32
     ensures length { WritesOf (paths_in paths.old.value) (λ ps. length ps) result count.old count.new }
@@ -321,7 +324,8 @@ fn list_len(paths: &[FieldPath], count: &mut usize) -> u32
     OK
 }
 
-/// Puts a copy of the path at this position of the list.
+/// Stores in `out` a copy of the path at the position `index` of the list. Returns 1 if the position isn't below the
+/// length of the list.
 #[unsafe(no_mangle)]
 pub extern "C" fn vlt_paths_get(
     alloc: Global,
@@ -352,8 +356,8 @@ fn get(alloc: Global, paths: &[FieldPath], index: usize, out: &mut Slot) -> u32
     }
 }
 
-/// Inserts copies of the paths in these slots, in their order, and writes how many were inserted. After an error those
-/// before it are in.
+/// Inserts copies of the paths in these slots into the set, in order, and writes to `inserted` how many were inserted.
+/// If a slot contains no path, or an allocation fails, the call stops there. The paths before it stay inserted.
 #[unsafe(no_mangle)]
 pub extern "C" fn vlt_set_extend(
     alloc: Global,
@@ -411,7 +415,8 @@ fn insert_slot(alloc: Global, members: &mut FieldPathSet, slot: &mut Slot) -> u3
     answer
 }
 
-/// Inserts copies of the paths of the list, in their order. After an error those before it are in.
+/// Inserts copies of the paths of the list into the set, in order. If an allocation fails, the call stops there. The
+/// paths that it inserted before stay in the set.
 #[unsafe(no_mangle)]
 pub extern "C" fn vlt_set_extend_from_list(alloc: Global, paths: &mut Slot, list: &mut Slot) -> u32
     ensures gains { GainsListIn (set_in paths.old.value) (paths_in list.old.value) result paths.old.value paths.new.value }

@@ -15,9 +15,10 @@ use dtype_types::DType;
 use std::alloc::Global;
 use std::str;
 
-/// Reads a type from its text in the form of the console, for example `{a=i32, b=list(utf8)?}`, and puts it.
+/// Reads a type from its text in the form of the console, for example `{a=i32, b=list(utf8)?}`, and stores it in `out`.
 ///
-/// If the text can't be read, `position` is the first byte that doesn't fit, counted from 1.
+/// Returns 3 if the text isn't UTF-8. If the text can't be read, the call returns 4 and writes the position of the
+/// first byte that doesn't fit, counted from 1, to `position`.
 #[unsafe(no_mangle)]
 pub extern "C" fn vlt_dtype_from_text(
     alloc: Global,
@@ -51,7 +52,7 @@ fn read_dtype(alloc: Global, text: &str) -> ConsoleResult<DType> {
     line.then_end(dtype)
 }
 
-/// Writes a type in the form of the console, which reads back as the same type.
+/// Writes the type to `buffer` in the form of the console. `vlt_dtype_from_text` reads the same type from this text.
 #[unsafe(no_mangle)]
 pub extern "C" fn vlt_dtype_to_text(
     alloc: Global,

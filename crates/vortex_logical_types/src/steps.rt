@@ -16,14 +16,14 @@ use dtype_paths::{Field, FieldPath};
 use std::alloc::{AllocError, AllocFailed, Global};
 use std::str;
 
-/// Why steps can't be read.
+/// Why the steps of a path can't be read.
 #[derive(Clone, Copy, Debug, PartialEq, Eq)]
 pub enum StepFault {
     /// An allocation failed.
     OutOfMemory,
     /// A name isn't UTF-8.
     NotUtf8,
-    /// The lengths don't add up to the length of the text.
+    /// The lengths don't add up to the number of bytes.
     Lengths,
 }
 
@@ -45,7 +45,7 @@ impl<T: Drop> From<AllocFailed<T>> for StepFault {
     }
 }
 
-/// The names that haven't been read.
+/// The bytes of the names that haven't been read yet.
 #[derive(Drop)]
 pub struct Names<'a> {
     pub rest: &'a [u8],
@@ -63,7 +63,7 @@ impl<'a> Names<'a> {
         Ok(Field::Name(FieldName::new(alloc, self.name(length)?)?))
     }
 
-    /// Takes the next name, which has this length.
+    /// Removes the next name, which has this length, from the front of the bytes and returns it.
     pub fn name(&mut self, wanted: usize) -> Result<&'a str, StepFault>
         ensures bytes { IfOk result (λ n. self.old.rest.now ≡ n.now ++ self.new.rest.now) }
         ensures size { IfOk result (λ n. length n.now ≡ wanted) }
@@ -97,7 +97,7 @@ fn steps_of(alloc: Global, names: &[u8], lengths: &[usize]) -> Result<Vec<Field>
     }
 }
 
-/// Returns what an export returns of steps that can't be read.
+/// Returns the number that an export returns if the steps can't be read.
 pub fn code_of(fault: StepFault) -> u32
     ensures { (result ≡ 3) ⊎ ((result ≡ 9) ⊎ (result ≡ 100)) }
 {
@@ -108,7 +108,10 @@ pub fn code_of(fault: StepFault) -> u32
     }
 }
 
-/// Puts the path of these steps.
+/// Stores in `out` the path of these steps. `names` contains the bytes of all names, one name directly after the other,
+/// and `name_lengths` contains the number of bytes of the name of each step. The length `ELEMENT` (the greatest
+/// `usize`) stands for the step to the element, which has no bytes in `names`. Returns 3 if a name isn't UTF-8, and 9
+/// if the lengths don't add up to the number of bytes.
 #[unsafe(no_mangle)]
 pub extern "C" fn vlt_path_from_steps(
     alloc: Global,

@@ -20,7 +20,7 @@ use dtype_types::DType;
 use std::alloc::Global;
 use std::str;
 
-/// Writes the number of fields.
+/// Writes the number of fields of the struct to `count`. Returns 5 if the type isn't a struct.
 #[unsafe(no_mangle)]
 pub extern "C" fn vlt_struct_nfields(alloc: Global, dtype: &mut Slot, count: &mut usize) -> u32
     ensures answer { Within (type_in dtype.old.value) struct_fields (λ code. (result ≡ code) × (count.new ≡ count.old)) (λ fs. (result ≡ 0) × (count.new ≡ length fs)) }
@@ -49,7 +49,8 @@ fn nfields(alloc: Global, dtype: &DType, count: &mut usize) -> u32
     }
 }
 
-/// Puts the type of the field at the position, if it is below the number of fields.
+/// Stores in `out` the type of the field at the position `index`. Returns 1 if the position isn't below the number of
+/// fields, and 5 if the type isn't a struct.
 #[unsafe(no_mangle)]
 pub extern "C" fn vlt_struct_field_by_index(
     alloc: Global,
@@ -80,7 +81,8 @@ fn field_by_index(alloc: Global, dtype: &DType, index: usize, out: &mut Slot) ->
     }
 }
 
-/// Writes the position of the first field of the name, if there is one.
+/// Writes the position of the first field with this name to `index`. Returns 1 if no field has the name, 3 if the name
+/// isn't UTF-8, and 5 if the type isn't a struct.
 #[unsafe(no_mangle)]
 pub extern "C" fn vlt_struct_find(
     alloc: Global,
@@ -115,7 +117,8 @@ fn find(alloc: Global, dtype: &DType, name: &str, index: &mut usize) -> u32
     }
 }
 
-/// Puts the type of the first field of the name, if there is one.
+/// Stores in `out` the type of the first field with this name. Returns 1 if no field has the name, 3 if the name isn't
+/// UTF-8, and 5 if the type isn't a struct.
 #[unsafe(no_mangle)]
 pub extern "C" fn vlt_struct_field(
     alloc: Global,
@@ -150,7 +153,8 @@ fn field(alloc: Global, dtype: &DType, name: &str, out: &mut Slot) -> u32
     }
 }
 
-/// Writes the name of the field at the position, if it is below the number of fields.
+/// Writes the name of the field at the position `index` to `buffer`. Returns 1 if the position isn't below the number
+/// of fields, and 5 if the type isn't a struct.
 #[unsafe(no_mangle)]
 pub extern "C" fn vlt_struct_field_name(
     alloc: Global,
@@ -188,7 +192,7 @@ fn field_name(
     }
 }
 
-/// Writes a name, if there is one.
+/// Writes the name to `buffer`, or returns 1 if there is no name.
 pub fn write_name(name: Option<&FieldName>, buffer: &mut [u8], length: &mut usize) -> u32
     ensures { WritesText (option_copied name.entry) result (buffer.old, length.old) (buffer.new, length.new) }
 {
@@ -198,7 +202,7 @@ pub fn write_name(name: Option<&FieldName>, buffer: &mut [u8], length: &mut usiz
     }
 }
 
-/// Writes a position, if there is one.
+/// Writes the position to `index`, or returns 1 if there is no position.
 pub fn write_place(place: Option<usize>, index: &mut usize) -> u32
     ensures { WritesThe place result index.old index.new }
 {

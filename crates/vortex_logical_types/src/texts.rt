@@ -21,7 +21,7 @@ use dtype_base::VortexResult;
 use dtype_types::{DType, StructFields};
 use std::alloc::Global;
 
-/// Writes a type as the library displays it.
+/// Writes the type to `buffer` as the library displays it, for example `{a=i32, b=list(utf8)?}`.
 #[unsafe(no_mangle)]
 pub extern "C" fn vlt_dtype_display(
     alloc: Global,
@@ -61,7 +61,8 @@ fn displayed(alloc: Global, dtype: &DType) -> VortexResult<String>
     Ok(text)
 }
 
-/// Writes the fields of a struct over several lines, one field a line, as the library indents them.
+/// Writes the fields of a struct to `buffer` as indented text, in which each field begins on a new line. Returns 5 if
+/// the type isn't a struct.
 #[unsafe(no_mangle)]
 pub extern "C" fn vlt_struct_indented(
     alloc: Global,

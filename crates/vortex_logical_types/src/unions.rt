@@ -20,7 +20,7 @@ use dtype_types::{DType, UnionVariants};
 use std::alloc::Global;
 use std::str;
 
-/// Writes the number of variants.
+/// Writes the number of variants of the union to `count`. Returns 5 if the type isn't a union.
 #[unsafe(no_mangle)]
 pub extern "C" fn vlt_union_len(alloc: Global, dtype: &mut Slot, count: &mut usize) -> u32
     ensures answer { Within (type_in dtype.old.value) union_variants (λ code. (result ≡ code) × (count.new ≡ count.old)) (λ vs. (result ≡ 0) × (count.new ≡ length vs)) }
@@ -49,7 +49,8 @@ fn len(alloc: Global, dtype: &DType, count: &mut usize) -> u32
     }
 }
 
-/// Puts the type of the variant at the position, if it is below the number of variants.
+/// Stores in `out` the type of the variant at the position `index`. Returns 1 if the position isn't below the number of
+/// variants, and 5 if the type isn't a union.
 #[unsafe(no_mangle)]
 pub extern "C" fn vlt_union_variant_by_index(
     alloc: Global,
@@ -80,7 +81,8 @@ fn variant_by_index(alloc: Global, dtype: &DType, index: usize, out: &mut Slot) 
     }
 }
 
-/// Writes the position of the variant of the name, if there is one.
+/// Writes the position of the variant with this name to `index`. Returns 1 if no variant has the name, 3 if the name
+/// isn't UTF-8, and 5 if the type isn't a union.
 #[unsafe(no_mangle)]
 pub extern "C" fn vlt_union_find(
     alloc: Global,
@@ -115,7 +117,8 @@ fn find(alloc: Global, dtype: &DType, name: &str, index: &mut usize) -> u32
     }
 }
 
-/// Puts the type of the variant of the name, if there is one.
+/// Stores in `out` the type of the variant with this name. Returns 1 if no variant has the name, 3 if the name isn't
+/// UTF-8, and 5 if the type isn't a union.
 #[unsafe(no_mangle)]
 pub extern "C" fn vlt_union_variant(
     alloc: Global,
@@ -150,7 +153,8 @@ fn variant(alloc: Global, dtype: &DType, name: &str, out: &mut Slot) -> u32
     }
 }
 
-/// Writes the position of the variant of the tag, if there is one.
+/// Writes the position of the variant with this tag to `index`. Returns 1 if no variant has the tag, and 5 if the type
+/// isn't a union.
 #[unsafe(no_mangle)]
 pub extern "C" fn vlt_union_tag_to_child_index(
     alloc: Global,
@@ -181,7 +185,8 @@ fn tag_to_child_index(alloc: Global, dtype: &DType, tag: u8, index: &mut usize) 
     }
 }
 
-/// Writes the tag of the variant at the position, if it is below the number of variants.
+/// Writes the tag of the variant at the position `index` to `tag`. Returns 1 if the position isn't below the number of
+/// variants, and 5 if the type isn't a union.
 #[unsafe(no_mangle)]
 pub extern "C" fn vlt_union_child_index_to_tag(
     alloc: Global,
@@ -224,7 +229,8 @@ fn write_tag(found: Option<&u8>, tag: &mut u8) -> u32
     }
 }
 
-/// Writes the name of the variant at the position, if it is below the number of variants.
+/// Writes the name of the variant at the position `index` to `buffer`. Returns 1 if the position isn't below the number
+/// of variants, and 5 if the type isn't a union.
 #[unsafe(no_mangle)]
 pub extern "C" fn vlt_union_variant_name(
     alloc: Global,
@@ -262,7 +268,8 @@ fn variant_name(
     }
 }
 
-/// Returns 0 if the tags are 0, 1, 2 and so on.
+/// Returns 0 if the tags are 0, 1, 2 and so on in the order of the variants, 1 if they aren't, and 5 if the type isn't
+/// a union.
 #[unsafe(no_mangle)]
 pub extern "C" fn vlt_union_is_consecutive(alloc: Global, dtype: &mut Slot) -> u32
     ensures answer { Within (type_in dtype.old.value) union_variants (λ code. result ≡ code) (λ vs. Tells result (AreConsecutive (variant_tags vs))) }

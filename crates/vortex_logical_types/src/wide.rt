@@ -22,8 +22,8 @@ use dtype_types::{DType, ExtDTypeRef, ExtId};
 use std::alloc::Global;
 use std::str;
 
-/// Writes the number of bytes that each value of the type takes, if all take as many. If a part of a type of fixed width is
-/// wider than a `usize` can hold, it returns 119.
+/// Writes the number of bytes that each value of the type takes to `size`. Returns 1 if the type is of variable width,
+/// and 119 if it is of fixed width and its width, or the width of a part of it, is above the greatest `usize`.
 #[unsafe(no_mangle)]
 pub extern "C" fn vlt_dtype_element_size(alloc: Global, dtype: &mut Slot, size: &mut usize) -> u32
     ensures writes { WritesWidthOf (type_in dtype.old.value) result size.old size.new }
@@ -53,7 +53,8 @@ fn element_size(dtype: &DType, size: &mut usize) -> u32
     }
 }
 
-/// Puts the type of the entries of a map: the non-nullable struct of the fields `key` and `value`.
+/// Stores in `out` the type of the entries of a map: the non-nullable struct with the fields `key` and `value`. Returns
+/// 1 if the type isn't a map.
 #[unsafe(no_mangle)]
 pub extern "C" fn vlt_dtype_entries(alloc: Global, dtype: &mut Slot, out: &mut Slot) -> u32
     ensures puts { Puts (type_in dtype.old.value) (λ t. option_map (λ m. entries_of m.0 m.1) (map_parts t)) result out.old.value out.new.value }
@@ -79,8 +80,9 @@ fn entries(alloc: Global, dtype: &DType, out: &mut Slot) -> u32
     }
 }
 
-/// Puts the type of maps of these keys and values. If the key type is nullable, it returns 109, and if one of the two has
-/// 128 levels, it returns 6.
+/// Stores in `out` the type of maps with the key type in `one` and the value type in `other`. `keys_sorted` declares
+/// that the keys of each map are sorted, which nothing checks. The map type is nullable if `nullable` is true. Returns
+/// 6 if one of the two types has 128 levels, and 109 if the key type is nullable.
 #[unsafe(no_mangle)]
 pub extern "C" fn vlt_dtype_map(
     alloc: Global,
@@ -175,7 +177,8 @@ fn made_map(
     DType::map(alloc, key, value, keys_sorted, n)
 }
 
-/// Puts the extension of this id, metadata and storage type. If the storage has 128 levels, it returns 6.
+/// Stores in `out` the extension type with this id, this metadata and this storage type. Returns 3 if the id isn't
+/// UTF-8, and 6 if the storage type has 128 levels.
 #[unsafe(no_mangle)]
 pub extern "C" fn vlt_dtype_extension(
     alloc: Global,

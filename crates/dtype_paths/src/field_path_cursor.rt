@@ -54,9 +54,9 @@ impl<'a> FieldPathCursor<'a> {
         }
     }
 
-    /// Returns whether the steps to this cursor are themselves a path of the set. Then the cursor contains the root,
-    /// which is the path without steps, and the set covers every path that begins with these steps. For example, in the
-    /// set of `a` and `a.b` the result is `true` for the cursor after the step `a`.
+    /// Returns whether the steps to this cursor are themselves a path of the set. If they are, then the cursor contains
+    /// the root, which is the path without steps, and the set covers every path that begins with these steps. For
+    /// example, in the set of `a` and `a.b` the result is `true` for the cursor after the step `a`.
     #[tactic(auto, unfolding(crate::specs::Cursors::contains_below))]
     pub fn is_end(&self) -> bool
         ensures { result ≡ contains_below self.now [] }

@@ -1,8 +1,8 @@
 -- SPDX-License-Identifier: Apache-2.0
 -- SPDX-FileCopyrightText: Copyright the Vortex contributors
 
--- What exports over messages return of their slots and leave in them. `code` is what the export returns, `old` and `new` are
--- what a slot has before and after.
+-- What exports for messages return, and what their slots contain afterwards. `code` is the number that the export
+-- returns. `old` and `new` are what a slot contains before and after the call.
 use Rattle.std.specs.Prelude.{◌≡◌, ◌⊎◌, ◌+◌, ◌++◌, ℕ, Bool, true, false, List, [], drop, length, map, Option, Some, None, Result, Ok, Err}
 use Rattle.std.specs.List.{flat_map}
 use Rattle.c_nodes.specs.Flat.{flat_nodes, flat_texts}
@@ -23,16 +23,17 @@ use Rattle.vortex_dtype.specs.Written.{written}
 use Rattle.vortex_logical_types.specs.Answers.{Buffer, SameBuffer}
 use Rattle.vortex_logical_types.specs.Objects.{step_bytes, step_length}
 
--- the session under which an export reads a message: no plugin is registered, and the flag tells whether unknown ids are kept
+-- the session with which an export reads a message: no plugin is registered, and unknown ids are kept if the flag is
+-- true
 abbrev pub session_of : Bool → Meaning
 session_of true = allow_unknown_in empty_meaning
 session_of false = empty_meaning
 
--- the type that a message describes under that session, or the first fault of the message
+-- the type that a message describes with this session, or the first fault of the message
 abbrev pub type_of_message : Bool → Message → Result Tree VortexError
 type_of_message unknown m = read (session_of unknown) m
 
--- the message of a type that was read, or the fault
+-- the message of the type that was read, or the fault
 abbrev pub written_of : Result Tree VortexError → Result Message VortexError
 written_of (Ok t) = Ok (written t)
 written_of (Err e) = Err e
@@ -41,28 +42,29 @@ written_of (Err e) = Err e
 abbrev pub normal_of : Bool → Message → Result Message VortexError
 normal_of unknown m = written_of (type_of_message unknown m)
 
--- What was read is put into a slot, where `see` sees it, or its fault is returned; 100 means that an allocation failed. Except
--- on 0 the slot keeps what it had.
+-- What was read is stored in a slot, or the number of its fault is returned, or 100 if an allocation fails. `see` is
+-- what contracts say about the object in a slot. Unless 0 is returned, the slot is unchanged.
 abbrev pub PutsRead : {X : Type 0} → (Option Object → Option X) → Result X VortexError → ℕ → Option Object → Option Object → Type 0
 PutsRead see (Ok x) code old new = ((code ≡ 0) × (see new ≡ Some x)) ⊎ ((code ≡ 100) × (new ≡ old))
 PutsRead see (Err e) code old new = ((code ≡ 100 + number_of e) ⊎ (code ≡ 100)) × (new ≡ old)
 
--- the same of what a slot has
+-- the same for what is read from the object in a slot; 2 if it isn't there
 abbrev pub PutsReadOf : {X Y : Type 0} → Option X → (Option Object → Option Y) → (X → Result Y VortexError) → ℕ → Option Object → Option Object → Type 0
 PutsReadOf None see f code old new = (code ≡ 2) × (new ≡ old)
 PutsReadOf (Some x) see f code old new = PutsRead see (f x) code old new
 
--- a message that a call of the library made
+-- the message that a call of the library returned is stored; the number of its error is returned if it returned an
+-- error, and 100 if an allocation fails
 abbrev pub PutsMessage : Result DType VortexError → ℕ → Option Object → Option Object → Type 0
 PutsMessage (Ok m) code old new = ((code ≡ 0) × (new ≡ Some (Held m))) ⊎ ((code ≡ 100) × (new ≡ old))
 PutsMessage (Err e) code old new = (code ≡ 100 + number_of e) × (new ≡ old)
 
--- a slot has a message with these nodes and these texts
+-- a slot contains a message with these nodes and these texts
 abbrev pub IsFlat : List Node → List ℕ → Option Message → Type 0
 IsFlat nodes texts None = ⊥
 IsFlat nodes texts (Some m) = (flat_nodes m ≡ nodes) × (flat_texts m ≡ texts)
 
--- what two buffers and the numbers beside them have
+-- what two buffers and the numbers beside them contain
 abbrev pub Buffers : Type 0
 Buffers = (List Node × ℕ) × Buffer
 
@@ -74,8 +76,8 @@ SameBuffers old new = ((new.0.0 ≡ old.0.0) × (new.0.1 ≡ old.0.1)) × SameBu
 abbrev pub HasSizes : Message → Buffers → Type 0
 HasSizes m new = (new.0.1 ≡ length (flat_nodes m)) × (new.1.1 ≡ length (flat_texts m))
 
--- Nodes and texts are written to the fronts of two buffers, and their numbers beside them; if they don't fit, the numbers
--- alone, and the code is 7. If the code is another, nothing is written.
+-- Nodes and texts are written to the fronts of two buffers, and their numbers beside them. If they don't fit, only the
+-- numbers are written, and 7 is returned. If another number is returned, nothing is written.
 abbrev pub WritesFlat : Message → ℕ → Buffers → Buffers → Type 0
 WritesFlat m code old new =
     ((code ≡ 0) × (HasSizes m new × ((new.0.0 ≡ flat_nodes m ++ drop (length (flat_nodes m)) old.0.0) × (new.1.0 ≡ flat_texts m ++ drop (length (flat_texts m)) old.1.0))))
@@ -85,7 +87,7 @@ abbrev pub WritesFlatOf : Option Message → ℕ → Buffers → Buffers → Typ
 WritesFlatOf None code old new = (code ≡ 2) × SameBuffers old new
 WritesFlatOf (Some m) code old new = WritesFlat m code old new
 
--- the bytes of a part of a path's message, and the length that comes with them: the greatest of a part without a kind
+-- the bytes of a part of the message of a path and their length, which is the greatest length for a part without a kind
 abbrev pub part_bytes : Option (List ℕ) → List ℕ
 part_bytes None = []
 part_bytes (Some n) = n

@@ -1,8 +1,9 @@
 -- SPDX-License-Identifier: Apache-2.0
 -- SPDX-FileCopyrightText: Copyright the Vortex contributors
 
--- What slots have, and what exports over paths, sets, masks and messages return of it and leave in their slots. `code` is what
--- the export returns: 2 if a slot has no object of the kind. `old` and `new` are what a slot or a number has before and after.
+-- What slots contain, and what exports for paths, sets, masks and messages return and store. `code` is the number that
+-- the export returns. It is 2 if a slot contains no object of the right kind. `old` and `new` are what a slot or a
+-- number contains before and after the call.
 use Rattle.std.specs.Prelude.{◌≡◌, ◌≢◌, ◌⊎◌, ◌+◌, ℕ, Bool, true, false, List, [], ◌∷◌, fold, length, map, Option, Some, None, Result, Ok, Err, slice_get, take, IsTrue}
 use Rattle.std.specs.FinSet as set
 use Rattle.std.specs.Hash.DefaultHasher as sip
@@ -27,7 +28,7 @@ use Rattle.dtype_projection.specs.Projected.{projected}
 use Rattle.dtype_types.specs.tree.Tree.{Tree}
 use Rattle.vortex_logical_types.specs.Answers.{Buffer, PutsIfAny, SameBuffer, Tells, WritesBytes, WritesText}
 
--- the object in a slot, if it is of the kind
+-- the object in a slot, or None if it isn't of this kind
 abbrev pub path_in : Option Object → Option (List Field)
 path_in (Some (Path p)) = Some p
 path_in _ = None
@@ -48,7 +49,7 @@ abbrev pub message_in : Option Object → Option MessageTree
 message_in (Some (Message m)) = Some (message m)
 message_in _ = None
 
--- a question about one object, or about two
+-- the answer to a question about one object, or about two; 2 if an object isn't there
 abbrev pub Asks : {X : Type 0} → Option X → (X → Type 0) → ℕ → Type 0
 Asks None P code = code ≡ 2
 Asks (Some x) P code = Tells code (P x)
@@ -58,13 +59,13 @@ AsksBoth None y P code = code ≡ 2
 AsksBoth (Some x) None P code = code ≡ 2
 AsksBoth (Some x) (Some y) P code = Tells code (P x y)
 
--- An object is put into a slot, if there is one, where `see` sees it; 100 means that an allocation failed. Except on 0 the
--- slot keeps what it had.
+-- An object is stored in a slot if there is one. `see` is what contracts say about the object in a slot. 1 is returned
+-- if there is no object, and 100 if an allocation fails. Unless 0 is returned, the slot is unchanged.
 abbrev pub Gives : {Y : Type 0} → (Option Object → Option Y) → Option Y → ℕ → Option Object → Option Object → Type 0
 Gives see None code old new = (code ≡ 1) × (new ≡ old)
 Gives see (Some y) code old new = ((code ≡ 0) × (see new ≡ Some y)) ⊎ ((code ≡ 100) × (new ≡ old))
 
--- what is put is made of one object, or of two
+-- the same for an object that is made from one object, or from two; 2 if one of these isn't there
 abbrev pub GivesOf : {X Y : Type 0} → Option X → (Option Object → Option Y) → (X → Option Y) → ℕ → Option Object → Option Object → Type 0
 GivesOf None see f code old new = (code ≡ 2) × (new ≡ old)
 GivesOf (Some x) see f code old new = Gives see (f x) code old new
@@ -74,7 +75,7 @@ GivesOfBoth None y see f code old new = (code ≡ 2) × (new ≡ old)
 GivesOfBoth (Some x) None see f code old new = (code ≡ 2) × (new ≡ old)
 GivesOfBoth (Some x) (Some y) see f code old new = Gives see (f x y) code old new
 
--- the same where memory may run out before it is known that there is none
+-- the same for a call that may fail to allocate before it finds that there is no object to store
 abbrev pub GivesIf : {Y : Type 0} → (Option Object → Option Y) → Option Y → ℕ → Option Object → Option Object → Type 0
 GivesIf see None code old new = ((code ≡ 1) ⊎ (code ≡ 100)) × (new ≡ old)
 GivesIf see (Some y) code old new = ((code ≡ 0) × (see new ≡ Some y)) ⊎ ((code ≡ 100) × (new ≡ old))
@@ -83,7 +84,7 @@ abbrev pub GivesIfOf : {X Y : Type 0} → Option X → (Option Object → Option
 GivesIfOf None see f code old new = (code ≡ 2) × (new ≡ old)
 GivesIfOf (Some x) see f code old new = GivesIf see (f x) code old new
 
--- a list of paths is put into a slot: some list with the property P
+-- some list of paths with the property `P` is stored in a slot
 abbrev pub GivesList : (List (List Field) → Type 0) → ℕ → Option Object → Option Object → Type 0
 GivesList P code old new =
     ((code ≡ 0) × ((ps : List (List Field)) × (paths_in new ≡ Some ps) × P ps)) ⊎ ((code ≡ 100) × (new ≡ old))
@@ -97,12 +98,13 @@ GivesListOfBoth None y P code old new = (code ≡ 2) × (new ≡ old)
 GivesListOfBoth (Some x) None P code old new = (code ≡ 2) × (new ≡ old)
 GivesListOfBoth (Some x) (Some y) P code old new = GivesList (P x y) code old new
 
--- a number is written, of one object
+-- a number is written that is computed from one object
 abbrev pub WritesOf : {X Y : Type 0} → Option X → (X → Y) → ℕ → Y → Y → Type 0
 WritesOf None f code old new = (code ≡ 2) × (new ≡ old)
 WritesOf (Some x) f code old new = (code ≡ 0) × (new ≡ f x)
 
--- A step is written: a name as its bytes, and the element as the greatest length, with nothing in the buffer.
+-- A step is written. For a step to a name these are the bytes of the name. For the step to the element only the
+-- greatest length is written, and nothing to the buffer.
 abbrev pub WritesStep : Option Field → ℕ → Buffer → Buffer → Type 0
 WritesStep None code old new = (code ≡ 1) × (new ≡ old)
 WritesStep (Some (Name n)) code old new = WritesBytes n code old new
@@ -112,12 +114,12 @@ abbrev pub WritesStepOf : {X : Type 0} → Option X → (X → Option Field) →
 WritesStepOf None f code old new = (code ≡ 2) × (new ≡ old)
 WritesStepOf (Some x) f code old new = WritesStep (f x) code old new
 
--- A text is written, of what a slot has.
+-- a text is written that is made from the object in a slot
 abbrev pub WritesTextIn : {X : Type 0} → Option X → (X → Option (List ℕ)) → ℕ → Buffer → Buffer → Type 0
 WritesTextIn None f code old new = (code ≡ 2) × SameBuffer old new
 WritesTextIn (Some x) f code old new = WritesText (f x) code old new
 
--- whether the first step of a path is into the field of a name: 5 if it is into the element
+-- whether the first step of a path is the step to a name; 5 if it is the step to the element
 abbrev pub StartsWith : Option Field → List ℕ → ℕ → Type 0
 StartsWith None name code = code ≡ 1
 StartsWith (Some (Name n)) name code = Tells code (n ≡ name)
@@ -131,7 +133,7 @@ StartsWithOf (Some p) name code = StartsWith (slice_get p 0) name code
 abbrev pub Gains : ℕ → PathSet → PathSet → PathSet → Type 0
 Gains code old more new = ((code ≡ 0) × (new ≡ more)) ⊎ ((code ≡ 100) × (new ≡ old))
 
--- the same of slots that may have a set and something else
+-- the same for a set and another object in two slots; 2 if one of them isn't there
 abbrev pub GainsOf : {Y : Type 0} → Option PathSet → Option Y → (PathSet → Y → PathSet) → ℕ → Option Object → Option Object → Type 0
 GainsOf None y f code old new = (code ≡ 2) × (new ≡ old)
 GainsOf (Some s) None f code old new = (code ≡ 2) × (new ≡ old)
@@ -142,7 +144,8 @@ abbrev pub tail_of : List Field → Option (List Field)
 tail_of [] = None
 tail_of (f ∷ p) = Some p
 
--- a path, or a list of paths, that a call of the library made
+-- the path, or the list of paths, that a call of the library returned is stored; the number of its error is returned if
+-- it returned an error, and 100 if an allocation fails
 abbrev pub PutsPath : Result (List Field) VortexError → ℕ → Option Object → Option Object → Type 0
 PutsPath (Ok p) code old new = ((code ≡ 0) × (new ≡ Some (Path p))) ⊎ ((code ≡ 100) × (new ≡ old))
 PutsPath (Err e) code old new = (code ≡ 100 + number_of e) × (new ≡ old)
@@ -151,7 +154,7 @@ abbrev pub PutsList : Result (Vec (List Field) Global) VortexError → ℕ → O
 PutsList (Ok ps) code old new = ((code ≡ 0) × (new ≡ Some (Paths ps))) ⊎ ((code ≡ 100) × (new ≡ old))
 PutsList (Err e) code old new = (code ≡ 100 + number_of e) × (new ≡ old)
 
--- which mask it is, and its path
+-- the number of the kind of a mask, and the path of a mask
 abbrev pub mask_number : FieldMask → ℕ
 mask_number All = 0
 mask_number (Prefix p) = 1
@@ -162,7 +165,8 @@ mask_path All = None
 mask_path (Prefix p) = Some p
 mask_path (Exact p) = Some p
 
--- The mask after a step is put into a slot. The mask of the root alone has none, and the code is 120.
+-- The mask that is left after a step is stored in a slot. There is none for the mask that selects only the root, and
+-- 120 is returned.
 abbrev pub PutsStepped : Option FieldMask → ℕ → Option Object → Option Object → Type 0
 PutsStepped None code old new = ((code ≡ 120) ⊎ (code ≡ 100)) × (new ≡ old)
 PutsStepped (Some m) code old new = ((code ≡ 0) × (mask_in new ≡ Some m)) ⊎ ((code ≡ 100) × (new ≡ old))
@@ -174,7 +178,7 @@ abbrev pub StepsMask : Option FieldMask → ℕ → Option Object → Option Obj
 StepsMask None code old new = (code ≡ 2) × (new ≡ old)
 StepsMask (Some m) code old new = SteppedMask m code old new
 
--- the bytes of a step, and the length that comes with them: the greatest of the step into the element
+-- the bytes of a step and their length, which is the greatest length for the step to the element
 abbrev pub step_bytes : Field → List ℕ
 step_bytes (Name n) = n
 step_bytes ElementType = []
@@ -193,8 +197,8 @@ abbrev pub GainsPath : Option (List Field) → ℕ → PathSet → PathSet → T
 GainsPath None code old new = (code ≡ 2) × (new ≡ old)
 GainsPath (Some p) code old new = Gains code old (set.insert old p) new
 
--- what a call writes of the paths that a set asks for below a path: whether the path itself is one, whether a path goes on with
--- the element, and with how many names paths go on
+-- what a call writes of the paths that a set asks for below a path: whether the path itself is one, whether a path goes
+-- on with the element, and with how many names paths go on
 abbrev pub Below : Type 0
 Below = Bool × Bool × ℕ
 
@@ -207,7 +211,8 @@ TellsElement w false = after_step ElementType w ≡ no_path
 abbrev pub CountsNames : PathPredicate → ℕ → Type 0
 CountsNames w count = (ns : List (List ℕ × PathPredicate)) × AreNames w ns × (count ≡ length ns)
 
--- That is written of the paths w that a set asks for below a path. If there is none the code is 1, and nothing is written.
+-- That is written of the paths w that a set asks for below a path. If there is none the code is 1, and nothing is
+-- written.
 abbrev pub TellsBelow : PathPredicate → ℕ → Below → Below → Type 0
 TellsBelow w code old new =
     ((code ≡ 0) × ((new.0 ≡ w []) × TellsElement w new.1 × CountsNames w new.2) × (w ≢ no_path)) ⊎ ((code ≡ 1) × (new ≡ old) × (w ≡ no_path))

@@ -1,8 +1,8 @@
 -- SPDX-License-Identifier: Apache-2.0
 -- SPDX-FileCopyrightText: Copyright the Vortex contributors
 
--- Several names, and several slots, of one call, and what exports make of them. `code` is what the export returns, `old` and
--- `new` are what the slot for the result has before and after.
+-- Several names, or several slots, that are passed to one call, and what exports make of them. `code` is the number
+-- that the export returns. `old` and `new` are what the slot for the result contains before and after the call.
 use Rattle.std.specs.Prelude.{◌≡◌, ◌≢◌, ◌⊎◌, ◌+◌, ◌<◌, ◌++◌, ℕ, List, [], ◌∷◌, if◌then◌else◌, nat_le, drop, length, map, option_map, slice_get, take, Option, Some, None}
 use Rattle.std.specs.FinSet as set
 use Rattle.std.specs.List.{range_with_len, zip}
@@ -25,12 +25,14 @@ abbrev pub none_left : List ℕ → Option (List (List ℕ))
 none_left [] = Some []
 none_left (b ∷ bytes) = None
 
--- the names that lie one after the other in these bytes, each of its length, if the lengths add up
+-- the names with these lengths whose bytes are directly one after the other, or None if the lengths don't add up to the
+-- number of bytes
 abbrev pub names_cut : List ℕ → List ℕ → Option (List (List ℕ))
 names_cut bytes [] = none_left bytes
 names_cut bytes (l ∷ lengths) = if nat_le l (length bytes) then option_map (λ ns. take l bytes ∷ ns) (names_cut (drop l bytes) lengths) else None
 
--- what names return that can't be read: 3 if a name isn't UTF-8, 9 if the lengths don't add up
+-- the number that is returned if names can't be read: 3 if a name isn't UTF-8, 9 if the lengths don't add up, and 100
+-- if an allocation fails
 abbrev pub RefusesNames : Option (List (List ℕ)) → ℕ → Type 0
 RefusesNames names code = (code ≡ 3) ⊎ ((code ≡ 100) ⊎ ((code ≡ 9) × (names ≡ None)))
 
@@ -43,84 +45,87 @@ abbrev pub in_front : {X : Type 0} → Option X → Option (List X) → Option (
 in_front None rest = None
 in_front (Some x) rest = option_map (λ xs. x ∷ xs) rest
 
--- what `see` sees in each of several slots, if it sees something in each
+-- what `see` finds in each of several slots, or None if it finds nothing in one of them
 abbrev pub each_in : {X : Type 0} → (Option Object → Option X) → List (Option Object) → Option (List X)
 each_in see [] = Some []
 each_in see (o ∷ os) = in_front (see o) (each_in see os)
 
--- a list gains a value at its end, if there is one
+-- a list gains a value at its end; there has to be a value
 abbrev pub Adds : {X : Type 0} → Option X → List X → List X → Type 0
 Adds None old new = ⊥
 Adds (Some x) old new = new ≡ old ++ (x ∷ [])
 
--- what is said of two values, if both are there
+-- a statement about two values; both have to be there
 abbrev pub OfBoth : {X Y : Type 0} → Option X → Option Y → (X → Y → Type 0) → Type 0
 OfBoth None y P = ⊥
 OfBoth (Some x) None P = ⊥
 OfBoth (Some x) (Some y) P = P x y
 
--- what names and types return that can't be read, or are too deep: 2 if a slot has no type, 6 if a type has 128 levels
+-- the number that is returned if names and types can't be used: 2 if a slot contains no type, 6 if a type has 128
+-- levels, or the number for the names
 abbrev pub RefusesParts : Option (List (List ℕ)) → Option (List Tree) → ℕ → Type 0
 RefusesParts names types code = RefusesNames names code ⊎ ((code ≡ 6) ⊎ ((code ≡ 2) × (types ≡ None)))
 
--- A type is put that is made of names and types, or the code tells what is wrong with them.
+-- a type that is made from names and types is stored, or the number specifies what is wrong with them
 abbrev pub PutsMadeOf : Option (List (List ℕ)) → Option (List Tree) → (List (List ℕ) → List Tree → ℕ → Option Object → Option Object → Type 0) → ℕ → Option Object → Option Object → Type 0
 PutsMadeOf names types P code old new =
     (RefusesParts names types code × (new ≡ old)) ⊎ OfBoth names types (λ ns ts. P ns ts code old new)
 
--- a struct of names and types: 9 if there are more or fewer names than types
+-- the struct of names and types is stored, or 9 is returned if there are more or fewer names than types
 abbrev pub PutsStruct : Nullability → List (List ℕ) → List Tree → ℕ → Option Object → Option Object → Type 0
 PutsStruct n ns ts code old new =
     ((code ≡ 0) × ((length ns ≡ length ts) × (type_in new ≡ Some (struct (fields (zip ns ts)) n))))
     ⊎ (((code ≡ 9) × ((length ns ≢ length ts) × (new ≡ old))) ⊎ ((code ≡ 100) × (new ≡ old)))
 
--- the number of the first rule of a union that names, types and tags break
+-- the number for the first rule of unions that the names, types and tags break
 abbrev pub RefusesUnion : List (List ℕ) → ℕ → List ℕ → ℕ → Type 0
 RefusesUnion ns types tags code = (e : VortexError) × UnionError ns types tags e × (code ≡ 100 + number_of e)
 
--- a union of names, types and tags
+-- the union of names, types and tags is stored, or the number for the first rule that they break is returned
 abbrev pub PutsUnion : List ℕ → Nullability → List (List ℕ) → List Tree → ℕ → Option Object → Option Object → Type 0
 PutsUnion tags n ns ts code old new =
     ((code ≡ 0) × (MakesUnion ns (length ts) tags × (type_in new ≡ Some (union (variants (zip ns (zip ts tags))) n))))
     ⊎ ((RefusesUnion ns (length ts) tags code × (new ≡ old)) ⊎ ((code ≡ 100) × (new ≡ old)))
 
--- the same with the tags 0, 1, 2 and so on: 114 if there are more than 256 names
+-- the same with the tags 0, 1, 2 and so on; 114 is returned if there are more than 256 names
 abbrev pub PutsConsecutive : Nullability → List (List ℕ) → List Tree → ℕ → Option Object → Option Object → Type 0
 PutsConsecutive n ns ts code old new =
     ((code ≡ 114) × ((256 < length ns) × (new ≡ old))) ⊎ PutsUnion (range_with_len 0 (length ns)) n ns ts code old new
 
--- the struct of the first fields of these names: 116 if one of them is absent
+-- the struct of the first fields with these names is stored, or 116 is returned if no field has one of the names
 abbrev pub PutsProjection : List (List ℕ × Tree) → Nullability → List (List ℕ) → ℕ → Option Object → Option Object → Type 0
 PutsProjection fs n names code old new =
     ((code ≡ 0) × ((gs : List (List ℕ × Tree)) × Projects fs names gs × (type_in new ≡ Some (struct (fields gs) n))))
     ⊎ (((code ≡ 116) × (((i : ℕ) × IsFirstAbsent (field_names fs) names i) × (new ≡ old))) ⊎ ((code ≡ 100) × (new ≡ old)))
 
--- what is said of names, if they can be read
+-- a statement about names if they can be read, and otherwise the number that is returned
 abbrev pub WithNames : Option (List (List ℕ)) → ℕ → Option Object → Option Object → (List (List ℕ) → Type 0) → Type 0
 WithNames None code old new P = RefusesNames None code × (new ≡ old)
 WithNames (Some ns) code old new P = (((code ≡ 3) ⊎ (code ≡ 100)) × (new ≡ old)) ⊎ P ns
 
--- a set has the paths besides that slots have, each of which has one
+-- a set gains the paths that slots contain; each slot has to contain one
 abbrev pub GainsFirst : Option (List (List Field)) → PathSet → PathSet → Type 0
 GainsFirst None old new = ⊥
 GainsFirst (Some ps) old new = new ≡ set.union old (set_of ps)
 
--- the same of what a slot has afterwards
+-- the same for the set that a slot contains afterwards
 abbrev pub SetGains : Option (List (List Field)) → PathSet → Option PathSet → Type 0
 SetGains ps old None = ⊥
 SetGains ps old (Some new) = GainsFirst ps old new
 
--- there is an object, or an empty slot, and it is no path
+-- there is a slot, and it doesn't contain a path
 abbrev pub IsNoPath : Option (Option Object) → Type 0
 IsNoPath None = ⊥
 IsNoPath (Some object) = path_in object ≡ None
 
--- Why a call ends after so many of the objects: 0 if that is all of them, 2 if the next is no path.
+-- why a call ends after `count` of the objects: 0 if these are all of them, 2 if the next slot contains no path, and
+-- 100 if an allocation fails
 abbrev pub EndsAt : List (Option Object) → ℕ → ℕ → Type 0
 EndsAt objects code count =
     ((code ≡ 0) × (count ≡ length objects)) ⊎ ((count < length objects) × ((code ≡ 100) ⊎ ((code ≡ 2) × IsNoPath (slice_get objects count))))
 
--- the set in a slot gains the paths in others, in order, up to the first that can't be inserted; `count` tells how many
+-- the set in a slot gains the paths in other slots, in order, up to the first that can't be inserted; `now` is how many
+-- it gains
 abbrev pub GainsSlots : Option PathSet → List (Option Object) → ℕ → ℕ → ℕ → Option Object → Option Object → Type 0
 GainsSlots None objects code count now old new = (code ≡ 2) × (now ≡ count) × (new ≡ old)
 GainsSlots (Some s) objects code count now old new = SetGains (each_in path_in (take now objects)) s (set_in new) × EndsAt objects code now

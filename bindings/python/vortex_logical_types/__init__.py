@@ -190,8 +190,9 @@ class DType(Object):
 
     @staticmethod
     def union(variants: Iterable[tuple[str, DType]], nullable: bool = False, tags: Optional[bytes] = None) -> DType:
-        """Returns the union type with these variants and tags. Without `tags` they are 0, 1, 2 and so on. Raises
-        `LibraryError` 110 to 115 if the variants and tags don't make a union."""
+        """Returns the union type with these variants, each a pair of a name and a type, and with these tags. Without
+        `tags` the tags are 0, 1, 2 and so on. Raises `LibraryError` 111 to 115 if the variants and tags don't make a
+        union, for example 113 if a tag repeats, and 6 if the type of a variant has 128 levels."""
         if tags is None:
             return DType._of_parts(native.vlt_dtype_union_consecutive, variants, (nullable,))
         return DType._of_parts(native.vlt_dtype_union, variants, (bytes(tags), len(tags), nullable))
@@ -304,8 +305,8 @@ class DType(Object):
 
     @property
     def element_size(self) -> Optional[int]:
-        """The number of bytes that each value takes, or None if not all values take the same number. Raises
-        `LibraryError` 119 if a part of the type is wider than a number of 64 bits can say."""
+        """The number of bytes that each value takes, or None if a part of the type is of variable width, such as a
+        text. Raises `LibraryError` 119 if the type or a part of it is wider than a number of 64 bits can say."""
         return number(ctypes.c_size_t, native.vlt_dtype_element_size, self._own)
 
     # Fields of a struct. Each raises `LibraryError` 5 if the type is no struct.
@@ -826,7 +827,8 @@ class Message(Object):
 def answer(line: Union[str, bytes]) -> Optional[str]:
     """Returns what the library's console answers to a line, which is a command with its arguments. Returns None for a
     line that has no answer: a blank line, a comment, or a command that ends the console. At the beginning of each call
-    there is no named set and no named session.
+    there is no named set and no named session. If the library refuses the arguments of the command, the answer says
+    so, and no exception is raised.
 
     >>> answer("resolve a.[] {a=list(i32?)}")
     'i32?'

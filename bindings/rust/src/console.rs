@@ -1,13 +1,14 @@
 // SPDX-License-Identifier: Apache-2.0
 // SPDX-FileCopyrightText: Copyright the Vortex contributors
 
-//! The console of the library, which has a command for each call.
+//! The console of the library, which has commands for most calls.
 use crate::calls;
 use crate::error::Error;
 use crate::ffi;
 
-/// Returns the answer of the library's console to a line, or `None` if it has none: to a line that is blank or a comment,
-/// and to one that ends the console. What can't be read or is refused is an answer too.
+/// Returns the answer of the library's console to a line. Returns `None` for a line that has no answer: a blank line, a
+/// comment, or a command that ends the console. If the line can't be read, or if the library refuses its arguments, the
+/// answer says so.
 ///
 /// Each call begins with no named set and no named session, so a line can't use those of an earlier one.
 ///
@@ -21,7 +22,8 @@ use crate::ffi;
 /// ```
 ///
 /// # Errors
-/// [`Error::OutOfMemory`].
+/// [`Error::OutOfMemory`]. If memory runs out in the call of the library that the command makes, the answer may be
+/// `refused 0: out of memory` instead.
 pub fn answer(line: impl AsRef<[u8]>) -> Result<Option<String>, Error> {
     calls::text_found(|buffer, length| ffi::answer(line.as_ref(), buffer, length))
 }

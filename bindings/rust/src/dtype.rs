@@ -66,7 +66,8 @@ impl DType {
     /// Returns a decimal type.
     ///
     /// # Errors
-    /// The library's errors 1 to 4, if the precision isn't from 1 to 76, or the scale is above 76 or above the precision.
+    /// The library's errors 1 to 4, if the precision isn't from 1 to 76, or the scale is above 76 or above the precision,
+    /// and [`Error::OutOfMemory`].
     pub fn decimal(precision: u8, scale: i8, nullability: Nullability) -> Result<DType, Error> {
         made(|out| ffi::dtype_decimal(precision, scale, nullability.into(), out)).map(DType::of)
     }
@@ -195,7 +196,7 @@ impl DType {
         self.is_nullable().into()
     }
 
-    /// Returns whether there is a non-nullable type of this kind: not of the null type, nor of an extension over it.
+    /// Returns whether the type can be made non-nullable. This is true of all types except null and extensions over null.
     pub fn can_be_nonnullable(&self) -> bool {
         holds(ffi::dtype_can_be_nonnullable(&self.slot))
     }
@@ -226,12 +227,12 @@ impl DType {
         self.with_nullability(Nullability::NonNullable)
     }
 
-    /// Returns the type that is nullable if it is or `nullability` says so.
+    /// Returns the type, which is nullable if it was nullable or if `nullability` is [`Nullability::Nullable`].
     pub fn union_nullability(&self, nullability: Nullability) -> DType {
         or_abort(self.try_union_nullability(nullability))
     }
 
-    /// Returns the type that is nullable if it is or `nullability` says so, or [`Error::OutOfMemory`].
+    /// Returns what [`DType::union_nullability`] returns, or [`Error::OutOfMemory`].
     pub fn try_union_nullability(&self, nullability: Nullability) -> Result<DType, Error> {
         made(|out| ffi::dtype_union_nullability(&self.slot, nullability.into(), out)).map(DType::of)
     }
@@ -251,17 +252,19 @@ impl DType {
         state.write_u64(plain(|hash| ffi::dtype_hash_ignore_nullability(&self.slot, hash)));
     }
 
-    /// Returns whether this is `other` with fewer parts nullable, or the same.
+    /// Returns whether this type is a subset of `other`: the two are equal except for nullability, and `other` is nullable
+    /// wherever this type is.
     pub fn eq_with_nullability_subset(&self, other: &DType) -> bool {
         ptr::eq(self, other) || holds(ffi::dtype_nullability_subset(&self.slot, &other.slot))
     }
 
-    /// Returns whether this is `other` with more parts nullable, or the same.
+    /// Returns whether `other` is a subset of this type, as [`DType::eq_with_nullability_subset`] defines it.
     pub fn eq_with_nullability_superset(&self, other: &DType) -> bool {
         ptr::eq(self, other) || holds(ffi::dtype_nullability_superset(&self.slot, &other.slot))
     }
 
-    /// Returns the least type that takes the values of both, if there is one: they may differ in nullabilities alone.
+    /// Returns the least type that has the values of both types, or `None` if the two differ in more than nullability. It
+    /// is nullable wherever at least one of the two is.
     ///
     /// ```
     /// # use vortex_logical_types::DType;
@@ -276,17 +279,18 @@ impl DType {
         or_abort(self.try_merge_nullability(other))
     }
 
-    /// Returns the least type that takes the values of both, if there is one, or [`Error::OutOfMemory`].
+    /// Returns what [`DType::merge_nullability`] returns, or [`Error::OutOfMemory`].
     pub fn try_merge_nullability(&self, other: &DType) -> Result<Option<DType>, Error> {
         self.with_other(other, ffi::dtype_merge_nullability)
     }
 
-    /// Returns the greatest type whose values both take, if there is one: they may differ in nullabilities alone.
+    /// Returns the greatest type whose values are values of both types, or `None` if the two differ in more than
+    /// nullability. It is nullable only where both are.
     pub fn intersect_nullability(&self, other: &DType) -> Option<DType> {
         or_abort(self.try_intersect_nullability(other))
     }
 
-    /// Returns the greatest type whose values both take, if there is one, or [`Error::OutOfMemory`].
+    /// Returns what [`DType::intersect_nullability`] returns, or [`Error::OutOfMemory`].
     pub fn try_intersect_nullability(&self, other: &DType) -> Result<Option<DType>, Error> {
         self.with_other(other, ffi::dtype_intersect_nullability)
     }
@@ -302,13 +306,14 @@ impl DType {
         Ok(found(|out| call(&self.slot, &other.slot, out))?.map(DType::of))
     }
 
-    /// Returns the type as far as the paths of the set lead, with the fields in their order here, or `None` if no path
-    /// leads to a type.
+    /// Returns the part of the type that a reader of the paths opens, or `None` if no path of the set exists in the type.
+    /// The fields of the part are in the order of this type. For example, the part of `{a=i32, b={c=u8, d=u8}}` for the
+    /// path `b.c` is `{b={c=u8}}`.
     pub fn project_paths(&self, set: &FieldPathSet) -> Option<DType> {
         or_abort(self.try_project_paths(set))
     }
 
-    /// Returns the type as far as the paths of the set lead, if one does, or [`Error::OutOfMemory`].
+    /// Returns what [`DType::project_paths`] returns, or [`Error::OutOfMemory`].
     pub fn try_project_paths(&self, set: &FieldPathSet) -> Result<Option<DType>, Error> {
         Ok(found(|out| ffi::project_paths(&self.slot, &set.slot, out))?.map(DType::of))
     }
@@ -449,10 +454,11 @@ impl DType {
         self.is_extension().then_some(ExtDTypeRef { dtype: self })
     }
 
-    /// Returns how many bytes a value takes, if all values take as many.
+    /// Returns the number of bytes that each value takes, or `None` if a part of the type is of variable width, such as a
+    /// text.
     ///
     /// # Errors
-    /// The library's error 19 if that is above [`usize::MAX`].
+    /// The library's error 19 if the width of the type, or of a part of it, is above [`usize::MAX`].
     pub fn element_size(&self) -> Result<Option<usize>, Error> {
         value(|size| ffi::dtype_element_size(&self.slot, size))
     }
@@ -490,7 +496,7 @@ fn taken_apart<N: AsRef<str>>(fields: impl IntoIterator<Item = (N, DType)>) -> R
 /// Reads the console's text of a type, such as `{a=list(i32?), "b c"=decimal(10,2)}`.
 ///
 /// # Errors
-/// [`Error::Unreadable`] with the position, also where the text is nested more than 128 levels deep;
+/// [`Error::Unreadable`] with the position, also if the text is nested more than 128 levels deep;
 /// [`Error::OutOfMemory`]; and the library's errors if a type in the text can't be made, such as `decimal(0,0)`.
 impl FromStr for DType {
     type Err = Error;

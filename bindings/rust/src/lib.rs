@@ -40,18 +40,29 @@
 //! # Errors and memory
 //!
 //! A call that can fail for another reason than lack of memory returns a [`Result`] with an [`Error`]. If memory runs
-//! out in such a call, the error is [`Error::OutOfMemory`].
+//! out in such a call, the error is [`Error::OutOfMemory`]. The same is true of [`answer`], which can fail only for lack
+//! of memory.
 //!
-//! If a call can fail only for lack of memory and memory runs out, it calls [`std::alloc::handle_alloc_error`], which
-//! aborts the program, as Rust's own collections do. Almost every such call has a second form, whose name begins with
-//! `try_` and which returns the error. For example, [`FieldPath::try_push`] is the second form of [`FieldPath::push`].
-//! These have none:
+//! If any other call can fail only for lack of memory and memory runs out, it calls
+//! [`std::alloc::handle_alloc_error`], which aborts the program, as Rust's own collections do. Almost every such call
+//! has a second form, whose name begins with `try_` and which returns the error. For example, [`FieldPath::try_push`] is
+//! the second form of [`FieldPath::push`]. A call of a trait has its second form among the methods of the type. For
+//! example, `try_clone` is that of `clone`, `try_from_iter` that of `collect`, and [`FieldPathSet::try_cover`] that of
+//! `into_iter`. These calls have none:
 //!
 //! - `names`, `fields` and `variants` of structs and unions: call `try_field_name`, `try_field_by_index`,
 //!   `try_variant_name` or `try_variant_by_index` for each index instead.
+//! - [`UnionVariants::type_ids`]: call [`UnionVariants::child_index_to_tag`] for each index instead, which doesn't
+//!   allocate.
+//! - [`DType::as_list_element_opt`] and [`DType::as_fixed_size_list_element_opt`]: test [`DType::is_list`] or
+//!   [`DType::is_fixed_size_list`], and then call [`DType::try_as_any_size_list_element_opt`].
 //! - [`FieldPathSet::is_empty`]: call [`FieldPathSet::try_len`] instead.
 //! - [`FieldPath::from_field`]: call [`FieldPath::try_from_iter`] instead.
 //! - `next_back` of [`Paths`]: call [`Paths::try_next`], which begins at the other end.
+//!
+//! `Display` and `Debug` neither abort nor return an [`Error`]. If memory runs out while the library makes a text for
+//! them, they return [`std::fmt::Error`], on which `to_string`, `format!` and `println!` panic. If your program
+//! must not panic, call `try_to_source` instead.
 //!
 //! A type is nested at most 128 levels deep, so that dropping it can't exhaust the stack.
 //!

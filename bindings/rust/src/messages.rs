@@ -164,8 +164,10 @@ impl DType {
     /// Returns the type that the message describes.
     ///
     /// # Errors
-    /// The library's errors 24 to 35 if the message describes no type, by the first fault; 35 is an extension that is
-    /// refused by `unknown`. [`Error::TooDeep`] if the type would be nested too deeply, and [`Error::OutOfMemory`].
+    /// The library's error for the first fault of the message, if it describes no type. It is one of the errors 24 to 35,
+    /// or 1 to 4 for a decimal, 9 for a map, and 10 to 13 or 15 for a union. For an extension it is 35, if `unknown` is
+    /// [`UnknownIds::Refuse`]. [`Error::TooDeep`] if the type would be nested more than 128 levels deep, and
+    /// [`Error::OutOfMemory`].
     pub fn from_proto(message: &Message, unknown: UnknownIds) -> Result<DType, Error> {
         made(|out| ffi::message_to_dtype(&message.slot, unknown.are_allowed(), out)).map(DType::of)
     }

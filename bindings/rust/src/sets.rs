@@ -241,7 +241,8 @@ impl Paths {
         made(|out| ffi::paths_get(&self.list, index, out)).map(FieldPath::of)
     }
 
-    /// Returns the next path, or [`Error::OutOfMemory`]. Then the same path is the next again.
+    /// Returns the next path, or `None` at the end. If memory runs out, the call returns [`Error::OutOfMemory`], and the
+    /// next call returns the path that this one didn't.
     pub fn try_next(&mut self) -> Result<Option<FieldPath>, Error> {
         if self.next == self.end {
             return Ok(None);

@@ -60,9 +60,9 @@
 //! - [`FieldPath::from_field`]: call [`FieldPath::try_from_iter`] instead.
 //! - `next_back` of [`Paths`]: call [`Paths::try_next`], which begins at the other end.
 //!
-//! `Display` and `Debug` neither abort nor return an [`Error`]. If memory runs out while the library makes a text for
-//! them, they return [`std::fmt::Error`], on which `to_string`, `format!` and `println!` panic. If your program
-//! must not panic, call `try_to_source` instead.
+//! `Display` and `Debug` of a type, a path, a set, a mask or a message neither abort nor return an [`Error`]. If memory
+//! runs out while the library makes a text for them, they return [`std::fmt::Error`], on which `to_string`, `format!`
+//! and `println!` panic. If your program must not panic, call `try_to_source` of the type, path or message instead.
 //!
 //! A type is nested at most 128 levels deep, so that dropping it can't exhaust the stack.
 //!

@@ -129,7 +129,7 @@ impl DType {
         made(|out| ffi::dtype_map(&key.slot, &value.slot, keys_sorted, nullability.into(), out)).map(DType::of)
     }
 
-    /// Returns a struct of these fields. The iterator ends before the library is called.
+    /// Returns a struct of these fields. All items are taken from the iterator before the library is called.
     ///
     /// # Errors
     /// [`Error::TooDeep`] if a field's type is 128 levels deep, and [`Error::OutOfMemory`].
@@ -141,7 +141,8 @@ impl DType {
         made(|out| ffi::dtype_struct(&names.text, &names.lengths, &mut dtypes, nullability.into(), out)).map(DType::of)
     }
 
-    /// Returns a union of these variants, with the tags 0, 1, 2 and so on. The iterator ends before the library is called.
+    /// Returns a union of these variants, with the tags 0, 1, 2 and so on. All items are taken from the iterator before the
+    /// library is called.
     ///
     /// # Errors
     /// The library's errors 12, 14 and 15, if there is no variant, if there are more than 256, or if a name repeats;
@@ -155,7 +156,8 @@ impl DType {
             .map(DType::of)
     }
 
-    /// Returns a union of these variants, each with its tag. The iterator ends before the library is called.
+    /// Returns a union of these variants, each with its tag. All items are taken from the iterator before the library is
+    /// called.
     ///
     /// # Errors
     /// The library's errors 12, 13 and 15, if there is no variant, or if a tag or a name repeats; [`Error::TooDeep`];
@@ -482,7 +484,7 @@ impl DType {
     }
 }
 
-/// The names and the types of fields or variants. The iterator ends before this does.
+/// The names and the types of fields or variants, all of which are taken from the iterator.
 fn taken_apart<N: AsRef<str>>(fields: impl IntoIterator<Item = (N, DType)>) -> Result<(Names, Vec<Slot>), Error> {
     let (mut names, mut dtypes) = (Names::default(), Vec::new());
     for (name, dtype) in fields {

@@ -9,7 +9,8 @@ use crate::paths::{Field, FieldPath};
 use std::fmt;
 use std::ptr;
 
-/// Which paths match: all, those at and below a path, or exactly one.
+/// A selection of paths. It selects all paths, or a path and every path below it, or one path alone. A path *matches* the
+/// mask if the mask selects it.
 ///
 /// ```
 /// use vortex_logical_types::{Field, FieldMask, FieldPath};
@@ -30,7 +31,7 @@ pub struct FieldMask {
 pub enum MaskKind {
     /// All paths match.
     All,
-    /// A path matches if it begins with the mask's.
+    /// A path matches if it begins with the mask's path.
     Prefix,
     /// The mask's path alone matches.
     Exact,
@@ -90,7 +91,8 @@ impl FieldMask {
         Ok(found(|out| ffi::mask_path(&self.slot, out))?.map(FieldPath::of))
     }
 
-    /// Returns the mask after one step.
+    /// Returns the mask of what is selected below the first step of the mask's path. For example, for the prefix `a.b` it
+    /// is the prefix `b`, and for the prefix `a` it is the mask that all paths match. For that mask it is the same mask.
     ///
     /// # Errors
     /// The library's error 20 for the mask of exactly the root, and [`Error::OutOfMemory`].
@@ -98,7 +100,7 @@ impl FieldMask {
         made(|out| ffi::mask_step_into(&self.slot, out)).map(FieldMask::of)
     }
 
-    /// Returns the first step, if the path has one.
+    /// Returns the first step of the mask's path, or `None` if that path is the root.
     ///
     /// # Errors
     /// The library's error 21 for the mask that all paths match, and [`Error::OutOfMemory`].

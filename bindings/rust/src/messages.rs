@@ -126,8 +126,9 @@ impl Message {
         if calls::done(code)? { Ok(FlatMessage { nodes, texts }) } else { Err(Error::OutOfRange) }
     }
 
-    /// Returns the normal form: the message of the type that it describes, with every child, flag and number, and with the
-    /// metadata of each extension, even if that is empty.
+    /// Returns the normal form of this message, which is the message that [`DType::to_proto`] returns for the type that
+    /// this message describes. It has every child, flag and number, and the metadata of each extension, even if that is
+    /// empty.
     ///
     /// ```
     /// # use vortex_logical_types::{Message, UnknownIds};
@@ -185,7 +186,7 @@ impl DType {
 
 impl FieldPath {
     /// Returns the path that the message of a path describes, whose parts have these names. `None` stands for a part that
-    /// has no kind. The iterator ends before the library is called.
+    /// has no kind. All items are taken from the iterator before the library is called.
     ///
     /// ```
     /// # use vortex_logical_types::FieldPath;

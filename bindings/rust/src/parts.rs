@@ -77,11 +77,11 @@ impl StructFields<'_> {
             .map(|index| self.field_by_index(index).unwrap_or_else(|| unreachable!("{index} is a position")))
     }
 
-    /// Returns the struct of the fields of these names, in their order, with the nullability of the type. The iterator ends
-    /// before the library is called.
+    /// Returns the struct of the fields with these names, in the order of the names, with the nullability of the type. All
+    /// names are taken from the iterator before the library is called.
     ///
     /// # Errors
-    /// The library's error 16 if no field has one of the names, and [`Error::OutOfMemory`].
+    /// The library's error 16 if one of the names isn't the name of a field, and [`Error::OutOfMemory`].
     pub fn project<N: AsRef<str>>(&self, names: impl IntoIterator<Item = N>) -> Result<DType, Error> {
         let mut projection = Names::default();
         for name in names {
@@ -98,10 +98,10 @@ impl StructFields<'_> {
         made(|out| ffi::struct_without_field(&self.dtype.slot, index, out)).map(DType::of)
     }
 
-    /// Returns the struct of the fields of both, these first, with the nullability of the type.
+    /// Returns the struct of the fields of both, first those of this struct, with the nullability of this struct.
     ///
     /// # Errors
-    /// The library's error 18 if a name is there twice, and [`Error::OutOfMemory`].
+    /// The library's error 18 if a name occurs twice among the fields of both, and [`Error::OutOfMemory`].
     pub fn disjoint_merge(&self, other: &StructFields<'_>) -> Result<DType, Error> {
         let copy = if ptr::eq(self.dtype, other.dtype) { Some(other.dtype.try_clone()?) } else { None };
         let other = copy.as_ref().unwrap_or(other.dtype);
@@ -119,7 +119,8 @@ impl StructFields<'_> {
     }
 }
 
-/// The variants of a union, from [`DType::as_union_variants_opt`]. Each has a tag, by which a value says which it is.
+/// The variants of a union, from [`DType::as_union_variants_opt`]. Each variant has a tag, and a value of the union has the
+/// tag of its variant.
 ///
 /// ```
 /// use vortex_logical_types::DType;
@@ -254,7 +255,7 @@ impl MapDType<'_> {
         made(|out| ffi::dtype_entries(&self.dtype.slot, out)).map(DType::of)
     }
 
-    /// Returns whether the keys of each map are said to be sorted.
+    /// Returns whether the keys of each map are declared sorted.
     pub fn keys_sorted(&self) -> bool {
         holds(ffi::dtype_keys_sorted(&self.dtype.slot))
     }

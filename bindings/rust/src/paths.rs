@@ -95,7 +95,8 @@ impl FieldPath {
         or_abort(FieldPath::try_from_iter([field.into()]))
     }
 
-    /// Returns the path of these steps, or [`Error::OutOfMemory`]. The iterator ends before the library is called.
+    /// Returns the path of these steps, or [`Error::OutOfMemory`]. All items are taken from the iterator before the library
+    /// is called.
     pub fn try_from_iter(parts: impl IntoIterator<Item = impl Into<Field>>) -> Result<FieldPath, Error> {
         let mut steps = Names::default();
         for part in parts {
@@ -151,7 +152,7 @@ impl FieldPath {
         .map(FieldPath::of)
     }
 
-    /// Returns whether the first step is this name.
+    /// Returns whether the first step is this name. For the root it returns false.
     ///
     /// # Errors
     /// [`Error::Precondition`] if the first step is the element.
@@ -256,7 +257,7 @@ impl From<Field> for FieldPath {
     }
 }
 
-/// The iterator ends before the library is called.
+/// All items are taken from the iterator before the library is called.
 impl<F: Into<Field>> FromIterator<F> for FieldPath {
     fn from_iter<I: IntoIterator<Item = F>>(parts: I) -> FieldPath {
         or_abort(FieldPath::try_from_iter(parts))

@@ -153,7 +153,8 @@ impl fmt::Display for PType {
     }
 }
 
-/// What a decimal type says: how many digits a value has, and how many of them are behind the point.
+/// The precision and the scale of a decimal type: how many digits a value has at most, and how many of them are behind the
+/// point.
 #[derive(Debug, Clone, Copy, PartialEq, Eq, Hash)]
 pub struct DecimalDType {
     pub(crate) precision: u8,
@@ -161,12 +162,13 @@ pub struct DecimalDType {
 }
 
 impl DecimalDType {
-    /// Returns the number of digits, 1 to 76.
+    /// Returns the greatest number of digits, from 1 to 76.
     pub fn precision(&self) -> u8 {
         self.precision
     }
 
-    /// Returns the number of digits behind the point; it may be negative.
+    /// Returns the number of digits behind the point. If it is negative, the value is a multiple of a power of ten. For
+    /// example, with the scale -2 it is a multiple of 100.
     pub fn scale(&self) -> i8 {
         self.scale
     }

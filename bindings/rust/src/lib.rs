@@ -50,8 +50,10 @@
 //! example, `try_clone` is that of `clone`, `try_from_iter` that of `collect`, and [`FieldPathSet::try_cover`] that of
 //! `into_iter`. These calls have none:
 //!
-//! - `names`, `fields` and `variants` of structs and unions: call `try_field_name`, `try_field_by_index`,
-//!   `try_variant_name` or `try_variant_by_index` for each index instead.
+//! - [`StructFields::names`]: call [`StructFields::try_field_name`] for each index instead.
+//! - [`StructFields::fields`]: call [`StructFields::try_field_by_index`] for each index instead.
+//! - [`UnionVariants::names`]: call [`UnionVariants::try_variant_name`] for each index instead.
+//! - [`UnionVariants::variants`]: call [`UnionVariants::try_variant_by_index`] for each index instead.
 //! - [`UnionVariants::type_ids`]: call [`UnionVariants::child_index_to_tag`] for each index instead, which doesn't
 //!   allocate.
 //! - [`DType::as_list_element_opt`] and [`DType::as_fixed_size_list_element_opt`]: test [`DType::is_list`] or
@@ -59,6 +61,9 @@
 //! - [`FieldPathSet::is_empty`]: call [`FieldPathSet::try_len`] instead.
 //! - [`FieldPath::from_field`]: call [`FieldPath::try_from_iter`] instead.
 //! - `next_back` of [`Paths`]: call [`Paths::try_next`], which begins at the other end.
+//! - `from` and `clone` of [`Field`], and `clone` of [`FlatMessage`]: these are plain Rust values, whose texts and lists
+//!   Rust's own allocator makes. If you pass a text to [`FieldPath::try_push`] or [`FieldPath::try_from_iter`], these make a
+//!   [`Field`] of it first. [`FieldPath::try_from_name`] doesn't.
 //!
 //! `Display` and `Debug` of a type, a path, a set, a mask or a message neither abort nor return an [`Error`]. If memory
 //! runs out while the library makes a text for them, they return [`std::fmt::Error`], on which `to_string`, `format!`

@@ -32,7 +32,7 @@ CHANGES = [
     ("docs/TRUST.md", "", "\nsome 4 lines of `specs/`\n", " lines, not 4\n"),
     ("docs/TRUST.md", "", "\n```sh\ntools/gone\n```\n", "docs/TRUST.md: there is no tools/gone"),
     ("docs/TRUST.md", "", "\n`tools/reference --chek`\n", "docs/TRUST.md: tools/reference has no --chek"),
-    ("crates/dtype_native/src/integer_ptype.rt", "/// A native integer type: one of", "/// A type: one of",
+    ("crates/dtype_native/src/integer_ptype.rt", "/// A native integer type: `u8`", "/// A type: `u8`",
      "docs/reference/dtype_native.md isn't of these sources"),
     ("CHANGELOG.md", f"## {version()}", f"## 9.9.9\n\n## {version()}", "its newest version is 9.9.9, the console's"),
     ("crates/dtype_console/stdin", "", "name b\n", "stdin: its lines aren't those of crates/dtype_console/stdout"),
@@ -61,7 +61,7 @@ class Pages(Planted):
         self.assertRegex(self.read("docs/BENCHMARKS.md"), r"\| find among 10 fields \| [\d.]+ to 30 \|")
 
     def test_the_reference_says_what_a_call_does(self):
-        self.change(NAME, "/// Returns the name with a copy of this text.", "/// Returns a name.")
+        self.change(NAME, "/// Returns the name with this text. The text is copied.", "/// Returns a name.")
         self.change("crates/dtype_console/stdout", "", "> name b c\nrefused 0: out of memory\n")
         self.run_tool("reference")
         self.assertIn("""

@@ -39,10 +39,11 @@ use std::alloc::Global;
 /// The rules are:
 /// - The type at the end of a path is kept whole.
 /// - A struct keeps those fields of which at least a part is kept, in their order, and keeps its nullability. If
-///   several fields have the same name, a path leads to the first of them. If no field would be kept, the struct isn't
-///   kept either.
+///   several fields have the same name, a path leads to the first of them. If no field would be kept and no path ends
+///   at the struct, the struct isn't kept either.
 /// - A list keeps its nullability, and a fixed-size list keeps its nullability and its size. The element type is
-///   replaced by the part of it that is kept. If no part of the element type is kept, the list isn't kept either.
+///   replaced by the part of it that is kept. If no part of the element type is kept and no path ends at the list, the
+///   list isn't kept either.
 /// - Paths don't lead into any other type. For example, a map, a union or an extension type is kept whole or not at
 ///   all.
 ///

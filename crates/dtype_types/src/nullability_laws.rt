@@ -77,8 +77,8 @@ pub fn what_is_intersected_is_valid()
 ///   `d` are valid, and each value of `a` and each value of `b` is a value of `d`, then each value of `c` is a value of
 ///   `d`.
 ///
-/// For example, a program that reads a file with a column of type `i32` and a file with one of type `i32?` as one
-/// column needs the type `i32?`.
+/// For example, if a column is an `i32` in one file and an `i32?` in another, then a program that reads both files
+/// needs the type `i32?` for the column.
 ///
 /// About [`merge_nullability`].
 #[tactic(auto, using(crate::proofs::lemmas::Merging::values_first, crate::proofs::lemmas::Merging::values_second, crate::proofs::lemmas::Merging::merged_least_values))]

@@ -58,8 +58,8 @@ pub fn a_path_leads_to_a_valid_type()
     ensures { (t u : Tree) (p : List Field) → Valid t → At t p u → Valid u }
 {}
 
-/// The type at a path has exactly the values that lie along the path. In the seven statements below, `t` and `u` are
-/// types, `p` is a path, and `v` is a value.
+/// Under the conditions below, the type at a path has exactly the values that lie along the path. In the seven
+/// statements below, `t` and `u` are types, `p` is a path, and `v` is a value.
 ///
 /// A value lies along `p` in another value if the steps of `p`, taken in that other value, reach it. For example, 7
 /// lies along `a.[]` in `{a=[5, 7]}`. If there is a type at `p` in `t`, then `around t p v` is `v` with a struct, a
@@ -201,7 +201,8 @@ pub fn least_paths_tell_the_coverage()
 
 /// For each set `s` of paths:
 /// - The least paths of `s` cover exactly the paths that `s` covers.
-/// - The set of the least paths of `s` has these same paths as its own least paths.
+/// - Taking the least paths twice makes no difference: the least paths of the set of the least paths of `s` are the
+///   least paths of `s`.
 /// - Each least path of `s` is in every set that covers exactly the paths that `s` covers.
 ///
 /// For example, the only least path of the set of `a` and `a.b` is `a`, and `a` is in every set that covers the same
@@ -242,7 +243,7 @@ pub fn a_path_is_covered_where_it_starts_with_one(paths: &[FieldPath], path: &Fi
 
 /// For each list `ps` of paths and each path `q`, `q` is in the list exactly if `q` is in the set of the paths of the
 /// list. For example, `a` is in the list `a, b, a` and in the set of `a` and `b`. A caller needs this law because a
-/// loop visits a list, but the contracts of `iter` and `into_iter` specify only the set of the paths that they return.
+/// loop visits a list, but the contracts of `iter` and `into_iter` specify which set the returned paths form.
 ///
 /// About [`FieldPathSet::iter`].
 #[tactic(auto, using(crate::proofs::lemmas::SetMembers::listed))]

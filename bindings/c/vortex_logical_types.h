@@ -151,8 +151,8 @@ typedef struct {
  * without named sets and named sessions. */
 uint32_t vlt_answer(const uint8_t *line, size_t line_len, uint8_t *buffer, size_t buffer_len, size_t *length);
 
-/* Writes a few words to `buffer` that say what the result `code` means, for example `a text is not UTF-8` for 3.
- * Returns 9 if `code` is neither from 0 to 9 nor from 100 to 136. */
+/* Writes the meaning of the result `code` to `buffer` in a few words, for example `a text is not UTF-8` for 3. Returns
+ * 9 if `code` is neither from 0 to 9 nor from 100 to 136. */
 uint32_t vlt_error_text(uint32_t code, uint8_t *buffer, size_t buffer_len, size_t *length);
 
 /* Returns the version of this interface, which is 1. */

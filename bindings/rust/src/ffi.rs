@@ -343,8 +343,8 @@ pub(crate) fn answer(line: &[u8], buffer: &mut [u8], length: &mut usize) -> u32 
     unsafe { vlt_answer(line.as_ptr(), line.len(), buffer.as_mut_ptr(), buffer.len(), length) }
 }
 
-/// Writes a few words to `buffer` that say what the result `code` means, for example `a text is not UTF-8` for 3.
-/// Returns 9 if `code` is neither from 0 to 9 nor from 100 to 136.
+/// Writes the meaning of the result `code` to `buffer` in a few words, for example `a text is not UTF-8` for 3. Returns
+/// 9 if `code` is neither from 0 to 9 nor from 100 to 136.
 pub(crate) fn error_text(code: u32, buffer: &mut [u8], length: &mut usize) -> u32 {
     // SAFETY: see the head of this file.
     unsafe { vlt_error_text(code, buffer.as_mut_ptr(), buffer.len(), length) }

@@ -8,8 +8,8 @@ ghost use Rattle.vortex_logical_types.specs.Answers.{SameBuffer, WritesSome};
 use crate::buffers::write_bytes;
 use crate::errors::RANGE;
 
-/// Writes a few words to `buffer` that say what the result `code` means, for example `a text is not UTF-8` for 3.
-/// Returns 9 if `code` is neither from 0 to 9 nor from 100 to 136.
+/// Writes the meaning of the result `code` to `buffer` in a few words, for example `a text is not UTF-8` for 3. Returns
+/// 9 if `code` is neither from 0 to 9 nor from 100 to 136.
 #[unsafe(no_mangle)]
 pub extern "C" fn vlt_error_text(code: u32, buffer: &mut [u8], length: &mut usize) -> u32
     ensures { ((result ≡ 9) × SameBuffer (buffer.old, length.old) (buffer.new, length.new)) ⊎ WritesSome result (buffer.old, length.old) (buffer.new, length.new) }

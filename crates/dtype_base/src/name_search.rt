@@ -16,6 +16,7 @@ use crate::name_order::{Discriminator, NameIndex, position_in};
 
 // Returns the first position of the name, or `None`, and how many names were compared. The search is compiled once for
 // each discriminator, so that no step tests which discriminator it has.
+#[tactic(auto, using(crate::proofs::lemmas::Lookups::none_compared))]
 pub(crate) fn search(
     names: CountedNames<'_>,
     compared: Compared,

@@ -107,6 +107,10 @@ longest_bucket_is names longest each reached = elim (cases_lt 0 longest) [
 pub longest_within : (names : List (List ℕ)) → longest_bucket names ≤ length names
 longest_within names = longest_at_most names (length names) (λ n i e. bucket_within names n)
 
+-- among no names nothing is compared
+pub none_compared : (names : List (List ℕ)) → length names ≡ 0 → comparisons (longest_bucket names) ≡ 0
+none_compared names none = let no_bucket : longest_bucket names ≡ 0 = omega (arith, none, longest_within names) in ap comparisons no_bucket
+
 -- the longest bucket has some name, where there are names
 pub longest_some : (names : List (List ℕ)) → 0 < length names → 0 < longest_bucket names
 longest_some names some = omega (arith, bucket_at_most names 0 some, bucket_some names (get_or names 0 []) 0 (slice_get-get_or names 0 [] some))

@@ -9,7 +9,7 @@ use Rattle.std.proofs.lemmas.Nat.{mod_low, pow-add}
 use Rattle.std.proofs.lemmas.List.{get_or_past, take_rest}
 use Rattle.dtype_base.specs.BinaryDigits.{binary_digits}
 use Rattle.dtype_base.specs.NameHashes.{big_endian, bucket_of_key, hash_of, key_of, mixed, without_bits, words_hash}
-use Rattle.dtype_base.proofs.lemmas.BinaryDigits.{digits_between}
+use Rattle.dtype_base.proofs.lemmas.BinaryDigits.{digits_between, digits_fewest}
 
 -- no byte, no number
 pub of_none : (k : ℕ) (bs : List ℕ) → length bs ≡ 0 → big_endian k bs ≡ 0
@@ -47,6 +47,10 @@ pub ruleset hash_steps = (short_hash, whole_hash, words_more, take_rest)
 -- the binary digits of a number between two powers of two
 pub digits_of_log : (n k : ℕ) → 2 ^ k ≤ n → n < 2 * 2 ^ k → k + 1 ≡ binary_digits n
 digits_of_log n k low high = omega (arith, digits_between n k low (omega (arith, high, pow-suc 2 k)))
+
+-- positions of so few names take fewer than 64 bits
+pub few_bits : (bits count : ℕ) → bits ≡ binary_digits count → count < 2 ^ 63 → bits < 64
+few_bits bits count is fits = let few = digits_fewest count 63 fits in omega (arith, is, few)
 
 -- a key has a bucket
 pub bucket_below : (count key : ℕ) → 0 < count → key < 2 ^ 64 → key * count / 2 ^ 64 < count

@@ -53,6 +53,7 @@ pub(crate) fn position_in(entry: u64, bits: u32) -> usize
 }
 
 // The index of these names.
+#[tactic(auto, using(crate::proofs::NameHashes::few_bits, crate::proofs::lemmas::BinaryDigits::digits_reach))]
 pub(crate) fn build_index(alloc: Global, names: &[FieldName]) -> VortexResult<NameIndex>
     ensures { Makes result (λ index. IsIndexOf names.now index) }
 {

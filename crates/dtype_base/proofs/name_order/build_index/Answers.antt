@@ -2,28 +2,12 @@
 -- SPDX-FileCopyrightText: Copyright the Vortex contributors
 
 use Rattle.std.specs.List.Sorted.{IsNonDecreasingBy}
-use Rattle.std.proofs.Common.{ℕ, ◌≡◌, ◌<◌, ◌^◌, length, ap, subst, sym, ◌∙◌, arith}
-use Rattle.dtype_base.specs.BinaryDigits.{binary_digits}
+use Rattle.std.proofs.Common.{◌≡◌, length, ap, subst, sym, ◌∙◌, arith}
 use Rattle.dtype_base.specs.private.NameOrder.{AreStarts, IsLongest, key_in, positions}
-use Rattle.dtype_base.proofs.lemmas.BinaryDigits.{digits_fewest, digits_reach}
+use Rattle.dtype_base.proofs.NameHashes.{few_bits}
 use Rattle.dtype_base.proofs.IndexEntries.{index_of, keys_rise}
 use Rattle.dtype_base.proofs.NameSearch.{all_positions, as_many_positions}
 use Rattle.dtype_base.proofs.name_order.build_index.Goals as goal
-
-few_bits : (bits count : ℕ) → bits ≡ binary_digits count → count < 2 ^ 63 → bits < 64
-few_bits bits count is fits = let few = digits_fewest count 63 fits in omega (arith, is, few)
-
-pub keyed_entries-requires-clause-bits : goal.keyed_entries-requires-clause-bits
-keyed_entries-requires-clause-bits c = few_bits _ (length c.args.names.now) c.position_bits-bits.ensures (omega arith)
-
-pub keyed_entries-requires-clause-room : goal.keyed_entries-requires-clause-room
-keyed_entries-requires-clause-room c = let reach = digits_reach (length c.args.names.now) in omega (arith, reach, ap (λ b. 2 ^ b) c.position_bits-bits.ensures)
-
-pub sort_entries-requires : goal.sort_entries-requires
-sort_entries-requires c = record { bits = few_bits _ (length c.args.names.now) c.position_bits-bits.ensures (omega arith) }
-
-pub bucket_starts-requires-clause-bits : goal.bucket_starts-requires-clause-bits
-bucket_starts-requires-clause-bits c = few_bits _ (length c.args.names.now) c.position_bits-bits.ensures (omega arith)
 
 pub bucket_starts-requires-clause-rising : goal.bucket_starts-requires-clause-rising
 bucket_starts-requires-clause-rising c =

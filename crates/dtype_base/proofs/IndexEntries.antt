@@ -12,7 +12,7 @@ use Rattle.std.specs.Ordering.{is_eq, is_lt, ordering_then, nat_cmp}
 use Rattle.std.specs.Cmp.{IsTotalOrder, then_total, on_total, nat_cmp_is, nat_cmp_total}
 use Rattle.std.proofs.lemmas.Bool.{cases_order, false≢true}
 use Rattle.std.proofs.lemmas.List.{get_or-map, get_or_default, map-append}
-use Rattle.std.proofs.lemmas.List.Sorted.{All-permutation, IsPermutation-map, IsNonDecreasingBy-from_all_adjacent}
+use Rattle.std.proofs.lemmas.List.Sorted.{All-permutation, IsPermutation-map, IsPermutation-trans, IsNonDecreasingBy-from_all_adjacent}
 use Rattle.std.proofs.lemmas.Option.{slice_get-get_or, get_or_from_slice_get}
 use Rattle.dtype_base.specs.NameHashes.{key_of}
 use Rattle.dtype_base.specs.private.NameOrder.{AreDistinguishedBy, IsBucketFor, IsIndexBy, IsKeyed, KeysIncrease, bytes_cmp, key_in, key_or, keyed_position_cmp, name_cmp, position_cmp, position_in, entry_cmp, entry_name_cmp, positions}
@@ -45,6 +45,8 @@ at_most_unless_before a b o e = elim (cases_order b a) [
   | inr (inl less) ↦ absurd (false≢true (sym e ∙ ap (λ r. is_lt (ordering_then r o)) (sym (nat_cmp_is b a Less less))))
   | inr (inr more) ↦ omega (arith, more)
 ]
+
+pub ruleset permutations = (IsPermutation-trans)
 
 -- ---- entries
 

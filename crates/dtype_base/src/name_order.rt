@@ -88,6 +88,7 @@ fn keyed_entries(alloc: Global, names: &[FieldName], bits: u32) -> VortexResult<
 
 // Sorts the entries as numbers, which is branch-free, and compares texts only if two keys are equal. Returns what
 // distinguishes the entries.
+#[tactic(auto, using(crate::proofs::IndexEntries::permutations))]
 fn sort_entries(
     names: &[FieldName],
     bits: u32,

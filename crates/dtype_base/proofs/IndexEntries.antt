@@ -8,7 +8,8 @@ use Rattle.std.specs.List.{All, range_with_len}
 use Rattle.std.specs.List.Sorted.{IsNonDecreasingBy, IsPermutation, IsSorted}
 use Rattle.std.specs.declared.cmp.Ordering.TheVariants.{Less, Equal, Greater}
 use Rattle.std.specs.declared.cmp.Ordering.{Ordering}
-use Rattle.std.specs.Ordering.{is_eq, is_lt, ordering_then, nat_cmp}
+use Rattle.std.specs.Ordering.{is_lt, ordering_then, nat_cmp}
+use Rattle.std.specs.FinMap.{nat_cmp-IsAntisymmetric}
 use Rattle.std.specs.Cmp.{IsTotalOrder, then_total, on_total, nat_cmp_is, nat_cmp_total}
 use Rattle.std.proofs.lemmas.Bool.{cases_order, false≢true}
 use Rattle.std.proofs.lemmas.List.{get_or-map, get_or_default, map-append}
@@ -30,13 +31,6 @@ tied_then Equal s tie = sym (tie refl)
 tied_then _ s tie = refl
 
 -- ---- numbers by how they compare
-
-equal_numbers : (a b : ℕ) → nat_cmp a b ≡ Equal → a ≡ b
-equal_numbers a b e = elim (cases_order a b) [
-  | inl same ↦ same
-  | inr (inl less) ↦ absurd (false≢true (ap is_eq (nat_cmp_is a b Less less ∙ e)))
-  | inr (inr more) ↦ absurd (false≢true (ap is_eq (nat_cmp_is a b Greater more ∙ e)))
-]
 
 -- a number isn't above one that doesn't come before it, however ties are decided
 at_most_unless_before : (a b : ℕ) (o : Ordering) → is_lt (ordering_then (nat_cmp b a) o) ≡ false → a ≤ b
@@ -124,7 +118,7 @@ module _ (bits : ℕ) (names : List (List ℕ)) where
         let e = get_or entries k d in
         let there : slice_get names (position_in bits (get_or entries s.0 0)) ≡ Some n = ap (slice_get names) s.2 ∙ t.1 in
         let key_s : key_in bits (get_or entries s.0 0) ≡ key = entry_key (get_or entries s.0 0) (h.keyed s.0 0 s.1) ∙ ap (key_or bits) there ∙ sym is in
-        let names_tie : nat_cmp (key_in bits e) key ≡ Equal → bytes_cmp (slice_get names (position_in bits e)) (Some n) ≡ Equal = λ same. let key_e = equal_numbers (key_in bits e) key same in elim (cases_order k s.0) [
+        let names_tie : nat_cmp (key_in bits e) key ≡ Equal → bytes_cmp (slice_get names (position_in bits e)) (Some n) ≡ Equal = λ same. let key_e = nat_cmp-IsAntisymmetric (key_in bits e) key same in elim (cases_order k s.0) [
           | inl at ↦ second_equal _ _ (ap (λ f. name_cmp bits names n (position_in bits f)) (get_or_default entries k d 0 within ∙ ap (λ j. get_or entries j 0) at) ∙ itself bits names _ h.rising h.apart n _ there)
           | inr (inl before) ↦ absurd (omega (arith, far entries increase k s.0 0 before s.1, key_s, key_e, ap (key_in bits) (get_or_default entries k d 0 within)))
           | inr (inr after) ↦ absurd (omega (arith, far entries increase s.0 k 0 after within, key_s, key_e, ap (key_in bits) (get_or_default entries k d 0 within)))

@@ -2,7 +2,7 @@
 -- SPDX-FileCopyrightText: Copyright the Vortex contributors
 
 use Rattle.std.specs.List.Sorted.{IsNonDecreasingBy}
-use Rattle.std.proofs.Common.{◌≡◌, length, ap, subst, sym, ◌∙◌, arith}
+use Rattle.std.proofs.Common.{◌≡◌, length, subst, sym, ◌∙◌, arith}
 use Rattle.dtype_base.specs.private.NameOrder.{AreStarts, IsLongest, key_in, positions}
 use Rattle.dtype_base.proofs.NameHashes.{few_bits}
 use Rattle.dtype_base.proofs.IndexEntries.{index_of, keys_rise}

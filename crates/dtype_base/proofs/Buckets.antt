@@ -218,10 +218,7 @@ module _ (names : List (List ℕ)) (index : NameIndex) (h : IsIndexOf names inde
   longest_at n = bucket_of_key (length names) (key_of index.bits n)
 
   pub longest_fits : index.longest ≤ length index.entries.items
-  longest_fits = elim (cases_lt 0 index.longest) [
-    | inl some ↦ let b = h.longest.reached some in omega (arith, b.2, h.starts.within (b.0 + 1) (omega (arith, b.1, h.starts.len)))
-    | inr none ↦ omega (arith, none)
-  ]
+  longest_fits = grind arith
 
   -- each bucket has at most as many
   each : 0 < length names → (n : List ℕ) → bucket_len names n ≤ index.longest

@@ -34,11 +34,7 @@ tied_then _ s tie = refl
 
 -- a number isn't above one that doesn't come before it, however ties are decided
 at_most_unless_before : (a b : ℕ) (o : Ordering) → is_lt (ordering_then (nat_cmp b a) o) ≡ false → a ≤ b
-at_most_unless_before a b o e = elim (cases_order b a) [
-  | inl same ↦ omega (arith, same)
-  | inr (inl less) ↦ absurd (false≢true (sym e ∙ ap (λ r. is_lt (ordering_then r o)) (sym (nat_cmp_is b a Less less))))
-  | inr (inr more) ↦ omega (arith, more)
-]
+at_most_unless_before a b o e = grind arith
 
 pub ruleset permutations = (IsPermutation-trans)
 

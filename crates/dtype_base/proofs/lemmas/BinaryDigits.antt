@@ -2,15 +2,12 @@
 -- SPDX-FileCopyrightText: Copyright the Vortex contributors
 
 -- Lemmas about the number of binary digits: that it is what its definition says, and that of powers of two.
-use Rattle.std.proofs.Common.{◌≡◌, ℕ, zero, suc, ◌+◌, ◌-◌, ◌*◌, ◌<◌, ◌≤◌, ◌^◌, ◌==◌, Bool, true, false, cond, refl, ap, arith, pow_mono, pow-suc, inl, inr}
-use Rattle.std.proofs.lemmas.Bool.{eqb-true, eqb-false, cases_lt}
+use Rattle.std.proofs.Common.{◌≡◌, ℕ, zero, suc, ◌+◌, ◌-◌, ◌*◌, ◌<◌, ◌≤◌, ◌^◌, ◌==◌, Bool, true, false, cond, refl, ap, arith, pow_mono, pow-suc}
+use Rattle.std.proofs.lemmas.Bool.{eqb-true, eqb-false}
 use Rattle.dtype_base.specs.BinaryDigits.{one_more, binary_digits, IsDigitsOf}
 
 below_next : (digits d : ℕ) → 2 ^ digits < 2 ^ d → digits < d
-below_next digits d h = elim (cases_lt digits d) [
-  | inl less ↦ less
-  | inr more ↦ let powers : 2 ^ d ≤ 2 ^ digits = pow_mono more in absurd (omega (arith, h, powers))
-]
+below_next digits d h = grind (arith, pow_mono)
 
 next : (n digits : ℕ) → IsDigitsOf n digits → IsDigitsOf (suc n) (one_more digits (suc n))
 next n digits h = go (2 ^ digits == suc n) refl

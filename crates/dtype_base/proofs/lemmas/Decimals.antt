@@ -3,8 +3,8 @@
 
 -- Lemmas about decimals and their storage types. A caller names all of them in one line,
 --     #![tactic(auto, using(dtype_base::proofs::lemmas::Decimals::decimals))]
-use Rattle.std.proofs.Common.{◌≡◌, ◌+◌, ◌-◌, ◌*◌, ◌^◌, ◌<◌, ◌≤◌, ℕ, Bool, ◌&&◌, inl, inr, Some, nat_le, nat_lt, refl, ◌∙◌, arith}
-use Rattle.std.proofs.lemmas.Bool.{agree_below_at, and_parts, cases_order, leb-true, lt-ltb, ltb-true}
+use Rattle.std.proofs.Common.{◌≡◌, ◌+◌, ◌-◌, ◌*◌, ◌^◌, ◌<◌, ◌≤◌, ℕ, Bool, ◌&&◌, Some, nat_le, nat_lt, refl, ◌∙◌, arith}
+use Rattle.std.proofs.lemmas.Bool.{agree_below_at, and_parts, leb-true, lt-ltb, ltb-true}
 use Rattle.std.proofs.lemmas.Bool.Decides.{nat_tests}
 use Rattle.std.proofs.Math.Pow.{pow_mono}
 use Rattle.std.proofs.Math.Nat.{lt_of_le_of_lt, pow-le-pow_right}
@@ -16,11 +16,7 @@ use Rattle.dtype_base.specs.declared.decimal.DecimalType.TheVariants.{I8}
 
 -- it is unique
 pub one_bit_width : (p b c : ℕ) → IsBitWidth p b → IsBitWidth p c → b ≡ c
-one_bit_width p b c h k = elim (cases_order b c) [
-  | inl same ↦ same
-  | inr (inl less) ↦ absurd (omega (arith, k.least b less, h.enough))
-  | inr (inr more) ↦ absurd (omega (arith, h.least c more, k.enough))
-]
+one_bit_width p b c h k = grind arith
 
 -- a precision has the computed bit width, as a test of all up to the greatest shows
 abbrev is_computed : ℕ → Bool

@@ -3,13 +3,13 @@
 
 -- Lemmas about lookups. A caller names all of them in one line,
 --     #![tactic(auto, using(dtype_base::proofs::lemmas::Lookups::lookups))]
-use Rattle.std.proofs.Common.{◌≡◌, ℕ, zero, suc, ◌<◌, ◌≤◌, ◌==◌, ◌^◌, List, [], get_or, length, Option, Some, None, IfSome, IfNone, IsSome, ◌+◌, cond, ◌⊎◌, refl, ap, sym, subst, ◌∙◌, inl, inr, arith, slice_get}
+use Rattle.std.proofs.Common.{◌≡◌, ℕ, zero, suc, ◌<◌, ◌≤◌, ◌==◌, ◌^◌, List, [], get_or, length, Option, Some, None, IfSome, IfNone, IsSome, ◌+◌, cond, ◌⊎◌, refl, ap, sym, ◌∙◌, inl, inr, arith, slice_get}
 use Rattle.std.specs.List.{position_or_len}
 use Rattle.std.specs.Str.{bytes_eq}
-use Rattle.std.proofs.lemmas.Bool.{cond-true, eq-eqb, lt-ltb, le-ltb, false≢true, cases_lt, cases_order}
+use Rattle.std.proofs.lemmas.Bool.{cond-true, eq-eqb, lt-ltb, le-ltb, false≢true, cases_lt}
 use Rattle.std.proofs.lemmas.List.Recursion.{max_bounds, max_least}
 use Rattle.std.proofs.lemmas.List.Sums.{count_by-le-length, fails_before_first, passes_at_first, sum_by_more_le}
-use Rattle.std.proofs.lemmas.Option.{none-some, same_Some, slice_get_within, get_or_from_slice_get, slice_get-get_or}
+use Rattle.std.proofs.lemmas.Option.{none-some, slice_get_within, get_or_from_slice_get, slice_get-get_or}
 use Rattle.std.proofs.lemmas.Slice.Eq.{bytes_eq-Decides}
 use Rattle.dtype_base.specs.BinaryDigits.{binary_digits}
 use Rattle.dtype_base.proofs.lemmas.BinaryDigits.{digits_reach, digits_fewest}
@@ -38,23 +38,13 @@ place_tells names n =
     ]
 
 pub first_of_place : (names : List (List ℕ)) (n : List ℕ) (i : ℕ) → Some i ≡ first_place names n → FirstAt names n i
-first_of_place names n i e = elim (place_tells names n) [
-  | inl s ↦ subst (FirstAt names n) (same_Some _ _ (sym s.1 ∙ sym e)) s.2
-  | inr none ↦ absurd (none-some _ (sym none.0 ∙ sym e))
-]
+first_of_place names n i e = grind (arith, place_tells)
 
 pub absent_of_place : (names : List (List ℕ)) (n : List ℕ) → None ≡ first_place names n → IsAbsent names n
 absent_of_place names n e = elim (place_tells names n) [ inl s ↦ absurd (none-some _ (e ∙ s.1)) | inr none ↦ none.1 ]
 
 pub place_of_first : (names : List (List ℕ)) (n : List ℕ) (i : ℕ) → FirstAt names n i → first_place names n ≡ Some i
-place_of_first names n i f = elim (place_tells names n) [
-  | inl s ↦ elim (cases_order s.0 i) [
-    | inl same ↦ s.1 ∙ ap Some same
-    | inr (inl before) ↦ absurd (f.first s.0 before s.2.here)
-    | inr (inr after) ↦ absurd (s.2.first i after f.here)
-  ]
-  | inr none ↦ absurd (none.1 i f.here)
-]
+place_of_first names n i f = grind (arith, place_tells)
 
 pub no_place : (names : List (List ℕ)) (n : List ℕ) → IsAbsent names n → first_place names n ≡ None
 no_place names n none = elim (place_tells names n) [ inl s ↦ absurd (none s.0 s.2.here) | inr at ↦ at.0 ]

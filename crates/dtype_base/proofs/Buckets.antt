@@ -44,43 +44,21 @@ module _ (count bits : ℕ) (entries : List ℕ) (rising : IsNonDecreasingBy (ke
   filled : (i buckets : ℕ) (starts next : List ℕ) → Starting count bits entries i starts → ((b : ℕ) → b < length starts → get_or next b 0 ≡ get_or starts b 0)
       → ((b : ℕ) → length starts ≤ b → b < buckets → get_or next b 0 ≡ i) → ((q : ℕ) → i ≤ q → q < length entries → buckets ≤ bucket_at count bits entries q + 1)
       → (b q : ℕ) → b < buckets → q < length entries → (q < get_or next b 0) ↔ (bucket_at count bits entries q < b)
-  filled i buckets starts next inv kept added later b q below within = elim (cases_lt b (length starts)) [
-    | inl old ↦ subst (λ s. (q < s) ↔ (bucket_at count bits entries q < b)) (sym (kept b old)) (inv.first b q old within)
-    | inr new ↦
-        let here = added b new below in (
-          λ l. omega (arith, inv.before q (omega (arith, l, here)), new),
-          λ l. elim (cases_lt q i) [ inl sooner ↦ omega (arith, sooner, here) | inr after ↦ absurd (omega (arith, l, later q after within, below)) ],
-        )
-  ]
+  filled i buckets starts next inv kept added later b q below within = grind arith
 
   -- at the beginning
   pub starts_none : (starts : List ℕ) → length starts ≡ 0 → Starting count bits entries 0 starts
-  starts_none starts none = record {
-    most = omega (arith, none);
-    within = λ b l. absurd (omega (arith, l, none));
-    first = λ b q l within. absurd (omega (arith, l, none));
-    before = λ q l. absurd (omega (arith, l));
-  }
+  starts_none starts none = grind arith
 
   -- an entry whose bucket isn't reached
   pub starts_more : (i bucket : ℕ) (starts next : List ℕ) → Starting count bits entries i starts → i < length entries → bucket ≡ bucket_at count bits entries i → bucket < count → length starts ≤ bucket
       → length next ≡ bucket + 1 → ((b : ℕ) → b < length starts → get_or next b 0 ≡ get_or starts b 0) → ((b : ℕ) → length starts ≤ b → b < bucket + 1 → get_or next b 0 ≡ i) → Starting count bits entries (i + 1) next
-  starts_more i bucket starts next inv here is last new len kept added = record {
-    most = omega (arith, len, last);
-    within = λ b l. elim (cases_lt b (length starts)) [ inl old ↦ omega (arith, kept b old, inv.within b old) | inr after ↦ omega (arith, added b after (omega (arith, l, len))) ];
-    first = λ b q l within. filled i (bucket + 1) starts next inv kept added (λ r after inside. omega (arith, is, rises i r after inside)) b q (omega (arith, l, len)) within;
-    before = λ q l. omega (arith, len, is, rises q i (omega (arith, l)) here);
-  }
+  starts_more i bucket starts next inv here is last new len kept added = grind (arith, rises, filled)
 
   -- an entry whose bucket is reached
   pub starts_same : (i bucket : ℕ) (starts : List ℕ) → Starting count bits entries i starts → i < length entries → bucket ≡ bucket_at count bits entries i → bucket < length starts
       → Starting count bits entries (i + 1) starts
-  starts_same i bucket starts inv here is old = record {
-    most = inv.most;
-    within = λ b l. omega (arith, inv.within b l);
-    first = inv.first;
-    before = λ q l. omega (arith, old, is, rises q i (omega (arith, l)) here);
-  }
+  starts_same i bucket starts inv here is old = grind (arith, rises)
 
   -- at the end
   pub starts_all : (i : ℕ) (starts next : List ℕ) → Starting count bits entries i starts → count ≡ length entries → i ≡ count → length next ≡ count + 1
@@ -148,15 +126,7 @@ module _ (names : List (List ℕ)) (bits : ℕ) (by : Discriminator) (entries st
 
     -- the entries of the bucket are those from its start to the next
     inside : (q : ℕ) → q < length entries → (bucket_at count bits entries q ≡ bucket) ↔ ((low ≤ q) × (q < high))
-    inside q within =
-        let before = s.first bucket q (omega (arith, below)) within in
-        let upto_here = s.first (bucket + 1) q (omega (arith, below)) within in (
-          λ same. (elim (cases_lt q low) [ inl sooner ↦ absurd (omega (arith, before.0 sooner, same)) | inr after ↦ after ], upto_here.1 (omega (arith, same))),
-          λ both. elim (cases_lt (bucket_at count bits entries q) bucket) [
-            | inl sooner ↦ absurd (omega (arith, before.1 sooner, both.0))
-            | inr after ↦ omega (arith, after, upto_here.0 both.1)
-          ],
-        )
+    inside q within = grind arith
 
     -- how many entries the bucket has
     pub bucket_counts : bits ≡ binary_digits count → bucket_len names n ≡ high - low

@@ -259,16 +259,7 @@ module _ (bits : ℕ) (names : List (List ℕ)) (order : List ℕ) (up : IsSorte
       ]
 
   pub same_neighbours : (p q : ℕ) (n : List ℕ) → p + 1 ≡ q → q < length order → slice_get names (get_or order p 0) ≡ Some n → slice_get names (get_or order q 0) ≡ Some n → Distinct names → ⊥
-  same_neighbours p q n after b here next distinct =
-      let i = get_or order p 0 in
-      let j = get_or order q 0 in
-      let at_i : get_or names i n ≡ n = get_or_from_slice_get names i n n here in
-      let at_j : get_or names j n ≡ n = get_or_from_slice_get names j n n next in
-      elim (cases_order i j) [
-        | inl e ↦ apart p q 0 (omega (arith, after)) b e
-        | inr (inl before) ↦ distinct i j n before (slice_get_within names j n next) (at_i ∙ sym at_j)
-        | inr (inr later) ↦ distinct j i n later (slice_get_within names i n here) (at_j ∙ sym at_i)
-      ]
+  same_neighbours p q n after b here next distinct = grind (arith, slice_get_within, get_or_from_slice_get)
 
 -- ---- the positions of entries
 

@@ -89,10 +89,7 @@ longest_at_most names most each = max_least (most_sharing names) (bucket_len nam
 
 pub longest_bucket_is : (names : List (List ℕ)) (longest : ℕ) → ((n : List ℕ) (i : ℕ) → slice_get names i ≡ Some n → bucket_len names n ≤ longest)
     → (0 < longest → (i : ℕ) × (i < length names) × (bucket_len names (get_or names i []) ≡ longest)) → longest ≡ longest_bucket names
-longest_bucket_is names longest each reached = elim (cases_lt 0 longest) [
-  | inl some ↦ let i = reached some in omega (arith, longest_at_most names longest each, bucket_at_most names i.0 i.1, i.2)
-  | inr none ↦ omega (arith, longest_at_most names longest each, none)
-]
+longest_bucket_is names longest each reached = grind (arith, longest_at_most, bucket_at_most)
 
 pub longest_within : (names : List (List ℕ)) → longest_bucket names ≤ length names
 longest_within names = longest_at_most names (length names) (λ n i e. bucket_within names n)

@@ -63,11 +63,7 @@ module _ (count bits : ℕ) (entries : List ℕ) (rising : IsNonDecreasingBy (ke
   -- at the end
   pub starts_all : (i : ℕ) (starts next : List ℕ) → Starting count bits entries i starts → count ≡ length entries → i ≡ count → length next ≡ count + 1
       → ((b : ℕ) → b < length starts → get_or next b 0 ≡ get_or starts b 0) → ((b : ℕ) → length starts ≤ b → b < count + 1 → get_or next b 0 ≡ i) → AreStarts count bits entries next
-  starts_all i starts next inv all last len kept added = record {
-    len = len;
-    within = λ b l. elim (cases_lt b (length starts)) [ inl old ↦ omega (arith, kept b old, inv.within b old, last, all) | inr after ↦ omega (arith, added b after (omega (arith, l)), last, all) ];
-    first = λ b q l within. filled i (count + 1) starts next inv kept added (λ r after inside. absurd (omega (arith, after, inside, last, all))) b q (omega (arith, l)) within;
-  }
+  starts_all i starts next inv all last len kept added = grind (arith, filled)
 
 -- ---- the entries of a bucket
 

@@ -50,11 +50,6 @@ found_digits p I8 e = grind (arith, nat_tests)
 found_digits p _ e = grind (arith, nat_tests)
 
 pub smallest_fits : (p n : ℕ) (t : DecimalType) → smallest_storage p ≡ Some t → n ≡ (storage t).bytes → 10 ^ p ≤ 2 ^ (8 * n - 1)
-smallest_fits p n t e is =
-    let room : p ≤ (storage t).digits = found_digits p t e in
-    let some : 0 < 10 = omega arith in
-    let up : 10 ^ p ≤ 10 ^ (storage t).digits = pow-le-pow_right some room in
-    let fits = digits_fit t in
-    rw is (omega (arith, up, fits))
+smallest_fits p n t e is = grind (arith, found_digits, pow-le-pow_right, digits_fit)
 
 pub ruleset decimals = (one_bit_width, bit_width_is_least, bit_width_is, digits_fit, digits_are_most, smallest_fits)

@@ -4,7 +4,7 @@
 -- Lemmas about the table of primitive types. A caller names all of them in one line,
 --     #![tactic(auto, using(dtype_base::proofs::lemmas::Primitives::primitives))]
 -- A search splits one type: each lemma names the first case, and `_` stands for the others one by one.
-use Rattle.std.proofs.Common.{◌≡◌, ◌+◌, ◌-◌, ◌*◌, ◌^◌, ◌==◌, ◌≤◌, ℕ, ℤ, Bool, true, cond, Some, inl, inr, refl, sym, ◌∙◌, arith}
+use Rattle.std.proofs.Common.{◌≡◌, ◌+◌, ◌-◌, ◌*◌, ◌^◌, ◌==◌, ◌≤◌, ℕ, ℤ, true, cond, Some, refl, sym, ◌∙◌, arith}
 use Rattle.std.specs.Prelude.{◌⊎◌, ◌≤ℤ◌, ◌<ℤ◌, int_le, int_lt, false}
 use Rattle.std.proofs.lemmas.Bool.Decides.{nat_tests}
 use Rattle.dtype_base.specs.Primitives.{NumberKind, Unsigned, Signed, Floating, ptype_row, IsInteger, IsUnsigned, IsSigned, IsNarrowest, HoldsUnsigned, HoldsSigned, narrowest_unsigned, narrowest_signed}
@@ -74,18 +74,10 @@ narrowest_unsigned_is n _ e = grind (arith, nat_tests)
 
 -- each test of integers with what it tells
 le_tells : (a b : ℤ) → ((int_le a b ≡ true) × (a ≤ℤ b)) ⊎ ((int_le a b ≡ false) × (a ≤ℤ b → ⊥))
-le_tells a b = go (int_le a b) refl
-  where
-    go : (t : Bool) → int_le a b ≡ t → ((t ≡ true) × (a ≤ℤ b)) ⊎ ((t ≡ false) × (a ≤ℤ b → ⊥))
-    go true e = inl (refl, record { le = rw e tt })
-    go false e = inr (refl, λ h. rw e at h.le)
+le_tells a b = grind arith
 
 lt_tells : (a b : ℤ) → ((int_lt a b ≡ true) × (a <ℤ b)) ⊎ ((int_lt a b ≡ false) × (a <ℤ b → ⊥))
-lt_tells a b = go (int_lt a b) refl
-  where
-    go : (t : Bool) → int_lt a b ≡ t → ((t ≡ true) × (a <ℤ b)) ⊎ ((t ≡ false) × (a <ℤ b → ⊥))
-    go true e = inl (refl, record { lt = rw e tt })
-    go false e = inr (refl, λ h. rw e at h.lt)
+lt_tells a b = grind arith
 
 pub narrowest_signed_is : (z : ℤ) (p : PType) → Some p ≡ narrowest_signed z → IsNarrowest Signed (HoldsSigned z) p
 narrowest_signed_is z U8 e = grind (arith, le_tells, lt_tells)

@@ -190,9 +190,10 @@ class DType(Object):
 
     @staticmethod
     def union(variants: Iterable[tuple[str, DType]], nullable: bool = False, tags: Optional[bytes] = None) -> DType:
-        """Returns the union type with these variants, each a pair of a name and a type, and with these tags. Without
-        `tags` the tags are 0, 1, 2 and so on. Raises `LibraryError` 111 to 115 if the variants and tags don't make a
-        union, for example 113 if a tag repeats, and 6 if the type of a variant has 128 levels."""
+        """Returns the union type with these variants, each a pair of a name and a type, and with these tags, one byte
+        for each variant, for example `bytes([5, 9])`. Without `tags` the tags are 0, 1, 2 and so on. Raises
+        `LibraryError` 111 to 115 if the variants and tags don't make a union, for example 113 if a tag repeats, and 6
+        if the type of a variant has 128 levels."""
         if tags is None:
             return DType._of_parts(native.vlt_dtype_union_consecutive, variants, (nullable,))
         return DType._of_parts(native.vlt_dtype_union, variants, (bytes(tags), len(tags), nullable))

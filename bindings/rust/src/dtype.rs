@@ -102,7 +102,7 @@ impl DType {
         made(|out| ffi::dtype_variant(nullability.into(), out)).map(DType::of)
     }
 
-    /// Returns the type of lists.
+    /// Returns the type of lists with this element type.
     ///
     /// # Errors
     /// [`Error::TooDeep`] if the element is 128 levels deep, and [`Error::OutOfMemory`].
@@ -110,7 +110,7 @@ impl DType {
         made(|out| ffi::dtype_list(&element.slot, nullability.into(), out)).map(DType::of)
     }
 
-    /// Returns the type of lists of `size` elements.
+    /// Returns the type of lists with this element type that have exactly `size` elements.
     ///
     /// # Errors
     /// As [`DType::list`].
@@ -118,7 +118,7 @@ impl DType {
         made(|out| ffi::dtype_fixed_size_list(&element.slot, size, nullability.into(), out)).map(DType::of)
     }
 
-    /// Returns the type of maps. `key` and `value` may be the same type.
+    /// Returns the type of maps with these key and value types. `key` and `value` may be the same object.
     ///
     /// # Errors
     /// The library's error 9 if the key is nullable; [`Error::TooDeep`]; [`Error::OutOfMemory`].
@@ -244,12 +244,12 @@ impl DType {
         made(|out| ffi::dtype_copy(&self.slot, out)).map(DType::of)
     }
 
-    /// Returns whether the types are equal but for nullabilities, also of what is inside.
+    /// Returns whether the two types are equal except for nullability, at every depth.
     pub fn eq_ignore_nullability(&self, other: &DType) -> bool {
         ptr::eq(self, other) || holds(ffi::dtype_eq_ignore_nullability(&self.slot, &other.slot))
     }
 
-    /// Feeds the hasher the same for types that are equal but for nullabilities.
+    /// Feeds the hasher a hash that is the same for all types that are equal except for nullability.
     pub fn hash_ignore_nullability<H: Hasher>(&self, state: &mut H) {
         state.write_u64(plain(|hash| ffi::dtype_hash_ignore_nullability(&self.slot, hash)));
     }

@@ -71,8 +71,8 @@ impl FieldPathSet {
         inserted(ffi::set_insert(&self.slot, &path.borrow().slot))
     }
 
-    /// Inserts paths, after the iterator has yielded all of them. If memory runs out, the call returns
-    /// [`Error::OutOfMemory`], and the set contains the paths before the one whose insertion failed.
+    /// Inserts paths in order, after the iterator has yielded all of them. If memory runs out, the call returns
+    /// [`Error::OutOfMemory`], and the paths that were inserted before stay in the set.
     pub fn try_extend(&mut self, paths: impl IntoIterator<Item = impl Borrow<FieldPath>>) -> Result<(), Error> {
         let mut given = Vec::new();
         for path in paths {

@@ -3,8 +3,9 @@
 
 /* The logical types of columnar data, and paths into them: the C interface of a library that is proved. Each function
  * below that the library exports has a contract in crates/vortex_logical_types. The contract says what the function
- * returns and what its slots contain afterwards, and it is proved. The inline functions at the end of this header
- * aren't proved.
+ * returns and what its slots contain afterwards, and it is proved. For vlt_answer and for the functions whose names end
+ * in _text the contract leaves open which value a text stands for, and which text is written. The inline functions at
+ * the end of this header aren't proved.
  *
  * Slots. A slot is a place for one object (a type, a path, a set of paths and so on), and it owns the object.
  * Initialise a slot with {0}, which makes it empty. When you no longer need its object, call vlt_free, which drops the

@@ -6,7 +6,8 @@
 //! The library is written in Rattle, which is Rust with contracts that a checker proves. In this package, a type, a
 //! path or a set of paths is a pointer to an object that the library made, and a method calls an exported function of
 //! the library. Most methods that `vortex-array` has too have the same names here. It is proved what the exported
-//! functions return. The Rust code between a method and its function is thin, and it is tested and not proved.
+//! functions return, except which value a text stands for: that `parse` and `to_source` read and write the right text is
+//! only tested. The Rust code between a method and its function is thin, and it is tested and not proved.
 //!
 //! ```
 //! use vortex_logical_types::{DType, FieldPath, FieldPathSet};

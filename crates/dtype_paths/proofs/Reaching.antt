@@ -20,7 +20,7 @@ use Rattle.dtype_paths.specs.declared.node.Node.{Node}
 use Rattle.dtype_paths.proofs.lemmas.Cases.{by_option}
 use Rattle.dtype_paths.proofs.lemmas.SetMembers.{from_list-Decides}
 use Rattle.dtype_paths.proofs.NodeIndices.{contains-whole, terminal-of}
-use Rattle.dtype_paths.proofs.TrieGrowth.{walk-append, walk-snoc}
+use Rattle.dtype_paths.proofs.TrieGrowth.{no_snoc, walk-append, walk-snoc}
 
 module _ (nodes : List Node) (t : IsTrie nodes) where
   pub reached_inside : (i : ℕ) → IsReached nodes i → i < length nodes
@@ -46,13 +46,9 @@ module _ (nodes : List Node) (t : IsTrie nodes) where
   child-witness i j f r e =
       let s = t.reached i (reached_inside i r) in
       let at = walk-snoc (child_at nodes) i j s.0 f s.1 e in
-      let u = t.used (s.0 ++ f ∷ []) j at (λ z. let nil = t.once (s.0 ++ f ∷ []) [] j at (ap Some (sym z)) in no_snoc s.0 nil) in
+      let u = t.used (s.0 ++ f ∷ []) j at (λ z. let nil = t.once (s.0 ++ f ∷ []) [] j at (ap Some (sym z)) in no_snoc s.0 f nil) in
       let on : walk (child_at nodes) j u.1 ≡ Some u.0 = sym (walk-append (child_at nodes) 0 j (s.0 ++ f ∷ []) u.1 at) ∙ t.ends_where_it_leads u.0 ((s.0 ++ f ∷ []) ++ u.1) u.2 in
       (u.1, ap (λ o. is_some (option_and_then (terminal_at nodes) o)) on ∙ ap is_some u.2)
-    where
-      no_snoc : (s : List Field) → s ++ f ∷ [] ≡ [] → ⊥
-      no_snoc [] z = cc
-      no_snoc (g ∷ s) z = cc
 
   pub child-ends : (i j : ℕ) (f : Field) → IsReached nodes i → child_at nodes i f ≡ Some j → ends_below nodes j ≢ no_path
   child-ends i j f r e none = let q = child-witness i j f r e in false≢true (ap (λ (w : PathPredicate). w q.0) (sym none) ∙ q.1)

@@ -2,7 +2,7 @@
 -- SPDX-FileCopyrightText: Copyright the Vortex contributors
 
 -- How the nodes of a list are visited.
-use Rattle.std.proofs.Common.{ℕ, ◌-◌, min, ◌+◌, ◌<◌, ◌≤◌, ◌≢◌, cond, is_some, length, map, ◌≡◌, ◌↔◌, IsTrue, List, [], ◌∷◌, ◌++◌, Option, Some, None, inl, inr, refl, sym, ap, subst, ◌∙◌, arith, ⊎_elim, append_assoc, append-nil, length-append}
+use Rattle.std.proofs.Common.{ℕ, ◌-◌, min, ◌+◌, ◌<◌, ◌≤◌, ◌≢◌, cond, is_some, length, map, ◌≡◌, ◌↔◌, IsTrue, List, [], ◌∷◌, ◌++◌, Option, Some, None, inl, inr, refl, sym, ap, subst, ◌∙◌, arith, ⊎_elim, append_assoc, append-nil, length-append, rules}
 use Rattle.std.specs.FinSet as set
 use Rattle.std.specs.List.{slice_get, filter_map, Contains, IsDistinct}
 use Rattle.std.specs.List.Sorted.{IsPermutation}
@@ -30,7 +30,7 @@ use Rattle.dtype_paths.specs.private.Trie.{child_at, terminal_at, terminals, wal
 use Rattle.dtype_paths.proofs.lemmas.DistinctLists.{distinct-nil, distinct-cons, distinct-head, distinct-append, distinct-given, distinct-moved, distinct-right, distinct-below, distinct-map, distinct-unmap}
 use Rattle.dtype_paths.proofs.lemmas.ListMembers.{contains-map, contains-mapped, contains-cons, contains-given, contains-head, contains-tail, contains-nil, given_by}
 use Rattle.dtype_paths.proofs.NodeIndices.{read-within, terminal-of, of-terminal}
-use Rattle.dtype_paths.proofs.TrieGrowth.{walk-append, walk-front, walk-mono, walk-snoc}
+use Rattle.dtype_paths.proofs.TrieGrowth.{no_snoc, walk-append, walk-front, walk-mono, walk-snoc}
 
 -- the child of a node by a step, unless a path ends in the node: so far a visit goes
 abbrev opens : List Node → ℕ → Field → Option ℕ
@@ -40,16 +40,12 @@ opens nodes i f = cond (is_some (terminal_at nodes i)) None (child_at nodes i f)
 abbrev IsOpened : List Node → ℕ → Type 0
 IsOpened nodes i = (s : List Field) × (walk (opens nodes) 0 s ≡ Some i)
 
-no_snoc : (s : List Field) (f : Field) → s ++ f ∷ [] ≡ [] → ⊥
-no_snoc s f e = omega (arith, ap length e, length_push s f)
-
 module _ (nodes : List Node) (trie : IsTrie nodes) where
   abbrev paths : PathSet
   paths = set_of (terminals nodes)
 
   opens-child : (i j : ℕ) (f : Field) → opens nodes i f ≡ Some j → (terminal_at nodes i ≡ None) × (child_at nodes i f ≡ Some j)
-  opens-child i j f e =
-      by_option (terminal_at nodes i) (λ none. (none, rw none at e)) (λ q end. absurd (let z : None ≡ Some j = rw end at e in cc))
+  opens-child i j f e = grind (arith, by_option)
 
   led : (i j : ℕ) (s : List Field) → walk (opens nodes) i s ≡ Some j → walk (child_at nodes) i s ≡ Some j
   led = walk-mono (opens nodes) (child_at nodes) (λ i f j e. (opens-child i j f e).1)
@@ -121,10 +117,7 @@ module _ (nodes : List Node) (trie : IsTrie nodes) where
   no_parent i f e = let s = above i 0 f e in no_snoc s.0 f (trie.once (s.0 ++ f ∷ []) [] 0 s.2 refl)
 
   one_parent : (i k j : ℕ) (f g : Field) → child_at nodes i f ≡ Some j → child_at nodes k g ≡ Some j → (i ≡ k) × (f ≡ g)
-  one_parent i k j f g e d =
-      let s = above i j f e in let t = above k j g d in
-      let same = same_from_push s.0 t.0 f g (trie.once (s.0 ++ f ∷ []) (t.0 ++ g ∷ []) j s.2 t.2) in
-      let at = sym s.1 ∙ ap (walk (child_at nodes) 0) same.0 ∙ t.1 in (same_Some i k at, same.1)
+  one_parent i k j f g e d = grind (arith, above, same_from_push, same_Some)
 
 -- ---- what has been visited, and what is still to be
 
@@ -168,9 +161,7 @@ visits-start nodes trie = record {
 
 module _ {nodes left : List Node} {found : List (List Field)} {visits : ℕ} (ps : List ℕ) (x : ℕ) (o : Visits nodes left found visits (ps ++ x ∷ [])) where
   known-here : Contains o.known x
-  known-here =
-      Contains-permutation ((ps ++ x ∷ []) ++ o.done) o.known x (IsPermutation-sym o.known ((ps ++ x ∷ []) ++ o.done) o.parted)
-      (Contains-append_left (ps ++ x ∷ []) o.done x (Contains-push ps x))
+  known-here = search (rules, Contains-permutation, IsPermutation-sym, Contains-append_left, Contains-push)
 
   is_new : Contains o.done x → ⊥
   is_new =

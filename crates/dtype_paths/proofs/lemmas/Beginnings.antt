@@ -23,6 +23,9 @@ beginning_refl p = ([], sym (append-nil p))
 pub beginning_trans : (p q r : List Field) → Beginning p q → Beginning q r → Beginning p r
 beginning_trans p q r a b = (a.0 ++ b.0, b.1 ∙ ap (λ x. x ++ b.0) a.1 ∙ append_assoc p a.0 b.0)
 
+pub root_begins : (p q : List Field) → p ≡ [] → Beginning p q
+root_begins p q e = (q, ap (λ r. r ++ q) (sym e))
+
 -- prefixes of each other are the same
 pub beginning_both : (p q : List Field) → Beginning p q → Beginning q p → p ≡ q
 beginning_both p q a b =

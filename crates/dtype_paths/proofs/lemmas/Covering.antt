@@ -4,10 +4,11 @@
 -- What follows of sets of paths, for callers' proofs. `covering` names all of it in one line:
 --     #![tactic(auto, using(dtype_paths::proofs::lemmas::Covering::covering))]
 -- The tactics try it whole at each goal that is left, so it is part of the interface.
+pub use Rattle.dtype_paths.proofs.lemmas.Beginnings.{root_begins}
 pub use Rattle.dtype_paths.proofs.lemmas.CoverPaths.{listed_begun, cover_begun, member_begun, cover_has_first}
 pub use Rattle.dtype_paths.proofs.lemmas.Counts.{least_none, none_listed, one_count, listed_len, lent_len, lent_none, some_listed, one_listed, one_least_listed, insert_len, list_len, once_listed, union_len, cover_len, cover_at_most, opened_at_most, cover_none, root_alone_listed}
 pub use Rattle.dtype_paths.proofs.lemmas.SetMembers.{insert_has, insert_keeps, insert_only, insert_other, insert_known, insert_again, insert_swap, contains_empty, union_keeps, union_has, union_only, union_none, union_with_none, union_insert, insert_union, union_ended, union_again, union_swap, within_insert, within_union, union_within, of_push, of_append, of_has, of_has_at, of_only, one_only}
-pub use Rattle.dtype_paths.proofs.lemmas.SetCovers.{covers_of, covers_none, none_covered, covers_union, union_covered, covers_left, covers_right, covers_member, of_covers_at, covers_below, covers_further, listed_covered, of_covers_below, union_covers_left, union_covers_right, insert_covers, insert_covers_below, insert_covered, root_begins, covers_least, least_least, least_union_left, least_union_right, least_covered, least_below, least_one, least_root, least_empty, least_same, fewest, root_covers, cover_member, cover_first, cover_apart}
+pub use Rattle.dtype_paths.proofs.lemmas.SetCovers.{covers_of, covers_none, none_covered, covers_union, union_covered, covers_left, covers_right, covers_member, of_covers_at, covers_below, covers_further, listed_covered, of_covers_below, union_covers_left, union_covers_right, insert_covers, insert_covers_below, insert_covered, covers_least, least_least, least_union_left, least_union_right, least_covered, least_below, least_one, least_root, least_empty, least_same, fewest, root_covers, cover_member, cover_first, cover_apart}
 
 -- all of the topic, where a file asks about unions, coverage and least paths at once: more than a search goes through at
 -- a hard goal, which wants a ruleset of its question below

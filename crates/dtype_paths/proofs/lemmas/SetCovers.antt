@@ -19,11 +19,11 @@ use Rattle.dtype_paths.specs.EqualityLaws.{same_path-Decides, same_path_equiv}
 use Rattle.dtype_paths.specs.Overlaps.{Overlaps}
 use Rattle.dtype_paths.specs.PathOrder.{PathSet, path_cmp}
 use Rattle.dtype_paths.specs.declared.field.Field.{Field}
-use Rattle.dtype_paths.proofs.lemmas.Beginnings.{beginning_both, beginning_refl, beginning_shorter, beginning_trans, either_begins, starts_with-Decides}
+use Rattle.dtype_paths.proofs.lemmas.Beginnings.{beginning_both, beginning_refl, beginning_shorter, beginning_trans, either_begins, root_begins, starts_with-Decides}
 use Rattle.dtype_paths.proofs.lemmas.Cases.{by_bool}
 use Rattle.dtype_paths.proofs.lemmas.PathLists.{any_from, some_member}
 use Rattle.dtype_paths.specs.PathOrderLaws.{same_tied}
-use Rattle.dtype_paths.proofs.lemmas.SetMembers.{contains_empty, from_list-Decides, insert_has, items-Decides, of_append, of_has_at, of_items, of_only, one_only, same_by}
+use Rattle.dtype_paths.proofs.lemmas.SetMembers.{of_has, contains_empty, from_list-Decides, insert_has, items-Decides, of_append, of_has_at, of_items, of_only, one_only, same_by}
 
 -- ---- what is covered
 
@@ -43,10 +43,7 @@ pub covers_of : (ps : List (List Field)) (q : List Field) → covers (set.from_l
 covers_of ps q = same_from_decides _ _ (covers_word (set.from_list ps) q) (covered_by ps q (set.contains (set.from_list ps)) (from_list-Decides ps))
 
 pub covers_any : (ps : List (List Field)) (q : List Field) → IsTrue (covers (set.from_list ps) q) ↔ Any (λ p. IsTrue (starts_with same_field q p)) ps
-covers_any ps q = (
-  λ h. Any-from_list_any (λ p. starts_with same_field q p) ps (sym (covers_of ps q) ∙ h),
-  λ a. covers_of ps q ∙ list_any-from_Any (λ p. starts_with same_field q p) ps a,
-)
+covers_any ps q = grind (arith, Any-from_list_any, covers_of, list_any-from_Any)
 
 pub covers_none : (q : List Field) → covers set.empty q ≡ false
 covers_none q = covers_of [] q
@@ -55,33 +52,18 @@ pub none_covered : (s : PathSet) (q : List Field) → s ≡ set.empty → covers
 none_covered s q e = ap (λ t. covers t q) e ∙ covers_none q
 
 pub covers_insert : (s : PathSet) (p q : List Field) → covers (set.insert s p) q ≡ (starts_with same_field q p || covers s q)
-covers_insert s p q =
-    ap (λ t. covers (set.insert t p) q) (of_items s)
-    ∙ covers_of (p ∷ set.items s) q
-    ∙ ap (λ b. starts_with same_field q p || b) (sym (covers_of (set.items s) q) ∙ ap (λ t. covers t q) (sym (of_items s)))
+covers_insert s p q = grind (arith, of_items s, covers_of (p ∷ set.items s) q, covers_of (set.items s) q)
+
+pub inserted_covers : (s t : PathSet) (p q : List Field) → t ≡ set.insert s p → (covers t q ≡ true) ↔ ((covers s q ≡ true) ⊎ Beginning p q)
+inserted_covers s t p q e = grind (arith, covers_insert s p q, e, starts_with-Decides p q _ refl)
 
 -- What is covered after an insertion is what lies below the path, and what was covered. The first part says nothing: it
 -- shows a search the call to match.
-pub root_begins : (p q : List Field) → p ≡ [] → Beginning p q
-root_begins p q e = (q, ap (λ r. r ++ q) (sym e))
-
 pub insert_covered : (s : PathSet) (p q : List Field) → (covers (set.insert s p) q ≡ covers (set.insert s p) q) × (covers (set.insert s p) q ≡ true → Beginning p q ⊎ (covers s q ≡ true)) × (p ≡ [] → covers (set.insert s p) q ≡ true) × (Beginning p q → covers (set.insert s p) q ≡ true)
-insert_covered s p q =
-    let begun : Beginning p q → covers (set.insert s p) q ≡ true = λ b. covers_insert s p q ∙ or_left (starts_with same_field q p) (covers s q) ((starts_with-Decides p q _ refl).1 b) in (
-      refl,
-      λ h. ⊎_elim (λ e. inl ((starts_with-Decides p q _ refl).0 e)) inr (or_cases (starts_with same_field q p) (covers s q) (sym (covers_insert s p q) ∙ h)),
-      λ e. begun (root_begins p q e),
-      begun,
-    )
+insert_covered s p q = let t = inserted_covers s (set.insert s p) p q refl in (refl, λ h. ⊎_elim inr inl (t.0 h), λ e. t.1 (inr (root_begins p q e)), λ b. t.1 (inr b))
 
 pub covers_union : (s t : PathSet) (q : List Field) → covers (set.union s t) q ≡ (covers s q || covers t q)
-covers_union s t q =
-    let one : (x : PathSet) → list_any (λ p. starts_with same_field q p) (set.items x) ≡ covers x q = λ x. sym (covers_of (set.items x) q) ∙ ap (λ y. covers y q) (sym (of_items x)) in
-    (λ i. covers (set.union (of_items s i) (of_items t i)) q)
-    ∙ ap (λ x. covers x q) (sym (of_append (set.items s) (set.items t)))
-    ∙ covers_of (set.items s ++ set.items t) q
-    ∙ list_any-append (λ p. starts_with same_field q p) (set.items s) (set.items t)
-    ∙ (λ i. one s i || one t i)
+covers_union s t q = rw (of_items s, of_items t, ← of_append (set.items s) (set.items t), covers_of (set.items s ++ set.items t) q, covers_of (set.items s) q, covers_of (set.items t) q) (list_any-append (λ p. starts_with same_field q p) (set.items s) (set.items t))
 
 pub covers_left : (s t : PathSet) (q : List Field) → covers s q ≡ true → covers (set.union s t) q ≡ true
 covers_left s t q h = covers_union s t q ∙ or_left (covers s q) (covers t q) h
@@ -108,10 +90,6 @@ covers_below s p rest h = covers_under s p (p ++ rest) h (rest, refl)
 
 pub insert_covers : (s : PathSet) (p q : List Field) → covers s q ≡ true → covers (set.insert s p) q ≡ true
 insert_covers s p q h = covers_insert s p q ∙ or_right (starts_with same_field q p) (covers s q) h
-
-pub inserted_covers : (s t : PathSet) (p q : List Field) → t ≡ set.insert s p → (covers t q ≡ true) ↔ ((covers s q ≡ true) ⊎ Beginning p q)
-inserted_covers s t p q e = subst (λ u. (covers u q ≡ true) ↔ ((covers s q ≡ true) ⊎ Beginning p q)) (sym e) (let i = insert_covered s p q in
-    (λ h. ⊎_elim inr inl (i.1 h), ⊎_elim (insert_covers s p q) i.3))
 
 pub insert_covers_below : (s : PathSet) (p rest : List Field) → covers (set.insert s p) (p ++ rest) ≡ true
 insert_covers_below s p rest = covers_below (set.insert s p) p rest (covers_member (set.insert s p) p (insert_has s p))
@@ -212,10 +190,7 @@ least_below s p q b = least_covered (set.insert s p) q (ap (covers (set.insert s
 
 -- one path is its own cover
 pub least_one : (p : List Field) → least (set.insert set.empty p) ≡ set.insert set.empty p
-least_one p = same_by _ _ (λ q. same_from_decides _ _ (least_word (set.insert set.empty p) q) (
-  λ h. (h, λ r c b. one_only p r c ∙ sym (one_only p q h)),
-  λ l. l.0,
-))
+least_one p = same_by _ _ (λ q. grind (arith, least_word (set.insert set.empty p) q, one_only p))
 
 -- the least paths are in each set that covers the same
 pub least_in : (s t : PathSet) (p : List Field) → SameCoverage s t → set.contains (least s) p ≡ true → set.contains t p ≡ true
@@ -226,8 +201,7 @@ pub same_coverage : (cover : List (List Field)) (s : PathSet) → set.from_list 
 same_coverage cover s is = λ q. ap (λ x. covers x q) is ∙ covers_least s q
 
 pub cover_within : (cover ps : List (List Field)) (s : PathSet) → set.from_list cover ≡ least s → SameCoverage (set.from_list ps) s → (p : List Field) → Contains cover p → Contains ps p
-cover_within cover ps s is alike p c =
-    (from_list-Decides ps p).0 (least_in s (set.from_list ps) p (λ q. sym (alike q)) (ap (λ x. set.contains x p) (sym is) ∙ (from_list-Decides cover p).1 c))
+cover_within cover ps s is alike p c = of_only ps p (least_in s (set.from_list ps) p (λ q. sym (alike q)) (rw (← is) (of_has cover p c)))
 
 -- a cover has no more paths than a list that it is of
 pub fewest : (xs ys : List (List Field)) → Distinct xs → set.from_list {R = path_cmp} xs ≡ least (set.from_list ys) → length xs ≤ length ys
@@ -256,16 +230,10 @@ least_root s h = least_same s (set.insert set.empty []) (λ q. root_covers s q h
 
 -- the least paths are none where the set has none alone
 pub least_empty : (s : PathSet) → least s ≡ set.empty → s ≡ set.empty
-least_empty s e = same_by s set.empty (λ q. by_bool (set.contains s q)
-    (λ h. absurd (false≢true (sym (covers_none q) ∙ ap (λ t. covers t q) (sym e) ∙ covers_least s q ∙ covers_member s q h)))
-    (λ h. h ∙ sym (contains_empty q)))
+least_empty s e = same_by s set.empty (λ q. grind (arith, e, covers_none q, covers_least s q, covers_member s q, contains_empty q))
 
 pub least_begins_once : (s : PathSet) (p r q : List Field) → IsTrue (set.contains (least s) p) → IsTrue (set.contains (least s) r) → Beginning p q → Beginning r q → p ≡ r
-least_begins_once s p r q hp hr bp br =
-    ⊎_elim
-    (λ b. ((least_word s r).0 hr).1 p ((least_word s p).0 hp).0 b)
-    (λ b. sym (((least_word s p).0 hp).1 r ((least_word s r).0 hr).0 b))
-    (either_begins p r q bp br)
+least_begins_once s p r q hp hr bp br = grind (arith, either_begins p r q bp br, ((least_word s r).0 hr).1 p ((least_word s p).0 hp).0, ((least_word s p).0 hp).1 r ((least_word s r).0 hr).0)
 
 -- of a list of the least paths, by their places: each is a member, none but itself of the members is a prefix of it, and no two
 -- of them overlap
@@ -276,8 +244,4 @@ pub cover_first : (cover : List (List Field)) (s : PathSet) (p q : List Field) (
 cover_first cover s p q k is at l h b = ((least_word s q).0 (ap (λ x. set.contains x q) (sym is) ∙ of_has_at cover q k at l)).1 p h b
 
 pub cover_apart : (cover : List (List Field)) (s : PathSet) (p q : List Field) (j k : ℕ) → set.from_list cover ≡ least s → get_or cover j p ≡ p → j < length cover → get_or cover k q ≡ q → k < length cover → Overlaps p q → p ≡ q
-cover_apart cover s p q j k is atp lp atq lq o =
-    ⊎_elim
-    (λ b. cover_first cover s p q k is atq lq (cover_member cover s p j is atp lp) b)
-    (λ b. sym (cover_first cover s q p j is atp lp (cover_member cover s q k is atq lq) b))
-    o
+cover_apart cover s p q j k is atp lp atq lq o = grind (arith, o, cover_first cover s p q k is atq lq (cover_member cover s p j is atp lp), cover_first cover s q p j is atp lp (cover_member cover s q k is atq lq))

@@ -2,13 +2,13 @@
 -- SPDX-FileCopyrightText: Copyright the Vortex contributors
 
 -- Lemmas on the members of sets of paths.
-use Rattle.std.specs.Prelude.{◌≡◌, ◌≢◌, ◌↔◌, ◌<◌, ◌⊎◌, ℕ, Bool, true, false, IsTrue, List, [], ◌∷◌, ◌++◌, ◌||◌, get_or, length, map, refl}
+use Rattle.std.specs.Prelude.{◌≡◌, ◌≢◌, ◌↔◌, ◌<◌, ◌⊎◌, ℕ, true, false, IsTrue, List, [], ◌∷◌, ◌++◌, ◌||◌, get_or, length, map, refl}
 use Rattle.std.specs.Bool.{Decides}
 use Rattle.std.specs.Borrow.{Bor}
 use Rattle.std.specs.FinSet as set
-use Rattle.std.specs.List.{Contains, list_any}
+use Rattle.std.specs.List.{Contains}
 use Rattle.std.proofs.Common.{ap, arith, sym, inl, inr, ◌∙◌, ⊎_elim}
-use Rattle.std.proofs.Math.Bool.{or_assoc, or_comm, or_self, or-false}
+use Rattle.std.proofs.Math.Bool.{or_comm, or-false}
 use Rattle.std.proofs.lemmas.Bool.{false≢true, or_cases, or_left, or_right}
 use Rattle.std.proofs.lemmas.Bool.Decides.{same_from_decides}
 use Rattle.std.specs.Ordering.{eq_by_cmp}
@@ -22,21 +22,14 @@ use Rattle.dtype_paths.specs.PathOrderLaws.{any_tied, path_cmp_total, path_ties,
 
 -- the items are the members, and so is a list's
 pub items-Decides : (s : PathSet) (q : List Field) → Decides (set.contains s q) (Contains (set.items s) q)
-items-Decides s q =
-    let e : set.contains s q ≡ list_any (same_path q) (set.items s) = set.contains-items s q ∙ sym (any_tied q (set.items s)) in
-    let d = is_member-Decides same_path-Decides (set.items s) q in
-    (λ t. d.0 (sym e ∙ t), λ c. e ∙ d.1 c)
+items-Decides s q = rw (set.contains-items s q, ← any_tied q (set.items s)) (is_member-Decides same_path-Decides (set.items s) q)
 
 pub from_list-Decides : (ps : List (List Field)) (q : List Field) → Decides (set.contains (set.from_list {R = path_cmp} ps) q) (Contains ps q)
-from_list-Decides ps q =
-    let e : set.contains (set.from_list {R = path_cmp} ps) q ≡ list_any (same_path q) ps = set.contains-from_list path_cmp_total ps q ∙ sym (any_tied q ps) in
-    let d = is_member-Decides same_path-Decides ps q in
-    (λ t. d.0 (sym e ∙ t), λ c. e ∙ d.1 c)
+from_list-Decides ps q = rw (set.contains-from_list path_cmp_total ps q, ← any_tied q ps) (is_member-Decides same_path-Decides ps q)
 
 -- lists with the same members have equal sets
 pub same_lists : (ps qs : List (List Field)) → ((q : List Field) → Contains ps q ↔ Contains qs q) → set.from_list {R = path_cmp} ps ≡ set.from_list qs
-same_lists ps qs same = set.same_set path_cmp_total same_tied _ _ (λ q.
-    same_from_decides _ _ (from_list-Decides ps q) (λ c. (same q).1 ((from_list-Decides qs q).0 c), λ e. (from_list-Decides qs q).1 ((same q).0 e)))
+same_lists ps qs same = set.same_set path_cmp_total same_tied _ _ (λ q. grind (arith, from_list-Decides ps q, from_list-Decides qs q, same q))
 
 -- a set is made of its items
 pub of_items : (s : PathSet) → s ≡ set.from_list (set.items s)
@@ -81,17 +74,8 @@ one_only p q h = ⊎_elim (λ e. e) (λ e. absurd (false≢true (sym (contains_e
 pub insert_again : (s : PathSet) (p : List Field) → set.insert (set.insert s p) p ≡ set.insert s p
 insert_again s p = insert_known (set.insert s p) p (insert_has s p)
 
-or_swap : (a b c : Bool) → (a || (b || c)) ≡ (b || (a || c))
-or_swap a b c = sym (or_assoc a b c) ∙ ap (λ x. x || c) (or_comm a b) ∙ or_assoc b a c
-
-or_twice : (a b : Bool) → ((a || b) || b) ≡ (a || b)
-or_twice a b = or_assoc a b b ∙ ap (λ x. a || x) (or_self b)
-
 pub insert_swap : (s : PathSet) (p q : List Field) → set.insert (set.insert s p) q ≡ set.insert (set.insert s q) p
-insert_swap s p q = same_by _ _ (λ r.
-    contains_insert _ q r ∙ ap (λ b. same_path r q || b) (contains_insert s p r)
-    ∙ or_swap (same_path r q) (same_path r p) (set.contains s r)
-    ∙ sym (contains_insert _ p r ∙ ap (λ b. same_path r p || b) (contains_insert s q r)))
+insert_swap s p q = same_by _ _ (λ r. grind (arith, contains_insert))
 
 -- ---- the union
 
@@ -116,10 +100,7 @@ pub union_swap : (s t : PathSet) → set.union s t ≡ set.union t s
 union_swap s t = same_by _ _ (λ q. contains_union s t q ∙ or_comm (set.contains s q) (set.contains t q) ∙ sym (contains_union t s q))
 
 pub union_insert : (s t : PathSet) (p : List Field) → set.union s (set.insert t p) ≡ set.insert (set.union s t) p
-union_insert s t p = same_by _ _ (λ q.
-    contains_union s _ q ∙ ap (λ b. set.contains s q || b) (contains_insert t p q)
-    ∙ or_swap (set.contains s q) (same_path q p) (set.contains t q)
-    ∙ sym (contains_insert _ p q ∙ ap (λ b. same_path q p || b) (contains_union s t q)))
+union_insert s t p = same_by _ _ (λ q. grind (arith, contains_insert, contains_union))
 
 -- of an insertion into the first set
 pub insert_union : (s t : PathSet) (p : List Field) → set.union (set.insert s p) t ≡ set.insert (set.union s t) p
@@ -132,9 +113,7 @@ union_ended s a b (x ∷ xs) same end = absurd (omega (arith, end))
 
 -- what is put in again changes nothing
 pub union_again : (s t u : PathSet) → u ≡ t → set.union (set.union s t) u ≡ set.union s t
-union_again s t u same = ap (set.union (set.union s t)) same ∙ same_by _ _ (λ q.
-    contains_union _ t q ∙ ap (λ b. b || set.contains t q) (contains_union s t q)
-    ∙ or_twice (set.contains s q) (set.contains t q) ∙ sym (contains_union s t q))
+union_again s t u same = rw same (same_by _ _ (λ q. grind (arith, contains_union)))
 
 -- ---- a set within another
 
@@ -153,10 +132,7 @@ pub of_push : (ps : List (List Field)) (p : List Field) → set.from_list {R = p
 of_push ps p = set.from_list_push path_cmp_total same_tied ps p
 
 pub of_append : (ps qs : List (List Field)) → set.from_list {R = path_cmp} (ps ++ qs) ≡ set.union (set.from_list ps) (set.from_list qs)
-of_append ps qs = same_by _ _ (λ q.
-    set.contains-from_list path_cmp_total (ps ++ qs) q
-    ∙ list_any-append (eq_by_cmp path_cmp q) ps qs
-    ∙ sym (contains_union _ _ q ∙ (λ i. set.contains-from_list path_cmp_total ps q i || set.contains-from_list path_cmp_total qs q i)))
+of_append ps qs = same_by _ _ (λ q. grind (arith, contains_union, set.contains-from_list path_cmp_total (ps ++ qs) q, set.contains-from_list path_cmp_total ps q, set.contains-from_list path_cmp_total qs q, list_any-append (eq_by_cmp path_cmp q) ps qs))
 
 pub of_has : (ps : List (List Field)) (q : List Field) → Contains ps q → set.contains (set.from_list {R = path_cmp} ps) q ≡ true
 of_has ps q c = (from_list-Decides ps q).1 c

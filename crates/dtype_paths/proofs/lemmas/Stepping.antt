@@ -23,7 +23,7 @@ use Rattle.dtype_paths.specs.Crosses.{CrossesNoExtension, CrossesNoSizeZero}
 use Rattle.dtype_paths.specs.Equality.{same_field, same_path}
 use Rattle.dtype_paths.specs.EqualityLaws.{same_field-Decides, same_path-Decides}
 use Rattle.dtype_paths.specs.In.{In, first_part}
-use Rattle.dtype_paths.proofs.lemmas.Beginnings.{begins_nil, starts_with-Decides}
+use Rattle.dtype_paths.proofs.lemmas.Beginnings.{begins_nil, root_begins, starts_with-Decides}
 use Rattle.dtype_paths.proofs.lemmas.Cases.{by_bool}
 use Rattle.dtype_paths.proofs.lemmas.MaskSteps.{first_contained}
 use Rattle.dtype_paths.proofs.lemmas.Steps.{step_element, then_some}
@@ -46,9 +46,7 @@ at_joined t u p q = (At_split t u p q, λ w. at_append t u w.0 p q w.1 w.2)
 
 -- behind a path to a list are its elements
 pub at_element : (t u : Tree) (p : List Field) → At t (p ++ ElementType ∷ []) u → (x : Tree) × At t p x × (any_size_list_element x ≡ Some u)
-at_element t u p a =
-    let r = At_split t u p (ElementType ∷ []) a in
-    (r.0, r.1, sym (step_element r.0) ∙ (r.2.1 ∙ ap Some r.2.2))
+at_element t u p a = grind (arith, At_split, step_element)
 
 pub beginning_exists : (t u : Tree) (p q : List Field) → Beginning p q → At t q u → (x : Tree) × At t p x
 beginning_exists t u p q b a = let r = At_split t u p b.0 (subst (λ z. At t z u) b.1 a) in (r.0, r.1)
@@ -58,9 +56,6 @@ beginning_exists_in t p q b e = let r = beginning_exists t e.found p q b e.at in
 
 pub front_exists_in : (t : Tree) (p q : List Field) → ExistsIn t (p ++ q) → ExistsIn t p
 front_exists_in t p q e = beginning_exists_in t p (p ++ q) (q, refl) e
-
-pub root_begins : (p q : List Field) → p ≡ [] → Beginning p q
-root_begins p q e = (q, ap (λ r. r ++ q) (sym e))
 
 pub root_leads : (p : List Field) (t : Tree) → p ≡ [] → At t p t
 root_leads p t e = subst (λ r. At t r t) (sym e) refl

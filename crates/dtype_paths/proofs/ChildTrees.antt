@@ -83,20 +83,16 @@ by_order f es = sym (λ i. lookup (λ g. field_ties f g i) es)
 -- where a step leads: by the step at its key, or else by the second map
 pub leads : (by_key : List (ℕ × (Field × ℕ))) (by_step : List (Field × ℕ)) → IsChildTree by_key by_step → (f : Field)
     → lookup (same_field f) (steps_in by_key by_step) ≡ option_or (led_by f (at_key by_key (step_key f))) (lookup (same_field f) by_step)
-leads by_key by_step t f =
-    lookup-append (same_field f) (values_of by_key) by_step
-    ∙ ap (λ o. option_or o (lookup (same_field f) by_step)) (lookup-keyed by_key (keys_distinct by_key by_step t) t.keyed f)
+leads by_key by_step t f = grind (arith, lookup-append, lookup-keyed, keys_distinct)
 
 -- what is looked up at the key, and where nothing is found there by itself
 pub looked_up_first : (by_key : List (ℕ × (Field × ℕ))) (by_step s : List (Field × ℕ)) (f : Field) (i : ℕ) → IsChildTree by_key by_step → steps_in by_key by_step ≡ s
     → Some i ≡ led_by f (at_key by_key (step_key f)) → Some i ≡ lookup (same_field f) s
-looked_up_first by_key by_step s f i t is e =
-    ap (λ o. option_or o (lookup (same_field f) by_step)) e ∙ sym (leads by_key by_step t f) ∙ ap (lookup (same_field f)) is
+looked_up_first by_key by_step s f i t is e = grind (arith, leads)
 
 pub looked_up_later : (by_key : List (ℕ × (Field × ℕ))) (by_step s : List (Field × ℕ)) (f : Field) (o : Option ℕ) → IsChildTree by_key by_step → steps_in by_key by_step ≡ s
     → None ≡ led_by f (at_key by_key (step_key f)) → o ≡ lookup (is_at (field_cmp f)) by_step → o ≡ lookup (same_field f) s
-looked_up_later by_key by_step s f o t is none e =
-    e ∙ (λ i. option_or (none i) (by_order f by_step i)) ∙ sym (leads by_key by_step t f) ∙ ap (lookup (same_field f)) is
+looked_up_later by_key by_step s f o t is none e = grind (arith, by_order, leads)
 
 taken_by : (by_key : List (ℕ × (Field × ℕ))) (f : Field) → IsTaken by_key f → led_by f (at_key by_key (step_key f)) ≡ None
 taken_by by_key f t = ap (led_by f) t.1 ∙ rw t.2 refl

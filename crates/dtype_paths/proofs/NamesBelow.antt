@@ -17,7 +17,7 @@ use Rattle.dtype_paths.specs.private.Trie.{child_at, IsTrie}
 use Rattle.dtype_paths.specs.declared.field.Field.{Field}
 use Rattle.dtype_paths.specs.declared.field.Field.TheVariants.{Name, ElementType}
 use Rattle.dtype_paths.specs.declared.node.Node.{Node}
-use Rattle.dtype_paths.specs.PathOrder.{held_name, named, named-held_name}
+use Rattle.dtype_paths.specs.PathOrder.{held_name}
 use Rattle.std.proofs.lemmas.Option.{same_Some}
 use Rattle.std.proofs.lemmas.List.{length-map}
 use Rattle.std.proofs.lemmas.Simd.{map-map}
@@ -50,10 +50,7 @@ firsts-held ((Name n, i) ∷ es) = ap (λ ns. n ∷ ns) (firsts-held es)
 firsts-held ((ElementType, i) ∷ es) = firsts-held es
 
 names-once : (es : List (Field × ℕ)) → Distinct (keys_of es) → Distinct (firsts (names es))
-names-once es d = rw (firsts-held es) (distinct-given held_name (keys_of es) d (λ f g n a b. held f n a ∙ sym (held g n b)))
-  where
-    held : (f : Field) (n : List ℕ) → held_name f ≡ Some n → f ≡ Name n
-    held f n e = sym (named-held_name f) ∙ ap named e
+names-once es d = grind (arith, firsts-held, distinct-given)
 
 firsts-named : (nodes : List Node) (es : List (List ℕ × ℕ)) → map (λ (e : List ℕ × PathPredicate). e.0) (named_paths nodes es) ≡ firsts es
 firsts-named nodes = map-map (λ (e : List ℕ × PathPredicate). e.0) (λ (e : List ℕ × ℕ). (e.0, ends_below nodes e.1))

@@ -2,7 +2,7 @@
 -- SPDX-FileCopyrightText: Copyright the Vortex contributors
 
 -- A list of nodes after a path is added to it.
-use Rattle.std.proofs.Common.{ℕ, suc, zero, ◌+◌, ◌-◌, ◌<◌, length, take, drop, get_or, map, subst, ◌≡◌, ◌⊎◌, ◌&&◌, ◌==◌, cond, List, [], ◌∷◌, ◌++◌, Option, Some, None, option_and_then, inl, inr, refl, sym, ap, ◌∙◌, arith, ⊎_elim, length-append}
+use Rattle.std.proofs.Common.{ℕ, suc, zero, ◌+◌, ◌-◌, ◌<◌, length, take, drop, get_or, map, subst, ◌≡◌, ◌⊎◌, ◌==◌, cond, List, [], ◌∷◌, ◌++◌, Option, Some, None, option_and_then, inl, inr, refl, sym, ap, ◌∙◌, arith, ⊎_elim, length-append}
 use Rattle.std.specs.FinSet as set
 use Rattle.std.specs.List.{slice_get, cons_option, filter_map}
 use Rattle.std.proofs.lemmas.Bool.{cases_lt, and_parts}
@@ -11,7 +11,6 @@ use Rattle.std.proofs.lemmas.List.{length-map, take_more}
 use Rattle.std.proofs.lemmas.Option.{same_Some, slice_get_past}
 use Rattle.dtype_paths.proofs.lemmas.Cases.{by_bool}
 use Rattle.dtype_paths.specs.private.Children.{child}
-use Rattle.dtype_paths.specs.Equality.{same_field}
 use Rattle.dtype_paths.specs.EqualityLaws.{same_field-Decides}
 use Rattle.dtype_paths.specs.PathOrder.{set_of}
 use Rattle.dtype_paths.specs.declared.field.Field.{Field}
@@ -77,15 +76,10 @@ module _ (old ns new : List Node) (path parts : List Field) (m : PrefixMatch) (t
   x = g.step
 
   stop : child_at old here g.step ≡ None
-  stop =
-      let is : prefix.step ≡ g.step = let q = sym prefix.next ∙ g.first in same_Some prefix.step g.step q in
-      rw (← is) prefix.none
+  stop = grind (arith, prefix, same_Some)
 
   led : (i : ℕ) (f : Field) → ((i ≡ here) × (f ≡ x) × (child_at new i f ≡ Some (length old))) ⊎ (child_at new i f ≡ child_at (old ++ tail) i f)
-  led i f =
-      by_bool (i == here && same_field x f)
-      (λ b. let p = and_parts (i == here) (same_field x f) b in inl ((Decides-eqb i here).0 p.0, sym ((same_field-Decides x f).0 p.1), g.steps i f ∙ rw b refl))
-      (λ b. inr (g.steps i f ∙ rw b refl))
+  led i f = grind (arith, by_bool, and_parts, Decides-eqb, same_field-Decides)
 
   grows : Grows (child_at old) (child_at new) (length old) here x rest
   grows = record {

@@ -38,10 +38,7 @@ module _ {A B : Type 0} (f : A → Option B) where
 
 -- what is read of a path after its prefix
 pub next-step : (nodes : List Node) (path : List Field) (m : PrefixMatch) (prefix : IsPrefixMatch nodes path m) (x step : Field) → x ≡ get_or path m.len x → step ≡ x → (slice_get path m.len ≡ Some step) × (prefix.step ≡ step)
-next-step nodes path m prefix x step is same =
-    let lt = slice_get_within path m.len prefix.step prefix.next in
-    let read : slice_get path m.len ≡ Some step = slice_get_read path (length path) m.len x refl lt is ∙ ap Some (sym same) in
-    let q = sym prefix.next ∙ read in (read, same_Some prefix.step step q)
+next-step nodes path m prefix x step is same = grind (arith, slice_get_within, slice_get_read, same_Some)
 
 -- ---- the list of the paths that end in nodes
 

@@ -2,7 +2,7 @@
 -- SPDX-FileCopyrightText: Copyright the Vortex contributors
 
 -- Steps with different keys are different, and short names with equal keys are equal.
-use Rattle.std.proofs.Common.{◌≡◌, ◌≢◌, ◌≤◌, ◌<◌, ◌+◌, ◌-◌, ◌*◌, ℕ, zero, suc, false, List, [], ◌∷◌, length, length-drop, get_or, drop, take, min, refl, sym, ap, arith}
+use Rattle.std.proofs.Common.{◌≡◌, ◌≢◌, ◌≤◌, ◌<◌, ◌+◌, ◌-◌, ◌*◌, ℕ, zero, suc, false, List, [], ◌∷◌, length, length-drop, get_or, drop, take, refl, sym, ap, arith}
 use Rattle.std.proofs.lemmas.List.{get_or-drop, take_all}
 use Rattle.std.proofs.lemmas.List.Elements.{All-tail}
 use Rattle.dtype_base.specs.Bytes.{Bytes}
@@ -10,7 +10,6 @@ use Rattle.dtype_paths.specs.Equality.{same_field}
 use Rattle.dtype_paths.specs.EqualityLaws.{same_field-Decides}
 use Rattle.dtype_paths.specs.private.StepKeys.{name_step_key, step_key, with_bytes, HasBytes, IsExactKey}
 use Rattle.dtype_paths.specs.declared.field.Field.{Field}
-use Rattle.dtype_paths.specs.declared.field.Field.TheVariants.{Name, ElementType}
 use Rattle.dtype_paths.proofs.lemmas.Cases.{by_bool}
 
 -- ---- the bytes of a number that is made byte by byte
@@ -32,14 +31,10 @@ room-up (suc i) (suc j) h = omega (arith, room-up i j (omega (arith, h)))
 module _ (n : List ℕ) (s : ℕ) (e : s ≡ length n - 7) where
   -- the last seven bytes, or all
   last-bytes : (take (length n - s) (drop s n) ≡ drop s n) × (length (take (length n - s) (drop s n)) ≤ 7)
-  last-bytes =
-      let whole = take_all (length n - s) (drop s n) (omega (arith, length-drop s n)) in
-      (whole, omega (arith, e, ap length whole, length-drop s n))
+  last-bytes = grind (arith, take_all, length-drop)
 
   pub seven_bytes : (i k : ℕ) → i ≤ length (take (length n - s) (drop s n)) → k < room i → k < 72057594037927936
-  seven_bytes i k few small =
-      let up : room i ≤ 72057594037927936 = room-up i 7 (omega (arith, few, last-bytes.1)) in
-      omega (arith, small, up)
+  seven_bytes i k few small = grind (arith, room-up, last-bytes)
 
   pub last_byte : (i b : ℕ) → b ≡ get_or (take (length n - s) (drop s n)) i 0 → ((k : ℕ) → get_or n k 0 < 256) → b < 256
   last_byte i b is bytes = rw (is, last-bytes.0, get_or-drop s n i 0) (bytes (s + i))
@@ -62,18 +57,7 @@ same_bytes k j (b ∷ m) (c ∷ n) long hm hn e =
 -- a step with an exact key is equal to each step of that key
 pub told : (f g : Field) → HasBytes f → HasBytes g → IsExactKey f → step_key f ≡ step_key g → f ≡ g
 unfolding step_key name_step_key HasBytes IsExactKey
-told (Name m) (Name n) hm hn s e =
-    let last_m = with_bytes 0 (drop (length m - 7) m) in let last_n = with_bytes 0 (drop (length n - 7) n) in
-    let sum : last_m * 256 + min (length m) 8 ≡ last_n * 256 + min (length n) 8 = e in
-    let long : length m ≡ length n = omega (arith, s, sum) in
-    let all_m : length m - 7 ≡ 0 = omega (arith, s) in
-    let all_n : length n - 7 ≡ 0 = omega (arith, s, long) in
-    let same : last_m ≡ last_n = omega (arith, sum, long) in
-    let whole : with_bytes 0 m ≡ with_bytes 0 n = rw (all_m, all_n) at same in
-    ap Name (same_bytes 0 0 m n long hm hn whole).1
-told (Name m) ElementType hm hg s e = let sum : with_bytes 0 (drop (length m - 7) m) * 256 + min (length m) 8 ≡ 9 = e in absurd (omega (arith, sum))
-told ElementType (Name n) hf hn s e = let sum : 9 ≡ with_bytes 0 (drop (length n - 7) n) * 256 + min (length n) 8 = e in absurd (omega (arith, sum))
-told ElementType ElementType hf hg s e = refl
+told f g h e is a = grind (arith, same_bytes)
 
 -- steps of different keys differ
 pub keys_differ : (f g : Field) → step_key g ≢ step_key f → same_field f g ≡ false

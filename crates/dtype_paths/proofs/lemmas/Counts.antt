@@ -22,10 +22,7 @@ use Rattle.dtype_paths.proofs.lemmas.SetMembers.{contains_empty, insert_has, ins
 
 -- the least paths of the empty set are none
 pub least_none : least set.empty ≡ set.empty
-least_none = same_by _ _ (λ q. same_from_decides _ _ (least_word set.empty q) (
-  λ t. absurd (false≢true (sym (contains_empty q) ∙ t)),
-  λ l. l.0,
-))
+least_none = grind (arith, same_by, same_from_decides, least_word, false≢true, contains_empty)
 
 -- a list whose set is empty has no path
 pub none_listed : (ps : List (List Field)) → set_of ps ≡ set.empty → ps ≡ []
@@ -145,13 +142,7 @@ opened_at_most xs ps s is of d = omega (arith, cover_len xs s is d, ap set.len o
 
 -- A cover is none exactly where the set is empty. The first part says nothing: it shows a search the call to match.
 pub cover_none : (ps : List (List Field)) → (set.from_list {R = path_cmp} ps ≡ set.from_list {R = path_cmp} ps) × ((s : PathSet) → set.from_list ps ≡ least s → (length ps ≡ 0 → s ≡ set.empty) × (s ≡ set.empty → length ps ≡ 0))
-cover_none ps = (
-  refl,
-  λ s is. (
-    λ none. least_empty s (sym is ∙ ap set_of (nil_from_length ps none)),
-    λ e. ap length (none_listed ps (is ∙ ap least e ∙ least_none)),
-  ),
-)
+cover_none ps = grind (arith, least_empty, nil_from_length, none_listed, least_none)
 
 -- where the root is contained, a cover has one path
 pub root_alone_listed : (ps : List (List Field)) (s : PathSet) → set_of ps ≡ least s → Distinct ps → set.contains s [] ≡ true → length ps ≡ 1

@@ -2,7 +2,7 @@
 -- SPDX-FileCopyrightText: Copyright the Vortex contributors
 
 -- Lists without repeats (`Distinct`, and `IsDistinct` of std by a test), by cases on the list.
-use Rattle.std.proofs.Common.{ℕ, ◌<◌, ◌≤◌, length, map, ◌≡◌, ◌≢◌, suc, Bool, Decides, List, [], ◌∷◌, ◌++◌, Option, Some, refl, sym, subst, arith, ⊎_elim}
+use Rattle.std.proofs.Common.{ℕ, ◌<◌, ◌≤◌, length, map, ◌≡◌, ◌≢◌, suc, Bool, Decides, List, [], ◌∷◌, ◌++◌, Option, Some, refl, sym, subst, arith, ⊎_elim, rules}
 use Rattle.std.specs.List.{Contains, IsDistinct, filter_map}
 use Rattle.std.specs.List.Sorted.{IsPermutation}
 use Rattle.std.proofs.lemmas.Bool.Decides.{Decides-eqb, same_from_decides}
@@ -26,8 +26,7 @@ pub ruleset none_or_one = (IsDistinct-nil, IsDistinct-one)
 
 module _ {A : Type 0} where
   pub distinct-nil : (xs : List A) → xs ≡ [] → Distinct xs
-  distinct-nil [] e = λ i j d lt in_list. absurd (omega (arith, in_list))
-  distinct-nil (x ∷ xs) e = absurd (cc)
+  distinct-nil xs h = search rules
 
   pub distinct-cons : (x : A) (xs : List A) → (Contains xs x → ⊥) → Distinct xs → Distinct (x ∷ xs)
   distinct-cons x xs new rest = AllPairs-cons (λ y z. y ≢ z) x xs (λ k d lt e. new (subst (Contains xs) (sym e) (Contains-get_or xs k d lt))) rest

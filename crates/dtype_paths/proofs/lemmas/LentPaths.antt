@@ -6,7 +6,7 @@ use Rattle.std.specs.Prelude.{◌≡◌, ◌<◌, ℕ, IsTrue, List, get_or, len
 use Rattle.std.specs.Borrow.{Bor}
 use Rattle.std.specs.FinSet as set
 use Rattle.std.specs.List.{All, Any, Contains, slice_index_or, starts_with}
-use Rattle.std.proofs.Common.{ap, sym, subst, ◌∙◌}
+use Rattle.std.proofs.Common.{arith}
 use Rattle.std.proofs.lemmas.List.Elements.{Contains-get_or}
 use Rattle.dtype_paths.specs.Covering.{covers}
 use Rattle.dtype_paths.specs.Equality.{same_field}
@@ -32,14 +32,9 @@ lent_place xs p = (refl, λ h. let w = contains-map (λ x. x.now) xs p (of_only 
 
 -- a path that begins with one of those lent is covered, and the converse
 pub begun_covered : (xs : List (Bor (List Field))) (s : PathSet) (q : List Field) (k : ℕ) (x : Bor (List Field)) → set.from_list (map (λ y. y.now) xs) ≡ s → k < length xs → slice_index_or xs k x ≡ x → IsTrue (starts_with same_field q x.now) → IsTrue (covers s q)
-begun_covered xs s q k x is l e b =
-    let has = subst (λ (y : Bor (List Field)). IsTrue (set.contains s y.now)) e (ap (λ t. set.contains t (slice_index_or xs k x).now) (sym is) ∙ (lent_here xs k x).1 l) in
-    (covers_word s q).1 (x.now, has, (starts_with-Decides x.now q (starts_with same_field q x.now) refl).0 b)
+begun_covered xs s q k x is l e b = grind (arith, lent_here, covers_word, starts_with-Decides)
 
 pub covered_begun : (xs : List (Bor (List Field))) (s : PathSet) (q : List Field) → set.from_list (map (λ y. y.now) xs) ≡ s → IsTrue (covers s q) → Any (λ x. IsTrue (starts_with same_field q x.now)) xs
-covered_begun xs s q is h =
-    let w = (covers_word s q).0 h in
-    let at = (lent_place xs w.0).1 (ap (λ t. set.contains t w.0) is ∙ w.1) in
-    (at.0, at.1, at.2, at.3, subst (λ p. IsTrue (starts_with same_field q p)) (sym at.4) ((starts_with-Decides w.0 q (starts_with same_field q w.0) refl).1 w.2))
+covered_begun xs s q is h = grind (arith, covers_word, lent_place, starts_with-Decides)
 
 pub ruleset lent_paths = (lent_here, lent_place, begun_covered, covered_begun, tested_beginning, beginning_tested)

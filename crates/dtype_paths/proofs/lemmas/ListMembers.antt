@@ -2,15 +2,14 @@
 -- SPDX-FileCopyrightText: Copyright the Vortex contributors
 
 -- The members of a list, by cases on the list, and those of `map`, `filter_map` and `flat_map`.
-use Rattle.std.proofs.Common.{suc, zero, map, ap, refl, ◌∙◌, ◌≡◌, ◌⊎◌, List, [], ◌∷◌, Option, Some, None, inl, inr, subst, sym, arith, ⊎_elim}
+use Rattle.std.proofs.Common.{suc, zero, map, ap, refl, ◌∙◌, ◌≡◌, ◌⊎◌, List, [], ◌∷◌, Option, Some, None, subst, sym, arith, ⊎_elim, rules}
 use Rattle.std.specs.List.{Contains, cons_option, filter_map, flat_map}
 use Rattle.std.proofs.lemmas.List.{get_or-map, length-map}
 use Rattle.std.proofs.lemmas.List.Elements.{Contains-append_left, Contains-append_right}
 
 module _ {A : Type 0} where
   pub contains-cons : (x y : A) (xs : List A) → Contains (x ∷ xs) y → (x ≡ y) ⊎ Contains xs y
-  contains-cons x y xs (zero, lt, e) = inl e
-  contains-cons x y xs (suc i, lt, e) = inr (i, omega (arith, lt), e)
+  contains-cons x y xs h = search rules
 
   pub contains-head : (x : A) (xs : List A) → Contains (x ∷ xs) x
   contains-head x xs = (0, omega arith, refl)
@@ -33,8 +32,7 @@ contains-mapped f x xs c = (c.0, omega (arith, c.1, length-map xs f), get_or-map
 -- those of a list of what h gives
 module _ {A B : Type 0} (h : A → Option B) where
   given_cases : (o : Option B) (ys : List B) (y : B) → Contains (cons_option o ys) y → (o ≡ Some y) ⊎ Contains ys y
-  given_cases None ys y c = inr c
-  given_cases (Some x) ys y c = ⊎_elim (λ e. inl (ap Some e)) inr (contains-cons x y ys c)
+  given_cases o ys y h = grind (arith, contains-cons)
 
   given_later : (o : Option B) (ys : List B) (y : B) → Contains ys y → Contains (cons_option o ys) y
   given_later None ys y c = c

@@ -5,7 +5,7 @@
 use Rattle.std.specs.Prelude.{◌≡◌, ◌↔◌, IsTrue, List, map, refl}
 use Rattle.std.specs.FinSet as set
 use Rattle.std.specs.List.{Any}
-use Rattle.std.proofs.Common.{ap, subst, sym, ◌∙◌}
+use Rattle.std.proofs.Common.{ap, subst, sym, ◌∙◌, rules}
 use Rattle.dtype_paths.specs.Covering.{covers, least}
 use Rattle.dtype_paths.specs.In.{In}
 use Rattle.dtype_paths.specs.PathOrder.{PathSet, path_cmp}
@@ -55,8 +55,6 @@ prefix_selects_covered m s p q is has selected = (covers_word s q).1 (p, has, su
 
 -- an exact mask of a path that the set covers likewise
 pub exact_selects_covered : (m : FieldMask) (s : PathSet) (p q : List Field) → m ≡ Exact p → IsTrue (covers s p) → In m q → IsTrue (covers s q)
-exact_selects_covered m s p q is covered selected =
-    let same : q ≡ p = subst (λ x. In x q) is selected in
-    ap (covers s) same ∙ covered
+exact_selects_covered m s p q is covered selected = search rules
 
 pub ruleset mask_lists = (prefixes_select, least_prefixes_select, exact_masks_select, prefix_selects_covered, exact_selects_covered)

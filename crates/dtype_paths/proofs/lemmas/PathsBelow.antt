@@ -55,9 +55,7 @@ contains_above-Decides w (f ∷ q) =
 
 -- a set covers a path exactly where one of its paths ends on the way
 pub covered_on_the_way : (s : PathSet) (q : List Field) → covers s q ≡ contains_above (set.contains s) q
-covered_on_the_way s q =
-    let c = covers_word s q in
-    same_from_decides _ _ (c.0, c.1) (contains_above-Decides (set.contains s) q)
+covered_on_the_way s q = grind (arith, covers_word, same_from_decides, contains_above-Decides)
 
 -- where nothing is contained, no path is
 pub nothing_contained : (w : PathPredicate) (q : List Field) → w ≡ no_path → w q ≡ false

@@ -77,10 +77,7 @@ lent_once ps qs t once left =
 -- a path of the set is left exactly where there is no type at it
 pub unresolved_word : (s : PathSet) (t : Tree) (p : List Field) → IsTrue (set.contains (unresolved s t) p) ↔ (IsTrue (set.contains s p) × ¬ (ExistsIn t p))
 unfolding unresolved
-unresolved_word s t p =
-    let e = contains_retained s (λ q. not (is_some (along t q))) p in
-    let d = exists-Decides t p in
-    (λ h. grind (arith, h, e, d), λ m. grind (arith, m, e, d))
+unresolved_word s t p = grind (arith, contains_retained, exists-Decides)
 
 -- each of those listed
 pub each_unresolved : (ps : List (Bor (List Field))) (s : PathSet) (t : Tree) → set.from_list (map (λ x. x.now) ps) ≡ unresolved s t → All (λ x. IsTrue (set.contains s x.now) × ¬ (ExistsIn t x.now)) ps
@@ -105,11 +102,6 @@ pub unresolved_len : (s : PathSet) (t : Tree) → set.len (unresolved s t) ≤ s
 unresolved_len s t = part_len (unresolved s t) s (λ p h. ((unresolved_word s t p).0 h).0)
 
 pub nothing_unresolved : (s : PathSet) (t : Tree) → (unresolved s t ≡ unresolved s t) × (s ≡ set.empty → unresolved s t ≡ set.empty)
-nothing_unresolved s t = (
-  refl,
-  λ e. same_by _ _ (λ p. by_bool (set.contains (unresolved s t) p)
-      (λ h. absurd (false≢true (sym (contains_empty p) ∙ ap (λ x. set.contains x p) (sym e) ∙ ((unresolved_word s t p).0 h).0)))
-      (λ h. h ∙ sym (contains_empty p))),
-)
+nothing_unresolved s t = grind (arith, same_by, by_bool, false≢true, contains_empty, unresolved_word)
 
 pub ruleset unresolved_paths = (unresolved_word, each_unresolved, none_unresolved, unresolved_len, nothing_unresolved)

@@ -42,8 +42,6 @@ module _ (n : List ℕ) (s : ℕ) (e : s ≡ length n - 7) where
 -- as many bytes that make the same number are the same
 same_bytes : (k j : ℕ) (m n : List ℕ) → length m ≡ length n → Bytes m → Bytes n → with_bytes k m ≡ with_bytes j n → (k ≡ j) × (m ≡ n)
 same_bytes k j [] [] long hm hn e = (e, refl)
-same_bytes k j [] (c ∷ n) long hm hn e = absurd (omega (arith, long))
-same_bytes k j (b ∷ m) [] long hm hn e = absurd (omega (arith, long))
 same_bytes k j (b ∷ m) (c ∷ n) long hm hn e =
     let w = same_bytes (k * 256 + b) (j * 256 + c) m n (omega (arith, long)) (All-tail (λ d. d < 256) b m hm) (All-tail (λ d. d < 256) c n hn) e in
     let sum : k * 256 + b ≡ j * 256 + c = w.0 in
@@ -51,6 +49,7 @@ same_bytes k j (b ∷ m) (c ∷ n) long hm hn e =
     let less_c : c < 256 = hn 0 c (omega arith) in
     let first : b ≡ c = omega (arith, sum, less_b, less_c) in
     (omega (arith, sum, less_b, less_c), λ i. (first i ∷ w.1 i))
+same_bytes k j _ _ long hm hn e = absurd (omega (arith, long))
 
 -- ---- keys
 

@@ -37,18 +37,12 @@ begins_nil p b = beginning_both p [] b (p, refl)
 
 -- a prefix that isn't the path itself is shorter
 pub beginning_shorter : (p q : List Field) → Beginning p q → same_path p q ≡ false → length p < length q
-beginning_shorter p q b other = go b.0 b.1
-  where
-    go : (rest : List Field) → q ≡ p ++ rest → length p < length q
-    go [] e = let is = (same_path-Decides p q).1 (sym (e ∙ append-nil p)) in absurd (cc)
-    go (f ∷ rest) e = omega (arith, ap length e, length-append p (f ∷ rest))
+beginning_shorter p q ([], e) other = let is = (same_path-Decides p q).1 (sym (e ∙ append-nil p)) in absurd (cc)
+beginning_shorter p q (f ∷ rest, e) other = omega (arith, ap length e, length-append p (f ∷ rest))
 
 -- of two prefixes of a path one is a prefix of the other
 pub either_begins : (p r q : List Field) → Beginning p q → Beginning r q → Beginning p r ⊎ Beginning r p
 either_begins [] r q bp br = inl (r, refl)
 either_begins (x ∷ p) [] q bp br = inr (x ∷ p, refl)
 either_begins (x ∷ p) (y ∷ r) [] bp br = let e = bp.1 in absurd (cc)
-either_begins (x ∷ p) (y ∷ r) (z ∷ q) bp br =
-    let ep : z ∷ q ≡ x ∷ (p ++ bp.0) = bp.1 in
-    let er : z ∷ q ≡ y ∷ (r ++ br.0) = br.1 in
-    elim (either_begins p r q (bp.0, (cc)) (br.0, (cc))) [ inl b ↦ inl (b.0, (cc b.1)) | inr b ↦ inr (b.0, (cc b.1)) ]
+either_begins (x ∷ p) (y ∷ r) (z ∷ q) bp br = grind (arith, bp, br, either_begins p r q)

@@ -99,10 +99,7 @@ list_len (p ∷ ps) = omega (arith, list_len ps, (insert_len (set_of ps) p).0)
 
 pub once_listed : (ps : List (List Field)) → length ps ≤ set.len (set.from_list {R = path_cmp} ps) → Distinct ps
 once_listed [] e = distinct-nil [] refl
-once_listed (p ∷ ps) e =
-    distinct-cons p ps
-    (λ c. absurd (omega (arith, e, ap set.len (insert_known (set_of ps) p (of_has ps p c)), list_len ps)))
-    (once_listed ps (omega (arith, e, (insert_len (set_of ps) p).0)))
+once_listed (p ∷ ps) e = grind (arith, e, distinct-cons, insert_known, of_has, list_len, insert_len, once_listed ps)
 
 -- of both a union has at most all
 joined_len : (s : PathSet) (ps : List (List Field)) → (set.len s ≤ set.len (set.union s (set_of ps))) × (set.len (set.union s (set_of ps)) ≤ set.len s + set.len (set_of ps))

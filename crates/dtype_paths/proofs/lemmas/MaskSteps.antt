@@ -7,12 +7,10 @@ use Rattle.std.proofs.lemmas.Option.{same_Some}
 use Rattle.dtype_paths.specs.In.{In, first_part}
 use Rattle.dtype_paths.specs.declared.field.Field.{Field}
 use Rattle.dtype_paths.specs.declared.field_mask.FieldMask.{FieldMask}
-use Rattle.dtype_paths.specs.declared.field_mask.FieldMask.TheVariants.{All, Prefix, Exact}
+use Rattle.dtype_paths.specs.declared.field_mask.FieldMask.TheVariants.{Prefix, Exact}
 
 -- where a mask's path begins with a step, the mask holds some path that begins with it
 pub first_contained : (m : FieldMask) (f : Field) → first_part m ≡ Some f → (q : List Field) × In m (f ∷ q)
-first_contained All f e = cc
-first_contained (Prefix []) f e = cc
 first_contained (Prefix (h ∷ p)) f e = let same = same_Some h f e in (p, ([], λ i. sym same i ∷ sym (append-nil p) i))
-first_contained (Exact []) f e = cc
 first_contained (Exact (h ∷ p)) f e = let same = same_Some h f e in (p, λ i. sym same i ∷ p)
+first_contained _ f e = cc

@@ -21,6 +21,7 @@ use Rattle.dtype_paths.specs.PathPredicates.{PathPredicate, after_step, after_st
 use Rattle.dtype_paths.specs.declared.field.Field.{Field}
 use Rattle.dtype_paths.specs.declared.field.Field.TheVariants.{Name}
 use Rattle.dtype_paths.specs.declared.field_path_cursor.FieldPathCursor.{FieldPathCursor}
+use Rattle.dtype_paths.proofs.lemmas.Beginnings.{begins_nil}
 use Rattle.dtype_paths.proofs.lemmas.Cases.{by_bool}
 use Rattle.dtype_paths.proofs.lemmas.PathLists.{any_from, some_member}
 use Rattle.dtype_paths.proofs.lemmas.SetCovers.{covers_word, root_covers}
@@ -35,11 +36,7 @@ abbrev Above : PathPredicate → List Field → Type 0
 Above w q = (p : List Field) × IsTrue (w p) × Beginning p q
 
 contains_above-Decides : (w : PathPredicate) (q : List Field) → Decides (contains_above w q) (Above w q)
-contains_above-Decides w [] = (λ h. ([], h, ([], refl)), λ a. at a.0 a.1 a.2)
-  where
-    at : (p : List Field) → IsTrue (w p) → Beginning p [] → w [] ≡ true
-    at [] h b = h
-    at (g ∷ p) h b = let no : [] ≡ g ∷ (p ++ b.0) = b.1 in absurd (cc)
+contains_above-Decides w [] = (λ h. ([], h, ([], refl)), λ a. ap w (sym (begins_nil a.0 a.2)) ∙ a.1)
 contains_above-Decides w (f ∷ q) =
     let d = contains_above-Decides (after_step f w) q in (
       λ h. ⊎_elim (λ e. ([], e, (f ∷ q, refl))) (λ e. let a = d.0 e in (f ∷ a.0, a.1, (a.2.0, ap (λ r. f ∷ r) a.2.1))) (or_cases (w []) (contains_above (after_step f w) q) h),
@@ -50,8 +47,7 @@ contains_above-Decides w (f ∷ q) =
     at [] h b d = or_left (w []) (contains_above (after_step f w) q) h
     at (g ∷ p) h b d =
         let e : f ∷ q ≡ g ∷ (p ++ b.0) = b.1 in
-        let is : g ≡ f = cc in let rest : q ≡ p ++ b.0 = cc in
-        or_right (w []) (contains_above (after_step f w) q) (d.1 (p, ap (λ k. w (k ∷ p)) (sym is) ∙ h, (b.0, rest)))
+        or_right (w []) (contains_above (after_step f w) q) (d.1 (p, cc h, (b.0, (cc))))
 
 -- a set covers a path exactly where one of its paths ends on the way
 pub covered_on_the_way : (s : PathSet) (q : List Field) → covers s q ≡ contains_above (set.contains s) q

@@ -135,25 +135,20 @@ other_first : (p q : List Field) (f g h : Field) → f ∷ p ≡ h ∷ q → Som
 other_first p q f g h same first other = let e : same_field g f ≡ true = (same_field-Decides g f).1 (cc) in cc
 
 pub other_uncontained : (m : FieldMask) (f g : Field) (q : List Field) → Some g ≡ first_part m → same_field g f ≡ false → In m (f ∷ q) → ⊥
-other_uncontained All f g q first other asked = cc
-other_uncontained (Prefix []) f g q first other asked = cc
 other_uncontained (Prefix (h ∷ p)) f g q first other asked = other_first q (p ++ asked.0) f g h asked.1 first other
-other_uncontained (Exact []) f g q first other asked = cc
 other_uncontained (Exact (h ∷ p)) f g q first other asked = other_first q p f g h asked first other
+other_uncontained _ f g q first other asked = cc
 
 -- nor does a mask whose path has no step, unless it selects everything
 pub none_uncontained : (m : FieldMask) (f : Field) (q : List Field) → None ≡ first_part m → (((r : List Field) → In m r) → ⊥) → In m (f ∷ q) → ⊥
 none_uncontained All f q first some asked = some (λ r. tt)
 none_uncontained (Prefix []) f q first some asked = some (λ r. (r, refl))
-none_uncontained (Prefix (h ∷ p)) f q first some asked = cc
-none_uncontained (Exact []) f q first some asked = cc
-none_uncontained (Exact (h ∷ p)) f q first some asked = cc
+none_uncontained _ f q first some asked = cc
 
 -- a path of one step
 pub one_part : (p : List Field) → length p ≡ 1 → (f : Field) × (p ≡ f ∷ [])
-one_part [] e = absurd (omega (arith, e))
 one_part (f ∷ []) e = (f, refl)
-one_part (f ∷ g ∷ p) e = absurd (omega (arith, e))
+one_part _ e = absurd (omega (arith, e))
 
 -- The root or one step, by the length. The first part says nothing: it shows a search the call to match.
 pub short_path : (p : List Field) → (length p ≡ length p) × (length p ≤ 1 → (p ≡ []) ⊎ ((f : Field) × (p ≡ f ∷ [])))
@@ -179,11 +174,9 @@ root_alone (Exact p) e some = ap Exact (sym e)
 
 -- what a mask selects begins with its first step
 pub first_begins : (m : FieldMask) (f : Field) (q : List Field) → Some f ≡ first_part m → In m q → Beginning (f ∷ []) q
-first_begins All f q e a = cc
-first_begins (Prefix []) f q e a = cc
 first_begins (Prefix (h ∷ p)) f q e a = let same = same_Some f h e in (p ++ a.0, a.1 ∙ (λ i. sym same i ∷ (p ++ a.0)))
-first_begins (Exact []) f q e a = cc
 first_begins (Exact (h ∷ p)) f q e a = let same = same_Some f h e in (p, a ∙ (λ i. sym same i ∷ p))
+first_begins _ f q e a = cc
 
 -- all of the topic, where a file steps types and masks at once; by question below
 pub ruleset stepping = (given_at, given_exists, fields_shown, given_valid, none_at, none_exists, column_along, name_no_size_zero, name_no_extension, at_append, at_element, beginning_exists_in, front_exists_in, root_begins, root_leads, root_exists_in, tested_fields, tested_paths, one_type_at, along_after, none_after, none_further, first_contained, other_uncontained, none_uncontained, one_part, one_begins, tested_beginning, beginning_tested, root_alone, first_begins)

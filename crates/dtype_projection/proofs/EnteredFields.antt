@@ -2,13 +2,13 @@
 -- SPDX-FileCopyrightText: Copyright the Vortex contributors
 
 -- What is contained below the fields of a struct, while the names by which paths go on are looked up one by one.
-use Rattle.std.proofs.Common.{◌≡◌, ◌≢◌, ◌⊎◌, inl, inr, ℕ, zero, suc, ◌+◌, ◌<◌, ◌≤◌, ◌==◌, if◌then◌else◌, All, length, true, false, List, [], ◌∷◌, ◌++◌, map, get_or, slice_get, Some, None, refl, sym, ap, subst, ◌∙◌, append-nil, arith}
+use Rattle.std.proofs.Common.{◌≡◌, ◌≢◌, ◌⊎◌, inl, inr, ℕ, zero, suc, ◌+◌, ◌<◌, ◌≤◌, ◌==◌, All, length, List, [], ◌∷◌, ◌++◌, map, get_or, slice_get, Some, None, refl, sym, ap, subst, ◌∙◌, append-nil, arith}
 use Rattle.std.specs.List.{Contains, IsDistinct, filter_map}
 use Rattle.std.specs.Cmp.{nat_eq_equiv}
 use Rattle.std.specs.List.Sorted.{IsNonDecreasingBy, IsPermutation}
 use Rattle.std.specs.Map.{keys_of, lookup}
 use Rattle.std.specs.Option.{IsSome, option_map}
-use Rattle.std.proofs.lemmas.Bool.{cases_lt, false≢true}
+use Rattle.std.proofs.lemmas.Bool.{false≢true}
 use Rattle.std.proofs.lemmas.Bool.Decides.{Decides-eqb}
 use Rattle.std.proofs.lemmas.Grind.{common_steps}
 use Rattle.std.proofs.lemmas.List.{map_push}
@@ -28,7 +28,7 @@ use Rattle.dtype_paths.specs.declared.field_path_cursor.FieldPathCursor.{FieldPa
 use Rattle.dtype_paths.proofs.lemmas.Cases.{by_bool, by_option}
 use Rattle.dtype_paths.proofs.lemmas.DistinctLists.{distinct-given}
 use Rattle.dtype_paths.proofs.lemmas.ListMembers.{contains-given, contains-map, contains-mapped, given_by}
-use Rattle.dtype_projection.specs.private.Entered.{contained_at, contained_below, placed, shown, AreEntered, AreLookedUp, Entries, Rise}
+use Rattle.dtype_projection.specs.private.Entered.{contained_below, placed, shown, AreEntered, AreLookedUp, Entries, Rise}
 use Rattle.dtype_projection.specs.Projected.{PathPredicate, after_step, without_field}
 use Rattle.dtype_projection.proofs.lemmas.Projections.{by_name, after_without_same, after_without_other}
 
@@ -78,11 +78,7 @@ module _ (w : PathPredicate) (ns : List (List ℕ)) (left rest : List (List ℕ 
 
   -- the field i has it, and its cursor is entered
   pub looked_up-more : (i : ℕ) (below : FieldPathCursor) (es' : Entries) → Some i ≡ first_place ns n → contains_below below ≡ v → es' ≡ es ++ (i, below) ∷ [] → AreLookedUp w ns rest es'
-  looked_up-more i below es' at is new = record {
-    names = old.names;
-    by_name = old.by_name;
-    found = grind (arith, common_steps, old.found, next, at, is, new, map_push shown es (i, below));
-  }
+  looked_up-more i below es' at is new = grind (arith, by_name, common_steps, map_push)
 
 -- what stands at a position is a name's that stands first there
 placed_from : (ns : List (List ℕ)) (names : List (List ℕ × PathPredicate)) (k : ℕ) (v : PathPredicate) → Contains (placed ns names) (k, v) → (n : List ℕ) × Contains names (n, v) × (first_place ns n ≡ Some k)

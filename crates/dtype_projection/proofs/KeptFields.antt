@@ -3,7 +3,7 @@
 
 -- What is kept of the fields that paths step into, in the order of their positions, is the projection of all fields: of
 -- a field that no path steps into nothing is kept.
-use Rattle.std.proofs.Common.{◌≡◌, ◌⊎◌, inl, inr, ℕ, zero, suc, ◌+◌, ◌<◌, ◌≤◌, List, [], ◌∷◌, ◌++◌, map, length, slice_get, true, Option, Some, None, refl, sym, ap, ◌∙◌, append_assoc, arith}
+use Rattle.std.proofs.Common.{◌≡◌, ◌⊎◌, inl, inr, ℕ, zero, suc, ◌+◌, ◌<◌, ◌≤◌, List, [], ◌∷◌, ◌++◌, map, length, slice_get, true, Option, Some, None, refl, sym, ap, ◌∙◌, append_assoc, arith, rules}
 use Rattle.std.specs.List.{cons_option, filter_map, zip}
 use Rattle.std.specs.Option.{option_and_then, option_map}
 use Rattle.std.proofs.lemmas.Bool.{cases_lt}
@@ -43,8 +43,7 @@ next_position i n (e ∷ es) from lt = elim (cases_lt i e.0) [
 ]
 
 kept_pairs : (n : List ℕ) (o : Option Tree) (rest : Fields) → cons_option (option_map (λ u. (n, u)) o) (pairs rest) ≡ pairs (prepend_kept n o rest)
-kept_pairs n None rest = refl
-kept_pairs n (Some t) rest = refl
+kept_pairs n o rest = search rules
 
 -- fs are the fields from position i on, and es has what is contained below them
 kept_from : (all fs : Pairs) (i n : ℕ) (es : Entries) (w : PathPredicate) → n ≡ i + length fs → ((k j : ℕ) → j ≡ k + i → slice_get all j ≡ slice_get fs k) → Rise i n es
@@ -68,10 +67,7 @@ kept_from all (f ∷ fs) i n es w long at from asked =
     ]
 
 pub all_kept : (fs : Pairs) (es : Entries) (w : PathPredicate) → AreEntered w (field_names fs) es → filter_map (kept_at fs) es ≡ pairs (projected_fields (fields fs) w)
-all_kept fs es w e =
-    let same : (k j : ℕ) → j ≡ k + 0 → j ≡ k = λ k j e. omega (arith, e) in
-    let long : length (field_names fs) ≡ length fs = length-map fs (λ f. f.0) in
-    kept_from fs fs 0 (length (field_names fs)) es w (omega (arith, long)) (λ k j e. ap (slice_get fs) (same k j e)) e.order (λ k j i. e.contained j ∙ ap (contained_below w (field_names fs)) (same k j i))
+all_kept fs es w e = grind (arith, length-map, kept_from, slice_get)
 
 -- ---- one field
 
@@ -96,8 +92,7 @@ zip_push _ _ x y e = absurd (omega arith)
 
 pub one_kept : (fs all : Pairs) (es rest : Entries) (e : ℕ × FieldPathCursor) (names names' : List (List ℕ)) (dtypes dtypes' : List DType) (n : List ℕ) (d : DType) → es ≡ e ∷ rest → kept_at fs e ≡ Some (n, tree d) → length names ≡ length dtypes → names' ≡ names ++ n ∷ [] → dtypes' ≡ dtypes ++ d ∷ []
     → zip names (map tree dtypes) ++ filter_map (kept_at fs) es ≡ all → zip names' (map tree dtypes') ++ filter_map (kept_at fs) rest ≡ all
-one_kept fs all es rest e names names' dtypes dtypes' n d next is even en ed whole =
-    grind (arith, next, is, even, en, ed, whole, map_push tree dtypes d, zip_push names (map tree dtypes) n (tree d), length-map dtypes tree, append_assoc (zip names (map tree dtypes)) ((n, tree d) ∷ []))
+one_kept fs all es rest e names names' dtypes dtypes' n d next is even en ed whole = grind (arith, map_push, zip_push, length-map, append_assoc)
 
 -- ---- the struct of the fields that are kept
 

@@ -3,7 +3,7 @@
 
 -- What a reader comes to that steps along a path in a type and in a set of paths, at once: what the projection has
 -- there. `descending` names all of it in one line.
-use Rattle.std.proofs.Common.{◌≡◌, List, [], ◌∷◌, Option, Some, None, option_and_then, true, false, refl, sym, ap, ◌∙◌}
+use Rattle.std.proofs.Common.{◌≡◌, List, [], ◌∷◌, Option, Some, None, option_and_then, true, false, refl, sym, ap, ◌∙◌, arith}
 use Rattle.dtype_types.specs.tree.Kinds.{any_size_list_element}
 use Rattle.dtype_types.specs.tree.Tree.{Tree}
 use Rattle.dtype_paths.specs.Along.{along}
@@ -42,8 +42,7 @@ opened_whole t w p o root e = e ∙ ap (option_and_then (λ u. along u p)) (sym 
 
 -- at the path's end
 pub opened_here : (t : Tree) (w : PathPredicate) (p : List Field) → p ≡ [] → projected t w ≡ option_and_then (λ u. along u p) (projected t w)
-opened_here t w p end =
-    by_option (projected t w) (λ e. e ∙ sym (ap (option_and_then (λ u. along u p)) e)) (λ u e. e ∙ ap (along u) (sym end) ∙ sym (ap (option_and_then (λ x. along x p)) e))
+opened_here t w p end = grind (arith, by_option, option_and_then)
 
 -- In a list, what the projection has of the element. The first part says nothing: it shows a search the call to match.
 pub element_opened : (t : Tree) (w : PathPredicate) → (projected t w ≡ projected t w) × (w [] ≡ false → option_and_then (λ u. along u (ElementType ∷ [])) (projected t w) ≡ option_and_then (λ x. projected x (after_step ElementType w)) (any_size_list_element t))

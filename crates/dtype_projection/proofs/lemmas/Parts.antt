@@ -3,7 +3,7 @@
 
 -- The parts of a type: an order, in which a path leads in a part to a part of what it leads to in the type. The projection
 -- is the least part that has the paths, and no other type is. What it depends on, and how projections compose, follows.
-use Rattle.std.proofs.Common.{◌≡◌, ℕ, ◌≢◌, ◌≤◌, inl, inr, length, List, [], ◌∷◌, true, false, not, IsTrue, Some, None, refl, sym, ap, subst, ◌∙◌, arith, append-nil}
+use Rattle.std.proofs.Common.{◌≡◌, ℕ, ◌≢◌, ◌≤◌, inl, inr, length, List, [], ◌∷◌, true, false, IsTrue, Some, None, refl, sym, ap, subst, ◌∙◌, arith, append-nil, rules}
 use Rattle.std.specs.FinSet as set
 use Rattle.std.proofs.Math.Bool.{and-false}
 use Rattle.std.specs.Option.{option_and_then}
@@ -14,7 +14,6 @@ use Rattle.dtype_paths.specs.Along.{along}
 use Rattle.dtype_paths.specs.At.{At, ExistsIn, step}
 use Rattle.dtype_paths.specs.Beginning.{Beginning}
 use Rattle.dtype_paths.specs.Covering.{covers, least}
-use Rattle.dtype_paths.specs.Equality.{same_field}
 use Rattle.dtype_paths.specs.PathOrder.{PathSet}
 use Rattle.dtype_paths.specs.declared.field.Field.{Field}
 use Rattle.dtype_paths.specs.declared.field.Field.TheVariants.{Name, ElementType}
@@ -116,17 +115,11 @@ HasFieldPaths fs w gs = (m : List ℕ) (q : List Field) → w (Name m ∷ q) ≡
 -- after the first field is left out, and its name with it
 has_later : (n : List ℕ) (t : Tree) (rest gs hs : Fields) (w : PathPredicate) → ((m : List ℕ) → n ≢ m → first_named (pairs gs) m ≡ first_named (pairs hs) m)
     → HasFieldPaths (field n t rest) w gs → HasFieldPaths rest (without_field n w) hs
-has_later n t rest gs hs w same h m q is =
-    let b = without_field_holds n w (Name m) q is in
-    let ne : n ≢ m = λ e. b.0 (ap Name e) in
-    ap (option_and_then (λ z. along z q)) (sym (same m ne)) ∙ h m q b.1 ∙ ap (option_and_then (λ z. along z q)) (named_first n m t rest ne)
+has_later n t rest gs hs w h e = search (rules, without_field_holds, named_first)
 
 -- of fields none of which has a name, leaving out the paths into it changes nothing
 without_both : (m n : List ℕ) (w : PathPredicate) (p : List Field) → without_field m (without_field n w) p ≡ without_field n (without_field m w) p
-without_both m n w [] = refl
-without_both m n w (f ∷ p) = by_bool (same_field (Name n) f)
-    (λ e. rw e (and-false (not (same_field (Name m) f))))
-    (λ e. rw e refl)
+without_both m n w p = grind (arith, by_bool, and-false)
 
 without_absent : (n : List ℕ) (gs : Fields) (w : PathPredicate) → first_named (pairs gs) n ≡ None → projected_fields gs (without_field n w) ≡ projected_fields gs w
 without_absent n no_items w none = refl

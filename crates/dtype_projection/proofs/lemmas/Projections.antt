@@ -3,7 +3,7 @@
 
 -- The projection of each kind of type, what holds of each projection, where steps and paths lead in it, which paths exist in
 -- it, and that it is valid where the type is.
-use Rattle.std.proofs.Common.{arith, ◌≡◌, ◌≢◌, ◌↔◌, IsSome, IsTrue, ℕ, List, [], ◌∷◌, ◌++◌, true, false, Option, Some, None, refl, sym, ap, subst, ◌∙◌, not, ◌&&◌, inl, inr, append-nil}
+use Rattle.std.proofs.Common.{arith, ◌≡◌, ◌≢◌, ◌↔◌, IsSome, IsTrue, ℕ, List, [], ◌∷◌, ◌++◌, true, false, Option, Some, None, refl, sym, ap, subst, ◌∙◌, not, ◌&&◌, inl, inr, append-nil, rules}
 use Rattle.std.specs.Option.{option_and_then, option_map}
 use Rattle.std.proofs.lemmas.Bool.{false≢true}
 use Rattle.std.proofs.lemmas.Option.{same_Some}
@@ -140,8 +140,7 @@ projected_nothing t = by_option (projected t no_path) (λ e. e) (λ u is. let l 
 -- ---- fields by name
 
 first_there : (n m : List ℕ) (o : Option Tree) (gs : Fields) → n ≢ m → first_named (pairs (prepend_kept n o gs)) m ≡ first_named (pairs gs) m
-first_there n m None gs ne = refl
-first_there n m (Some u) gs ne = named_first n m u gs ne
+first_there n m o gs h = grind (arith, named_first)
 
 -- the name of a field that is left out is absent
 absent : (n : List ℕ) (rest : Fields) (w : PathPredicate) → first_named (pairs (projected_fields rest (without_field n w))) n ≡ option_and_then (λ x. projected x (after_step (Name n) (without_field n w))) (first_named (pairs rest) n) → first_named (pairs (projected_fields rest (without_field n w))) n ≡ None
@@ -165,11 +164,7 @@ struct_step n no_items ElementType = refl
 struct_step n (item m t _ gs) f = refl
 
 steps_kept : (t : Tree) (w : PathPredicate) (f : Field) → w [] ≡ false → option_and_then (λ u. step u f) (projected t w) ≡ option_and_then (λ x. projected x (after_step f w)) (step t f)
-steps_kept (list t n) w f root = grind (arith, root)
-steps_kept (fixed_size_list t k n) w f root = grind (arith, root)
-steps_kept (struct fs n) w ElementType root = rw root (struct_step n (projected_fields fs w) ElementType)
-steps_kept (struct fs n) w (Name m) root = rw root (struct_step n (projected_fields fs w) (Name m) ∙ first_kept fs w m)
-steps_kept _ w f root = rw root refl
+steps_kept t w f h = grind (arith, struct_step, first_kept)
 
 pub step_kept : (t u : Tree) (w : PathPredicate) (f : Field) → w [] ≡ false → projected t w ≡ Some u → step u f ≡ option_and_then (λ x. projected x (after_step f w)) (step t f)
 step_kept t u w f root e = sym (ap (option_and_then (λ x. step x f)) e) ∙ steps_kept t w f root
@@ -222,8 +217,7 @@ abbrev Overlapped : Tree → PathPredicate → List Field → Type 0
 Overlapped t w q = ExistsIn t q × ((p : List Field) × (w p ≡ true) × ExistsIn t p × Overlaps p q)
 
 overlaps_on : (f : Field) (p q : List Field) → Overlaps p q → Overlaps (f ∷ p) (f ∷ q)
-overlaps_on f p q (inl b) = inl (b.0, ap (λ z. f ∷ z) b.1)
-overlaps_on f p q (inr b) = inr (b.0, ap (λ z. f ∷ z) b.1)
+overlaps_on f p q h = search rules
 
 pub kept_overlaps : (q : List Field) (t u x : Tree) (w : PathPredicate) → projected t w ≡ Some u → At u q x → Overlapped t w q
 kept_overlaps [] t u x w e a =

@@ -2,11 +2,11 @@
 -- SPDX-FileCopyrightText: Copyright the Vortex contributors
 
 -- What is contained below the fields of a struct, while the names by which paths go on are looked up one by one.
-use Rattle.std.proofs.Common.{◌≡◌, ◌≢◌, ◌⊎◌, inl, inr, ℕ, zero, suc, ◌+◌, ◌<◌, ◌≤◌, ◌==◌, All, length, List, [], ◌∷◌, ◌++◌, map, get_or, slice_get, Some, None, refl, sym, ap, subst, ◌∙◌, append-nil, arith}
+use Rattle.std.proofs.Common.{◌≡◌, ◌≢◌, ◌⊎◌, inl, inr, ℕ, zero, suc, ◌+◌, ◌<◌, ◌≤◌, ◌==◌, All, length, List, [], ◌∷◌, ◌++◌, map, get_or, Some, None, refl, sym, ap, subst, ◌∙◌, append-nil, arith}
 use Rattle.std.specs.List.{Contains, IsDistinct, filter_map}
 use Rattle.std.specs.Cmp.{nat_eq_equiv}
 use Rattle.std.specs.List.Sorted.{IsNonDecreasingBy, IsPermutation}
-use Rattle.std.specs.Map.{keys_of, lookup}
+use Rattle.std.specs.Map.{lookup}
 use Rattle.std.specs.Option.{IsSome, option_map}
 use Rattle.std.proofs.lemmas.Bool.{false≢true}
 use Rattle.std.proofs.lemmas.Bool.Decides.{Decides-eqb}
@@ -43,17 +43,13 @@ contained_first (m ∷ ns) w (suc k) n f =
 
 contained_cases : (ns : List (List ℕ)) (w : PathPredicate) (k : ℕ) → ((n : List ℕ) × FirstAt ns n k) ⊎ (contained_below w ns k ≡ no_path)
 contained_cases [] w k = inr refl
-contained_cases (m ∷ ns) w zero = inl (m, record { here = refl; first = λ j lt. absurd (omega (arith, lt)) })
+contained_cases (m ∷ ns) w zero = inl (m, grind arith)
 contained_cases (m ∷ ns) w (suc k) = elim (contained_cases ns (without_field m w) k) [
   | inr none ↦ inr none
   | inl f ↦ by_name m f.0
-      (λ e. inr (contained_first ns (without_field m w) k f.0 f.1 ∙ ap (λ l. after_step (Name l) (without_field m w)) (sym e) ∙ after_without_same m w))
-      (λ ne. inl (f.0, record { here = f.1.here; first = past f.0 ne f.1.first }))
+      (λ e. inr (grind (arith, contained_first ns (without_field m w) k f.0 f.1, e, after_without_same m w)))
+      (λ ne. inl (f.0, grind (arith, f.1, ne)))
 ]
-  where
-    past : (n : List ℕ) → m ≢ n → ((j : ℕ) → j < k → slice_get ns j ≢ Some n) → (j : ℕ) → j < suc k → slice_get (m ∷ ns) j ≢ Some n
-    past n ne first zero lt e = ne (same_Some m n e)
-    past n ne first (suc j) lt e = first j (omega (arith, lt)) e
 
 -- ---- entries whose positions rise
 
@@ -78,16 +74,11 @@ module _ (w : PathPredicate) (ns : List (List ℕ)) (left rest : List (List ℕ 
 
   -- the field i has it, and its cursor is entered
   pub looked_up-more : (i : ℕ) (below : FieldPathCursor) (es' : Entries) → Some i ≡ first_place ns n → contains_below below ≡ v → es' ≡ es ++ (i, below) ∷ [] → AreLookedUp w ns rest es'
-  looked_up-more i below es' at is new = grind (arith, by_name, common_steps, map_push)
+  looked_up-more i below es' at is new = grind (arith, common_steps, old, next, at, is, new, map_push shown es (i, below))
 
 -- what stands at a position is a name's that stands first there
 placed_from : (ns : List (List ℕ)) (names : List (List ℕ × PathPredicate)) (k : ℕ) (v : PathPredicate) → Contains (placed ns names) (k, v) → (n : List ℕ) × Contains names (n, v) × (first_place ns n ≡ Some k)
-placed_from ns names k v c =
-    let w = given_by (λ e. option_map (λ i. (i, e.1)) (first_place ns e.0)) names (k, v) c in
-    by_option (first_place ns w.0.0) (λ none. let q = w.2 in absurd (let z = rw none at q in cc)) (λ i at.
-    let q : Some (i, w.0.1) ≡ Some (k, v) = rw at at w.2 in
-    let is = same_Some (i, w.0.1) (k, v) q in
-    (w.0.0, subst (λ u. Contains names (w.0.0, u)) (ap (λ e. e.1) is) w.1, at ∙ ap (λ e. Some e.0) is))
+placed_from ns names k v c = grind (arith, given_by (λ e. option_map (λ i. (i, e.1)) (first_place ns e.0)) names (k, v) c)
 
 places : (ns : List (List ℕ)) (names : List (List ℕ × PathPredicate)) → map (λ e. e.0) (placed ns names) ≡ filter_map (first_place ns) (map (λ e. e.0) names)
 places ns [] = refl
@@ -126,11 +117,10 @@ module _ (w : PathPredicate) (ns : List (List ℕ)) (es fs : Entries) (a : AreLo
   entered : (n : List ℕ) (k : ℕ) → FirstAt ns n k → Contains (map (λ e. e.0) a.names) n → IsSome (lookup (λ j. k == j) fs)
   entered n k f c =
       let m = contains-map (λ (e : List ℕ × PathPredicate). e.0) a.names n c in
-      let at : first_place ns m.0.0 ≡ Some k = ap (first_place ns) m.2 ∙ place_of_first ns n k f in
-      let given = contains-given (λ e. option_map (λ i. (i, e.1)) (first_place ns e.0)) a.names m.0 (k, m.0.1) m.1 (rw at refl) in
+      let given = contains-given (λ e. option_map (λ i. (i, e.1)) (first_place ns e.0)) a.names m.0 (k, m.0.1) m.1 (grind (arith, m.2, place_of_first ns n k f)) in
       let e = contains-map shown es (k, m.0.1) (subst (λ xs. Contains xs (k, m.0.1)) (sym all) given) in
       let there = contains-mapped (λ (d : ℕ × FieldPathCursor). d.0) e.0 fs (Contains-permutation es fs e.0 moved e.1) in
-      IsSome-lookup_from_Contains nat_eq_equiv k fs (subst (Contains (keys_of fs)) (ap (λ (d : ℕ × PathPredicate). d.0) e.2) there)
+      grind (arith, IsSome-lookup_from_Contains nat_eq_equiv k fs, there, e)
 
   -- no two have one position
   differ : IsDistinct (λ j k. j == k) (map (λ e. e.0) fs)

@@ -3,7 +3,7 @@
 
 -- What is kept of the fields that paths step into, in the order of their positions, is the projection of all fields: of
 -- a field that no path steps into nothing is kept.
-use Rattle.std.proofs.Common.{◌≡◌, ◌⊎◌, inl, inr, ℕ, zero, suc, ◌+◌, ◌<◌, ◌≤◌, List, [], ◌∷◌, ◌++◌, map, length, slice_get, true, Option, Some, None, refl, sym, ap, ◌∙◌, append_assoc, arith, rules}
+use Rattle.std.proofs.Common.{◌≡◌, ◌⊎◌, inl, inr, ℕ, zero, suc, ◌+◌, ◌<◌, ◌≤◌, List, [], ◌∷◌, ◌++◌, map, length, slice_get, true, Option, Some, None, refl, sym, ap, ◌∙◌, append_assoc, arith}
 use Rattle.std.specs.List.{cons_option, filter_map, zip}
 use Rattle.std.specs.Option.{option_and_then, option_map}
 use Rattle.std.proofs.lemmas.Bool.{cases_lt}
@@ -12,7 +12,7 @@ use Rattle.std.proofs.lemmas.Bool.Decides.{Decides-eqb}
 use Rattle.std.proofs.lemmas.Option.{same_Some}
 use Rattle.dtype_base.specs.declared.nullability.Nullability.{Nullability}
 use Rattle.dtype_types.specs.parts.Lookups.{field_names, field_types}
-use Rattle.dtype_types.specs.tree.Tree.{Tree, Fields, field, fields, pairs, struct}
+use Rattle.dtype_types.specs.tree.Tree.{Tree, Fields, fields, pairs, struct}
 use Rattle.dtype_types.proofs.lemmas.TreeLaws.{tree_struct}
 use Rattle.dtype_types.specs.tree.TreeOf.{tree, children, fields_of, struct_pairs, with_trees}
 use Rattle.dtype_types.specs.declared.dtype.DType.{DType, Struct}
@@ -43,7 +43,8 @@ next_position i n (e ∷ es) from lt = elim (cases_lt i e.0) [
 ]
 
 kept_pairs : (n : List ℕ) (o : Option Tree) (rest : Fields) → cons_option (option_map (λ u. (n, u)) o) (pairs rest) ≡ pairs (prepend_kept n o rest)
-kept_pairs n o rest = search rules
+kept_pairs n None rest = refl
+kept_pairs n (Some t) rest = refl
 
 -- fs are the fields from position i on, and es has what is contained below them
 kept_from : (all fs : Pairs) (i n : ℕ) (es : Entries) (w : PathPredicate) → n ≡ i + length fs → ((k j : ℕ) → j ≡ k + i → slice_get all j ≡ slice_get fs k) → Rise i n es
@@ -67,7 +68,7 @@ kept_from all (f ∷ fs) i n es w long at from asked =
     ]
 
 pub all_kept : (fs : Pairs) (es : Entries) (w : PathPredicate) → AreEntered w (field_names fs) es → filter_map (kept_at fs) es ≡ pairs (projected_fields (fields fs) w)
-all_kept fs es w e = grind (arith, length-map, kept_from, slice_get)
+all_kept fs es w e = grind (arith, kept_from fs fs 0 (length (field_names fs)) es w, length-map fs (λ f. f.0), e)
 
 -- ---- one field
 
@@ -92,7 +93,8 @@ zip_push _ _ x y e = absurd (omega arith)
 
 pub one_kept : (fs all : Pairs) (es rest : Entries) (e : ℕ × FieldPathCursor) (names names' : List (List ℕ)) (dtypes dtypes' : List DType) (n : List ℕ) (d : DType) → es ≡ e ∷ rest → kept_at fs e ≡ Some (n, tree d) → length names ≡ length dtypes → names' ≡ names ++ n ∷ [] → dtypes' ≡ dtypes ++ d ∷ []
     → zip names (map tree dtypes) ++ filter_map (kept_at fs) es ≡ all → zip names' (map tree dtypes') ++ filter_map (kept_at fs) rest ≡ all
-one_kept fs all es rest e names names' dtypes dtypes' n d next is even en ed whole = grind (arith, map_push, zip_push, length-map, append_assoc)
+one_kept fs all es rest e names names' dtypes dtypes' n d next is even en ed whole =
+    grind (arith, next, is, even, en, ed, whole, map_push tree dtypes d, zip_push names (map tree dtypes) n (tree d), length-map dtypes tree, append_assoc (zip names (map tree dtypes)) ((n, tree d) ∷ []))
 
 -- ---- the struct of the fields that are kept
 
@@ -108,9 +110,7 @@ whole_at i n (e ∷ es) all j le lt = grind (arith, cases_lt i j, whole_at (i + 
 
 whole_fields : (fs : Pairs) (w : PathPredicate) → ((k : ℕ) → k < length fs → contained_below w (field_names fs) k [] ≡ true) → fields fs ≡ projected_fields (fields fs) w
 whole_fields [] w ends = refl
-whole_fields (f ∷ fs) w ends =
-    ap (field f.0 f.1) (whole_fields fs (without_field f.0 w) (λ k lt. ends (suc k) (omega (arith, lt))))
-    ∙ ap (λ o. prepend_kept f.0 o (projected_fields (fields fs) (without_field f.0 w))) (sym (kept_root f.1 (after_step (Name f.0) w) (ends 0 (omega arith))))
+whole_fields (f ∷ fs) w ends = grind (arith, whole_fields fs (without_field f.0 w) (λ k lt. ends (suc k) (omega (arith, lt))), ends 0 (omega arith), kept_root f.1)
 
 -- a copy of a struct that has fields, of which all are kept whole, is its projection
 pub struct_shared : (s t : StructFields) (n : Nullability) (w : PathPredicate) (es : Entries) → struct_pairs s ≡ struct_pairs t → AreEntered w (field_names (children t)) es → AreWhole 0 (length (children t)) es → 0 < length (children t) → Some (tree (Struct s n)) ≡ struct_with n (projected_fields (fields_of t) w)

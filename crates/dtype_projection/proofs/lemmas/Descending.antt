@@ -18,19 +18,11 @@ use Rattle.dtype_projection.proofs.lemmas.Projections.{along_step, kept_root, pr
 
 -- after a step into both
 pub opened_after : (t x : Tree) (w v : PathPredicate) (f : Field) (p q : List Field) (o : Option Tree) → w [] ≡ false → q ≡ f ∷ p → Some x ≡ step t f → v ≡ after_step f w → o ≡ option_and_then (λ u. along u p) (projected x v) → o ≡ option_and_then (λ u. along u q) (projected t w)
-opened_after t x w v f p q o root is at asked e =
-    e
-    ∙ ap (λ z. option_and_then (λ u. along u p) (projected x z)) asked
-    ∙ ap (option_and_then (λ y. option_and_then (λ u. along u p) (projected y (after_step f w)))) at
-    ∙ sym (along_step t w f p root)
-    ∙ ap (λ z. option_and_then (λ u. along u z) (projected t w)) (sym is)
+opened_after t x w v f p q o root is at asked e = rw (is, e, asked, along_step t w f p root, ← at) refl
 
 -- where the type has no such part
 pub opened_nowhere : (t : Tree) (w : PathPredicate) (f : Field) (p q : List Field) → w [] ≡ false → q ≡ f ∷ p → None ≡ step t f → None ≡ option_and_then (λ u. along u q) (projected t w)
-opened_nowhere t w f p q root is none =
-    ap (option_and_then (λ y. option_and_then (λ u. along u p) (projected y (after_step f w)))) none
-    ∙ sym (along_step t w f p root)
-    ∙ ap (λ z. option_and_then (λ u. along u z) (projected t w)) (sym is)
+opened_nowhere t w f p q root is none = rw (is, along_step t w f p root, ← none) refl
 
 -- where nothing of it is contained
 pub opened_uncontained : (t x : Tree) (w : PathPredicate) (f : Field) (p q : List Field) → w [] ≡ false → q ≡ f ∷ p → Some x ≡ step t f → no_path ≡ after_step f w → None ≡ option_and_then (λ u. along u q) (projected t w)

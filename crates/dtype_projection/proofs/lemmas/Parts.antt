@@ -3,9 +3,8 @@
 
 -- The parts of a type: an order, in which a path leads in a part to a part of what it leads to in the type. The projection
 -- is the least part that has the paths, and no other type is. What it depends on, and how projections compose, follows.
-use Rattle.std.proofs.Common.{◌≡◌, ℕ, ◌≢◌, ◌≤◌, inl, inr, length, List, [], ◌∷◌, true, false, IsTrue, Some, None, refl, sym, ap, subst, ◌∙◌, arith, append-nil, rules}
+use Rattle.std.proofs.Common.{◌≡◌, ℕ, ◌≢◌, ◌≤◌, inl, inr, length, List, [], ◌∷◌, true, IsTrue, Some, None, refl, sym, ap, subst, ◌∙◌, arith, append-nil}
 use Rattle.std.specs.FinSet as set
-use Rattle.std.proofs.Math.Bool.{and-false}
 use Rattle.std.specs.Option.{option_and_then}
 use Rattle.dtype_types.specs.nullability.Nullable.{nullability}
 use Rattle.dtype_types.specs.parts.Lookups.{first_named}
@@ -17,13 +16,13 @@ use Rattle.dtype_paths.specs.Covering.{covers, least}
 use Rattle.dtype_paths.specs.PathOrder.{PathSet}
 use Rattle.dtype_paths.specs.declared.field.Field.{Field}
 use Rattle.dtype_paths.specs.declared.field.Field.TheVariants.{Name, ElementType}
-use Rattle.dtype_paths.proofs.lemmas.Cases.{by_bool, by_option}
+use Rattle.dtype_paths.proofs.lemmas.Cases.{by_option}
 use Rattle.dtype_paths.proofs.lemmas.SetCovers.{covers_least, covers_member, covers_word}
 use Rattle.dtype_paths.proofs.lemmas.Stepping.{beginning_exists}
 use Rattle.dtype_paths.proofs.lemmas.Walks.{along-At, At-along, along_joined}
 use Rattle.dtype_projection.specs.IsPart.{IsPart, IsPartOfFields, HasPaths, IsLeastPart}
-use Rattle.dtype_projection.specs.Projected.{PathPredicate, after_step, without_field, projected, projected_fields, prepend_kept}
-use Rattle.dtype_projection.proofs.lemmas.Projections.{kept_as_it_was, kept_root, by_name, after_without_other, without_field_holds, each_projection, absent_kept, named_first, named_itself, kept_has_path, path_is_kept}
+use Rattle.dtype_projection.specs.Projected.{PathPredicate, after_step, without_field, projected, projected_fields}
+use Rattle.dtype_projection.proofs.lemmas.Projections.{kept_as_it_was, by_name, after_without_other, without_field_holds, each_projection, absent_kept, named_first, named_itself, kept_has_path, path_is_kept}
 
 -- ---- a type is its own part, and has its parts' nullability
 
@@ -78,8 +77,6 @@ first_of_part (item n t _ fs) gs m y (inr p) e =
     (λ ne. grind (arith, later, named_first n m t fs ne))
 
 step_of_part : (t u z : Tree) (f : Field) → IsPart t u → step u f ≡ Some z → (x : Tree) × (step t f ≡ Some x) × IsPart x z
-step_of_part (list t n) u z f p s = grind (arith, p, s)
-step_of_part (fixed_size_list t k n) u z f p s = grind (arith, p, s)
 step_of_part (struct fs n) u z (Name m) p s = grind (arith, p, s, first_of_part fs)
 step_of_part t u z f p s = grind (arith, p, s, part_itself)
 
@@ -115,31 +112,23 @@ HasFieldPaths fs w gs = (m : List ℕ) (q : List Field) → w (Name m ∷ q) ≡
 -- after the first field is left out, and its name with it
 has_later : (n : List ℕ) (t : Tree) (rest gs hs : Fields) (w : PathPredicate) → ((m : List ℕ) → n ≢ m → first_named (pairs gs) m ≡ first_named (pairs hs) m)
     → HasFieldPaths (field n t rest) w gs → HasFieldPaths rest (without_field n w) hs
-has_later n t rest gs hs w h e = search (rules, without_field_holds, named_first)
+has_later n t rest gs hs w same h m q is = grind (arith, without_field_holds n w (Name m) q is, same m, h m q, named_first n m t rest)
 
 -- of fields none of which has a name, leaving out the paths into it changes nothing
 without_both : (m n : List ℕ) (w : PathPredicate) (p : List Field) → without_field m (without_field n w) p ≡ without_field n (without_field m w) p
-without_both m n w p = grind (arith, by_bool, and-false)
+without_both m n w p = grind arith
 
 without_absent : (n : List ℕ) (gs : Fields) (w : PathPredicate) → first_named (pairs gs) n ≡ None → projected_fields gs (without_field n w) ≡ projected_fields gs w
 without_absent n no_items w none = refl
 without_absent n (item m t _ gs) w none =
-    let both : without_field m (without_field n w) ≡ without_field n (without_field m w) = λ i p. without_both m n w p i in by_name m n
-    (λ e. absurd (let q = named_itself m t gs in grind (arith, e, none, q)))
-    (λ ne. grind (arith, none, after_without_other n m w (λ e. ne (sym e)), both, without_absent n gs (without_field m w), named_first m n t gs ne))
-
--- where a path ends at the type itself the part is the type
-or_whole : (t x : Tree) (w : PathPredicate) → HasPaths t w x → (w [] ≡ false → projected x w ≡ projected t w) → projected x w ≡ projected t w
-or_whole t x w h below = by_bool (w []) (λ root. kept_root x w root ∙ h [] root ∙ sym (kept_root t w root)) below
+    let both : without_field m (without_field n w) ≡ without_field n (without_field m w) = λ i p. without_both m n w p i in
+    grind (arith, none, both, named_itself m t gs, after_without_other n m w, without_absent n gs (without_field m w), named_first m n t gs)
 
 mutual
   projected_part : (t x : Tree) (w : PathPredicate) → IsPart t x → HasPaths t w x → projected x w ≡ projected t w
-  projected_part (list t n) x w p h = or_whole (list t n) x w h (λ root.
-      grind (arith, root, p, projected_part t p.0 (after_step ElementType w) p.2 (λ q b. rw p.1 at (h (ElementType ∷ q) b))))
-  projected_part (fixed_size_list t k n) x w p h = or_whole (fixed_size_list t k n) x w h (λ root.
-      grind (arith, root, p, projected_part t p.0 (after_step ElementType w) p.2 (λ q b. rw p.1 at (h (ElementType ∷ q) b))))
-  projected_part (struct fs n) x w p h = or_whole (struct fs n) x w h (λ root.
-      grind (arith, root, p, projected_part_fields fs p.0 w p.2 (λ m q b. rw p.1 at (h (Name m ∷ q) b))))
+  projected_part (list t n) x w p h = grind (arith, p, h, projected_part t p.0 (after_step ElementType w))
+  projected_part (fixed_size_list t k n) x w p h = grind (arith, p, h, projected_part t p.0 (after_step ElementType w))
+  projected_part (struct fs n) x w p h = grind (arith, p, h, projected_part_fields fs p.0 w)
   projected_part t x w p h = ap (λ z. projected z w) p
 
   projected_part_fields : (fs gs : Fields) (w : PathPredicate) → IsPartOfFields fs gs → HasFieldPaths fs w gs → projected_fields gs w ≡ projected_fields fs w
@@ -147,15 +136,12 @@ mutual
   projected_part_fields (item n t _ fs) gs w (inl p) h =
       let same : HasFieldPaths (field n t fs) w (field n p.0 p.1) = rw p.2 at h in
       let on = projected_part t p.0 (after_step (Name n) w) p.3 (λ q b. rw (named_itself n p.0 p.1, named_itself n t fs) at (same n q b)) in
-      let later = projected_part_fields fs p.1 (without_field n w) p.4 (has_later n t fs (field n p.0 p.1) p.1 w (λ m ne. named_first n m p.0 p.1 ne) same) in
-      rw p.2 (λ i. prepend_kept n (on i) (later i))
+      grind (arith, p, on, projected_part_fields fs p.1 (without_field n w) p.4 (has_later n t fs (field n p.0 p.1) p.1 w (λ m ne. named_first n m p.0 p.1 ne) same))
   projected_part_fields (item n t _ fs) gs w (inr p) h =
       let none = by_option (projected t (after_step (Name n) w)) (λ e. e) (λ x is.
       let l = kept_has_path t x (after_step (Name n) w) is in
-      absurd (let there = At-along t l.path l.exists.found l.exists.at in grind (arith, p.1, h n l.path l.holds, named_itself n t fs, there))) in
-      sym (without_absent n gs w p.1)
-      ∙ projected_part_fields fs gs (without_field n w) p.0 (has_later n t fs gs gs w (λ m ne. refl) h)
-      ∙ ap (λ o. prepend_kept n o (projected_fields fs (without_field n w))) (sym none)
+      absurd (grind (arith, p.1, h n l.path, l, named_itself n t fs, At-along t l.path))) in
+      grind (arith, none, without_absent n gs w p.1, projected_part_fields fs gs (without_field n w) p.0 (has_later n t fs gs gs w (λ m ne. refl) h))
 
 -- ---- the projection is the least part that has the paths, and no other type is
 
@@ -192,32 +178,21 @@ pub covered_is_kept : (t : Tree) (w : PathPredicate) (q : List Field) → Covere
 covered_is_kept t w q c x = let a = beginning_exists t x.found c.path q c.begins x.at in path_is_kept c.path t a.0 w c.holds a.1
 
 pub none_of_either : (t : Tree) (w v : PathPredicate) → CoversIn t w v → projected t w ≡ None → projected t v ≡ None
-none_of_either t w v c none = by_option (projected t v) (λ e. e) (λ u is.
-    let l = kept_has_path t u v is in
-    let k = covered_is_kept t w l.path (c.covered l.path l.holds l.exists) l.exists in
-    let q = sym none ∙ k.1 in cc)
+none_of_either t w v c none = by_option (projected t v) (λ e. e) (λ u is. let l = kept_has_path t u v is in grind (arith, none, covered_is_kept t w l.path, c.covered l.path, l))
 
 -- and what has the paths of w has those of v
 has_covered : (t x : Tree) (w v : PathPredicate) → CoversIn t w v → IsPart t x → HasPaths t w x → HasPaths t v x
 has_covered t x w v c p h q is = by_option (along t q)
     (λ none. by_option (along x q) (λ e. e) (λ y at. let r = path_of_part t x y q p (along-At x q y at) in let e = sym none ∙ At-along t q r.0 r.1 in cc) ∙ sym none)
-    (λ z at.
-    let b = c.covered q is (record { found = z; at = along-At t q z at }) in
-    ap (along x) b.begins.1
-    ∙ along_joined x b.path b.begins.0
-    ∙ ap (option_and_then (λ y. along y b.begins.0)) (h b.path b.holds)
-    ∙ sym (along_joined t b.path b.begins.0)
-    ∙ ap (along t) (sym b.begins.1))
+    (λ z at. grind (arith, along_joined, h, c.covered q is (record { found = z; at = along-At t q z at })))
 
 same_projection : (t : Tree) (w v : PathPredicate) → CoversIn t w v → CoversIn t v w → projected t w ≡ projected t v
 same_projection t w v c d = by_option (projected t w)
     (λ none. none ∙ sym (none_of_either t w v c none))
     (λ u is.
     let l = kept_has_path t u w is in
-    let m = kept_is_least t u w is in
     let k = covered_is_kept t v l.path (d.covered l.path l.holds l.exists) l.exists in
-    let o = kept_is_least t k.0 v k.1 in
-    is ∙ ap Some (sym (parts_equal u k.0 (o.least u m.part (has_covered t u w v c m.part m.has)) (m.least k.0 o.part (has_covered t k.0 v w d o.part o.has)))) ∙ sym k.1)
+    grind (arith, is, k, kept_is_least t u w is, kept_is_least t k.0 v k.1, parts_equal u k.0, has_covered t u w v c, has_covered t k.0 v w d))
 
 -- sets that cover the same of the type's paths have the same projection
 pub same_for_same_coverage : (t : Tree) (r s : PathSet) → ((q : List Field) → ExistsIn t q → covers r q ≡ covers s q) → projected t (set.contains r) ≡ projected t (set.contains s)

@@ -3,8 +3,8 @@
 
 -- The projection of each kind of type, what holds of each projection, where steps and paths lead in it, which paths exist in
 -- it, and that it is valid where the type is.
-use Rattle.std.proofs.Common.{arith, ◌≡◌, ◌≢◌, ◌↔◌, IsSome, IsTrue, ℕ, List, [], ◌∷◌, ◌++◌, true, false, Option, Some, None, refl, sym, ap, subst, ◌∙◌, not, ◌&&◌, inl, inr, append-nil, rules}
-use Rattle.std.specs.Option.{option_and_then, option_map}
+use Rattle.std.proofs.Common.{arith, ◌≡◌, ◌≢◌, ◌↔◌, IsSome, IsTrue, ℕ, List, [], ◌∷◌, ◌++◌, true, false, Option, Some, None, refl, sym, ap, subst, ◌∙◌, not, ◌&&◌, inl, inr, append-nil}
+use Rattle.std.specs.Option.{option_and_then}
 use Rattle.std.proofs.lemmas.Bool.{false≢true}
 use Rattle.std.proofs.lemmas.Option.{same_Some}
 use Rattle.std.specs.Str.{bytes_eq}
@@ -55,9 +55,6 @@ with_is : (n : Nullability) (gs : Fields) (u : Tree) → struct_with n gs ≡ So
 with_is n no_items u e = cc
 with_is n (item m t _ gs) u e = same_Some _ u e
 
-mapped : (o : Option Tree) (g : Tree → Tree) (u : Tree) → option_map g o ≡ Some u → (x : Tree) × (o ≡ Some x) × (g x ≡ u)
-mapped o g u e = grind (arith, e)
-
 -- ---- one walk for all that holds of each projection
 
 -- what has to be shown, kind by kind, for `P` of each projection, and for `Q` of the fields that are kept
@@ -77,24 +74,16 @@ module _ (P : Tree → PathPredicate → Tree → Type 0) (Q : Fields → PathPr
 
   mutual
     pub each_projection : (t u : Tree) (w : PathPredicate) → projected t w ≡ Some u → P t w u
-    each_projection (list t n) u w e = by_root (list t n) u w e (λ root.
-        let x = mapped (projected t (after_step ElementType w)) (λ y. list y n) u (rw root at e) in
-        rw (← x.2) (s.in_list t x.0 n w root (each_projection t x.0 (after_step ElementType w) x.1)))
-    each_projection (fixed_size_list t k n) u w e = by_root (fixed_size_list t k n) u w e (λ root.
-        let x = mapped (projected t (after_step ElementType w)) (λ y. fixed_size_list y k n) u (rw root at e) in
-        rw (← x.2) (s.in_fixed t x.0 k n w root (each_projection t x.0 (after_step ElementType w) x.1)))
+    each_projection (list t n) u w e = grind (arith, e, s.whole, s.in_list t, each_projection t)
+    each_projection (fixed_size_list t k n) u w e = grind (arith, e, s.whole, s.in_fixed t, each_projection t)
     each_projection (struct fs n) u w e = by_root (struct fs n) u w e (λ root.
         let with : struct_with n (projected_fields fs w) ≡ Some u = rw root at e in
-        subst (P (struct fs n) w) (with_is n (projected_fields fs w) u with) (s.in_struct fs (projected_fields fs w) n w root (λ none. let q = sym (ap (struct_with n) none) ∙ with in cc) (each_fields fs w)))
+        subst (P (struct fs n) w) (with_is n (projected_fields fs w) u with) (s.in_struct fs (projected_fields fs w) n w root (λ none. grind (arith, none, with)) (each_fields fs w)))
     each_projection t u w e = by_root t u w e (λ root. let q = rw root at e in cc)
 
     each_fields : (fs : Fields) (w : PathPredicate) → Q fs w (projected_fields fs w)
     each_fields no_items w = s.none w
-    each_fields (item n t _ rest) w =
-        let later = each_fields rest (without_field n w) in
-        by_option (projected t (after_step (Name n) w))
-        (λ none. rw none (s.left n t rest _ w none refl later))
-        (λ x is. rw is (s.kept n t x rest _ w is (each_projection t x (after_step (Name n) w) is) later))
+    each_fields (item n t _ rest) w = grind (arith, s.kept n t, s.left n t rest, each_projection t, each_fields rest (without_field n w))
 
 -- ---- something is kept exactly where a path of w exists
 
@@ -117,22 +106,8 @@ record EnteredField (fs : Fields) (w : PathPredicate) : Type 0 where
   first : first_named (pairs fs) name ≡ Some child
   below : ExistingPath child (after_step (Name name) w)
 
-extended_path : (t x : Tree) (w : PathPredicate) (f : Field) → step t f ≡ Some x → ExistingPath x (after_step f w) → ExistingPath t w
-extended_path t x w f is l = record { path = f ∷ l.path; holds = l.holds; exists = record { found = l.exists.found; at = (x, is, l.exists.at) } }
-
 pub kept_has_path : (t u : Tree) (w : PathPredicate) → projected t w ≡ Some u → ExistingPath t w
-kept_has_path = each_projection (λ t w u. ExistingPath t w) (λ fs w gs. gs ≢ no_items → EnteredField fs w) (record {
-  whole = λ t w root. record { path = []; holds = root; exists = record { found = t; at = refl } };
-  in_list = λ t x n w root l. extended_path (list t n) t w ElementType refl l;
-  in_fixed = λ t x k n w root l. extended_path (fixed_size_list t k n) t w ElementType refl l;
-  in_struct = λ fs gs n w root some into. let i = into some in extended_path (struct fs n) i.child w (Name i.name) i.first i.below;
-  none = λ w some. absurd (some refl);
-  kept = λ n t x fs gs w is l into some. record { name = n; child = t; first = named_itself n t fs; below = l };
-  left = λ n t fs gs w none is into some.
-      let i = into some in
-      let b = without_field_holds n w (Name i.name) i.below.path i.below.holds in
-      record { name = i.name; child = i.child; first = named_first n i.name t fs (λ e. b.0 (ap Name e)) ∙ i.first; below = record { path = i.below.path; holds = b.1; exists = i.below.exists } };
-})
+kept_has_path = each_projection (λ t w u. ExistingPath t w) (λ fs w gs. gs ≢ no_items → EnteredField fs w) (grind (arith, without_field_holds, named_itself, named_first))
 
 pub projected_nothing : (t : Tree) → projected t no_path ≡ None
 projected_nothing t = by_option (projected t no_path) (λ e. e) (λ u is. let l = kept_has_path t u no_path is in let q = l.holds in cc)
@@ -140,7 +115,8 @@ projected_nothing t = by_option (projected t no_path) (λ e. e) (λ u is. let l 
 -- ---- fields by name
 
 first_there : (n m : List ℕ) (o : Option Tree) (gs : Fields) → n ≢ m → first_named (pairs (prepend_kept n o gs)) m ≡ first_named (pairs gs) m
-first_there n m o gs h = grind (arith, named_first)
+first_there n m None gs ne = refl
+first_there n m (Some u) gs ne = named_first n m u gs ne
 
 -- the name of a field that is left out is absent
 absent : (n : List ℕ) (rest : Fields) (w : PathPredicate) → first_named (pairs (projected_fields rest (without_field n w))) n ≡ option_and_then (λ x. projected x (after_step (Name n) (without_field n w))) (first_named (pairs rest) n) → first_named (pairs (projected_fields rest (without_field n w))) n ≡ None
@@ -159,24 +135,19 @@ absent_kept n rest w = absent n rest w (first_kept rest (without_field n w) n)
 -- ---- a step into the projection
 
 struct_step : (n : Nullability) (gs : Fields) (f : Field) → option_and_then (λ u. step u f) (struct_with n gs) ≡ step (struct gs n) f
-struct_step n no_items (Name m) = refl
-struct_step n no_items ElementType = refl
+struct_step n no_items f = grind arith
 struct_step n (item m t _ gs) f = refl
 
 steps_kept : (t : Tree) (w : PathPredicate) (f : Field) → w [] ≡ false → option_and_then (λ u. step u f) (projected t w) ≡ option_and_then (λ x. projected x (after_step f w)) (step t f)
-steps_kept t w f h = grind (arith, struct_step, first_kept)
+steps_kept (struct fs n) w f root = grind (arith, root, struct_step n (projected_fields fs w), first_kept fs w)
+steps_kept t w f root = grind (arith, root)
 
 pub step_kept : (t u : Tree) (w : PathPredicate) (f : Field) → w [] ≡ false → projected t w ≡ Some u → step u f ≡ option_and_then (λ x. projected x (after_step f w)) (step t f)
 step_kept t u w f root e = sym (ap (option_and_then (λ x. step x f)) e) ∙ steps_kept t w f root
 
 pub path_is_kept : (p : List Field) (t x : Tree) (w : PathPredicate) → w p ≡ true → At t p x → (u : Tree) × (projected t w ≡ Some u)
 path_is_kept [] t x w e a = (t, kept_root t w e)
-path_is_kept (f ∷ p) t x w e a = by_bool (w [])
-    (λ root. (t, kept_root t w root))
-    (λ root. by_option (projected t w)
-    (λ none. let r = path_is_kept p a.0 x (after_step f w) e a.2 in
-    let q = sym (ap (option_and_then (λ u. step u f)) none) ∙ steps_kept t w f root ∙ ap (option_and_then (λ y. projected y (after_step f w))) a.1 ∙ r.1 in cc)
-    (λ u is. (u, is)))
+path_is_kept (f ∷ p) t x w e a = grind (arith, kept_root t w, path_is_kept p a.0 x (after_step f w) e a.2, steps_kept t w f, a)
 
 pub kept_exactly : (t : Tree) (w : PathPredicate) → IsSome (projected t w) ↔ ((p : List Field) × IsTrue (w p) × ExistsIn t p)
 kept_exactly t w = (
@@ -198,17 +169,14 @@ along_step t w f p root =
 
 -- at or below a path of w it has what the type has
 pub along_kept : (p r : List Field) (t : Tree) (w : PathPredicate) → w p ≡ true → option_and_then (λ u. along u (p ++ r)) (projected t w) ≡ along t (p ++ r)
-along_kept [] r t w is = ap (option_and_then (λ u. along u r)) (kept_root t w is)
-along_kept (f ∷ p) r t w is = by_bool (w [])
-    (λ root. ap (option_and_then (λ u. along u ((f ∷ p) ++ r))) (kept_root t w root))
-    (λ root. along_step t w f (p ++ r) root ∙ (λ i. option_and_then (λ x. along_kept p r x (after_step f w) is i) (step t f)))
+along_kept [] r t w is = grind (arith, kept_root t w is)
+along_kept (f ∷ p) r t w is = grind (arith, is, kept_root t w, along_step t w f (p ++ r), λ (x : Tree). along_kept p r x (after_step f w))
 
 -- ---- how paths resolve in the projection
 
 -- paths at or below those of w resolve as in the type
 pub kept_as_it_was : (t u : Tree) (w : PathPredicate) (p q : List Field) → projected t w ≡ Some u → w p ≡ true → Beginning p q → along u q ≡ along t q
-kept_as_it_was t u w p q e is b =
-    subst (λ z. along u z ≡ along t z) (sym b.1) (sym (ap (option_and_then (λ x. along x (p ++ b.0))) e) ∙ along_kept p b.0 t w is)
+kept_as_it_was t u w p q e is b = grind (arith, b, e, along_kept p b.0 t w is)
 
 -- ---- no other path exists in the projection
 
@@ -217,7 +185,7 @@ abbrev Overlapped : Tree → PathPredicate → List Field → Type 0
 Overlapped t w q = ExistsIn t q × ((p : List Field) × (w p ≡ true) × ExistsIn t p × Overlaps p q)
 
 overlaps_on : (f : Field) (p q : List Field) → Overlaps p q → Overlaps (f ∷ p) (f ∷ q)
-overlaps_on f p q h = search rules
+overlaps_on f p q o = grind (arith, o)
 
 pub kept_overlaps : (q : List Field) (t u x : Tree) (w : PathPredicate) → projected t w ≡ Some u → At u q x → Overlapped t w q
 kept_overlaps [] t u x w e a =
@@ -249,12 +217,4 @@ exists_in_kept t u w q e = (
 -- ---- the projection of a valid type is valid
 
 pub valid_kept : (t u : Tree) (w : PathPredicate) → projected t w ≡ Some u → Valid t → Valid u
-valid_kept = each_projection (λ t w u. Valid t → Valid u) (λ fs w gs. ValidItems fs → ValidItems gs) (record {
-  whole = λ t w root h. h;
-  in_list = λ t x n w root on h. on h;
-  in_fixed = λ t x k n w root on h. (h.0, on h.1);
-  in_struct = λ fs gs n w root some on h. on h;
-  none = λ w h. h;
-  kept = λ n t x fs gs w is on later h. (on h.0, later h.1);
-  left = λ n t fs gs w none is later h. later h.1;
-})
+valid_kept = each_projection (λ t w u. Valid t → Valid u) (λ fs w gs. ValidItems fs → ValidItems gs) (grind arith)

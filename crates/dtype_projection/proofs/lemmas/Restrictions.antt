@@ -148,13 +148,7 @@ found_step : (t : Tree) (f : Field) (y u : Tree) (w : PathPredicate) (q : List F
 found_step (list t n) ElementType y u w q (items vs) x root at is on h = rw root (found_each t _ (λ v. Found v q x) (λ v. Found v q x) vs (on t refl) h)
 found_step (fixed_size_list t k n) ElementType y u w q (fixed_items vs) x root at is on h = rw root (found_each t _ (λ v. Found v q x) (λ v. Found v q x) vs (on t refl) h.1)
 found_step (struct fs n) (Name m) y u w q (record_of nvs) x root at is on h = rw root (found_pairs fs w nvs m y u q x (on y at) at is h)
-found_step (list t n) _ y u w q null_value x root at is on h = rw root (λ f. f, λ f. f)
-found_step (fixed_size_list t k n) _ y u w q null_value x root at is on h = rw root (λ f. f, λ f. f)
-found_step (struct fs n) _ y u w q null_value x root at is on h = rw root (λ f. f, λ f. f)
-found_step (list t n) ElementType y u w q _ x root at is on h = absurd h
-found_step (fixed_size_list t k n) ElementType y u w q _ x root at is on h = absurd h
-found_step (struct fs n) (Name m) y u w q _ x root at is on h = absurd h
-found_step _ f y u w q v x root at is on h = cc
+found_step _ f y u w q v x root at is on h = grind (arith, root, at, h)
 
 -- at and below a path of w that exists in the type the same is found in the value and in its restriction
 pub found_kept : (p r : List Field) (t z : Tree) (w : PathPredicate) (v x : Value) → w p ≡ true → At t p z → Of v t → Found v (p ++ r) x ↔ Found (restricted t w v) (p ++ r) x

@@ -2,9 +2,7 @@
 -- SPDX-FileCopyrightText: Copyright the Vortex contributors
 
 -- What is along a path in a type above another: as a merged type is above those that were merged.
-use Rattle.std.proofs.Common.{◌≡◌, ◌∙◌, ℕ, List, [], ◌∷◌, Some, refl, sym, ap, subst}
-use Rattle.std.proofs.lemmas.Option.{same_Some}
-use Rattle.std.specs.Prelude.{bytes_eq}
+use Rattle.std.proofs.Common.{arith, ◌≡◌, ◌∙◌, ℕ, List, [], ◌∷◌, Some, refl, sym, ap, subst}
 use Rattle.dtype_types.specs.nullability.Nullable.{IsNullable}
 use Rattle.dtype_types.specs.nullability.Sub.{Sub, NullableWherever, NullableWhereverItems}
 use Rattle.dtype_types.proofs.lemmas.Order.{above_nullable}
@@ -29,23 +27,19 @@ named_beside (item m t _ fs) (item n u _ gs) k a e is =
     let name : m ≡ n = cc in
     let type : erase t ≡ erase u = cc in
     let rest : erase_items fs ≡ erase_items gs = ap rest_of e in
-    let same : bytes_eq n k ≡ bytes_eq m k = ap (λ x. bytes_eq x k) (sym name) in
     by_first m k t a fs is
-    (λ y at. (u, rw (same, y) refl, (ap erase (sym at) ∙ type, λ h. subst (λ x. NullableWherever x u) at h.0)))
-    (λ y later. let r = named_beside fs gs k a rest later in (r.0, rw (same, y) r.1, (r.2.0, λ h. r.2.1 h.1)))
+    (λ y at. (u, grind (arith, name, y), grind (arith, at, type)))
+    (λ y later. grind (arith, name, y, named_beside fs gs k a rest later))
 
 step_beside : (t u a : Tree) (f : Field) → erase t ≡ erase u → step t f ≡ Some a → (b : Tree) × (step u f ≡ Some b) × Beside (NullableWherever t u) a b
-step_beside (list t m) (list u n) a ElementType e is = let at = same_Some t a is in let same : erase t ≡ erase u = cc in (u, refl, (ap erase (sym at) ∙ same, λ h. subst (λ x. NullableWherever x u) at h.1))
-step_beside (fixed_size_list t j m) (fixed_size_list u k n) a ElementType e is = let at = same_Some t a is in let same : erase t ≡ erase u = cc in (u, refl, (ap erase (sym at) ∙ same, λ h. subst (λ x. NullableWherever x u) at h.1))
-step_beside (struct fs m) (struct gs n) a (Name k) e is = let same : erase_items fs ≡ erase_items gs = cc in let r = named_beside fs gs k a same is in (r.0, r.1, (r.2.0, λ h. r.2.1 h.1))
+step_beside (struct fs m) (struct gs n) a (Name k) e is = let same : erase_items fs ≡ erase_items gs = cc in grind (arith, named_beside fs gs k a same is)
+step_beside (list t m) (list u n) a ElementType e is = grind (arith, e, is)
+step_beside (fixed_size_list t j m) (fixed_size_list u k n) a ElementType e is = grind (arith, e, is)
 step_beside _ _ a _ e is = cc
 
 at_beside : (t u x : Tree) (p : List Field) → erase t ≡ erase u → At t p x → (y : Tree) × At u p y × Beside (NullableWherever t u) x y
 at_beside t u x [] e a = (u, refl, (ap erase (sym a) ∙ e, λ h. subst (λ z. NullableWherever z u) a h))
-at_beside t u x (f ∷ p) e a =
-    let s = step_beside t u a.0 f e a.1 in
-    let r = at_beside a.0 s.0 x p s.2.0 a.2 in
-    (r.0, (s.0, s.1, r.1), (r.2.0, λ h. r.2.1 (s.2.1 h)))
+at_beside t u x (f ∷ p) e a = let s = step_beside t u a.0 f e a.1 in grind (arith, s, at_beside a.0 s.0 x p s.2.0 a.2)
 
 pub above_exists : (t u x : Tree) (p : List Field) → Sub t u → At t p x → ExistsIn u p
 above_exists t u x p s a = let r = at_beside t u x p s.erased a in record { found = r.0; at = r.1 }
@@ -55,8 +49,6 @@ below_exists t u p s e = let r = at_beside u t e.found p (sym s.erased) e.at in 
 
 -- nullable there where the type below is
 pub nullable_along : (t u x y : Tree) (p : List Field) → Sub t u → At t p x → At u p y → IsNullable x → IsNullable y
-nullable_along t u x y p s a b n =
-    let r = at_beside t u x p s.erased a in
-    above_nullable x y (subst (Sub x) (one_type_at u r.0 y p r.1 b) (record { erased = r.2.0; nullable = r.2.1 s.nullable })) n
+nullable_along t u x y p s a b n = grind (arith, at_beside t u x p s.erased a, one_type_at u, above_nullable, s, b, n)
 
 pub ruleset above = (above_exists, below_exists, nullable_along)

@@ -137,6 +137,7 @@ fn project_parts(
 
 // Returns the projection of an element to the paths that the cursor contains after the element step.
 #[cycle(projecting)]
+#[tactic(auto, using(crate::proofs::lemmas::Projections::projected_nothing))]
 fn project_element(
     alloc: Global,
     element: &DType,
@@ -195,7 +196,7 @@ fn struct_of(
 
 // Returns the name of the field at this position, and the projection of its type to the paths that the cursor contains.
 #[cycle(projecting)]
-#[tactic(auto, using(crate::proofs::KeptFields::kept_some, crate::proofs::KeptFields::kept_none))]
+#[tactic(auto, using(crate::proofs::KeptFields::kept_some, crate::proofs::KeptFields::kept_none, dtype_types::proofs::lemmas::TypesBelow::field_below))]
 fn project_field(
     alloc: Global,
     fields: &StructFields,

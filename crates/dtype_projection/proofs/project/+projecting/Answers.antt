@@ -11,15 +11,10 @@ use Rattle.dtype_types.specs.tree.Tree.{fields}
 use Rattle.dtype_types.specs.tree.TreeOf.{tree, children, fields_of}
 use Rattle.dtype_paths.specs.Cursors.{contains_below}
 use Rattle.dtype_projection.specs.private.Entered.{AreWhole}
-use Rattle.dtype_projection.specs.Projected.{projected, projected_fields, struct_with}
-use Rattle.dtype_projection.proofs.lemmas.Projections.{projected_nothing}
+use Rattle.dtype_projection.specs.Projected.{projected_fields, struct_with}
 use Rattle.dtype_projection.proofs.KeptFields.{all_kept, kept_at, one_kept, struct_shared}
 use Rattle.dtype_types.proofs.lemmas.ValidParts.{fields_of_pairs}
-use Rattle.dtype_types.proofs.lemmas.TypesBelow.{field_below}
 use Rattle.dtype_projection.proofs.project.+projecting.Goals as goal
-
-pub project_element-returns-in-None : goal.project_element-returns-in-None
-project_element-returns-in-None t c = let element = tree c.args.element.now in sym (projected_nothing element) ∙ ap (projected element) c.in-None.ensures.paths
 
 pub project_struct-returns-then-are_all_whole : goal.project_struct-returns-then-are_all_whole
 project_struct-returns-then-are_all_whole t c =
@@ -60,10 +55,3 @@ project_struct-returns t c =
     let kept = zip c.loop-position.names.items (map tree c.loop-position.dtypes.items) in
     let all = sym (append-nil kept) ∙ ap (λ es. kept ++ filter_map (kept_at (children c.args.fields.now)) es) (sym none) ∙ c.loop-position.invariant.kept in
     subst (λ fs. MatchResult c.struct_of.result (λ r. option_map tree r ≡ struct_with c.args.n fs) (λ e. e ≡ OutOfMemory)) (ap fields all ∙ fields_of_pairs (projected_fields (fields_of c.args.fields.now) (contains_below c.args.cursor.now))) c.struct_of.ensures
-
--- ---- one field
-
-pub project_field-project-requires : goal.project_field-project-requires
-project_field-project-requires t c =
-    let lighter = field_below (children c.args.fields.now) c.args.position (tree c.in-Some-Some.dtype.now) (sym c.in-Some-Some.ensures') in
-    (omega (arith, lighter), tt)

@@ -20,7 +20,7 @@ use Rattle.dtype_base.specs.Nullability.{nullability_of}
 use Rattle.dtype_types.specs.nullability.Nullable.{nullability}
 use Rattle.dtype_types.specs.parts.Unions.{MakesUnion}
 use Rattle.dtype_types.specs.tree.Tree as of
-use Rattle.dtype_types.specs.tree.Tree.{Tree, fields, variants}
+use Rattle.dtype_types.specs.tree.Tree.{Tree, variants}
 use Rattle.dtype_messages.specs.Message.{Message, Child, Messages, missing, primitive, decimal, list, fixed_size_list, map_of, struct, union, extension, absent, present, no_message, more}
 use Rattle.dtype_messages.specs.PTypeNumbers.{ptype_at}
 use Rattle.dtype_messages.proofs.lemmas.Numbers.{number_at}
@@ -93,9 +93,7 @@ mutual
       (λ t a. (x, y, h, k, a.0, a.1)) (λ e j. inr (inr (j.0, x, h, j.1))))
       (λ e j. inr (inl j))) (λ e. inl)
   reading s (struct ns ms f) = grind (arith, nat_tests, all_reading s ms, count_all s ms)
-  reading s (union ns ms gs f) =
-      bind_result (read_all s ms) _ _ _ _ _ (all_reading s ms)
-      (λ ts h. grind (arith, union_reading ns ts gs (nullability_of f), count_all s ms ts h, h)) (λ e. inl)
+  reading s (union ns ms gs f) = grind (arith, all_reading s ms, union_reading ns, count_all s ms)
   reading s (extension id c b) =
       bind_result (read_child s StorageMissing c) _ _ _ _ _ (child_reading s StorageMissing c)
       (λ x h. grind (arith, h)) (λ e. inl)

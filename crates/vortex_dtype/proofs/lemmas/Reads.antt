@@ -10,13 +10,11 @@ use Rattle.std.proofs.lemmas.List.Elements.{All-from_recursion, recursion_from_A
 use Rattle.std.proofs.lemmas.Option.{none-some, same_Some}
 use Rattle.dtype_base.specs.Nullability.{nullability_of}
 use Rattle.dtype_base.specs.declared.nullability.Nullability.{Nullability}
-use Rattle.dtype_base.specs.declared.nullability.Nullability.TheVariants.{NonNullable, Nullable}
 use Rattle.dtype_base.specs.declared.vortex_error.VortexError.{VortexError}
 use Rattle.dtype_base.specs.declared.vortex_error.MessageFault.{MessageFault}
 use Rattle.dtype_base.specs.declared.vortex_error.MessageFault.TheVariants.{ListElementMissing, FixedElementMissing, MapKeyMissing, MapValueMissing, StorageMissing}
-use Rattle.dtype_types.specs.nullability.Nullable.{nullability, set_null}
+use Rattle.dtype_types.specs.nullability.Nullable.{set_null}
 use Rattle.dtype_types.specs.parts.Lookups.{variant_tags}
-use Rattle.dtype_types.specs.parts.Unions.{MakesUnion}
 use Rattle.dtype_types.specs.tree.Tree as of
 use Rattle.dtype_types.specs.tree.Tree.{Tree, Fields, no_items, field, fields, Variants, item, variants, triples}
 use Rattle.dtype_types.specs.tree.Valid.{Valid, ValidItems}
@@ -24,7 +22,7 @@ use Rattle.dtype_types.proofs.lemmas.ValidLists.{variants_are, zipped_variants}
 use Rattle.dtype_messages.specs.Message.{Message, Child, Messages, messages, missing, null, primitive, decimal, list, fixed_size_list, map_of, struct, union, extension, absent, present, no_message, more}
 use Rattle.vortex_dtype.specs.Meaning.{Meaning, LawfulSession, Admits, AdmitsItems, keeps}
 use Rattle.vortex_dtype.specs.ReadInOrder.{or_empty, read}
-use Rattle.vortex_dtype.specs.Reads.{Reads, ReadsChild, ReadsAll, AreBytes, Fault, ChildFault, SomeFault, SomeTagFault, message_count}
+use Rattle.vortex_dtype.specs.Reads.{Reads, ReadsChild, ReadsAll, AreBytes, Fault, ChildFault, SomeFault, SomeTagFault}
 use Rattle.vortex_dtype.specs.Accepts.{Accepts}
 use Rattle.vortex_dtype.specs.Written.{is_nullable, written, written_names, written_items, written_variant_names, written_tags, Normal, NormalChild, NormalAll}
 use Rattle.vortex_dtype.specs.IsMessage.{IsMessage, IsChild, AreMessages}
@@ -52,18 +50,10 @@ mutual
   fault_none s (decimal p c x) k t f h = grind (arith, ints, h.0, f)
   fault_none s (list c x) k t f h = child_none s ListElementMissing c k h.0 f h.1
   fault_none s (fixed_size_list c n x) k t f h = child_none s FixedElementMissing c k h.0 f h.1
-  fault_none s (map_of c v o x) k t f h =
-      ⊎_elim (λ a. child_none s MapKeyMissing c k h.0 a h.2)
-      (⊎_elim (λ a. child_none s MapValueMissing v k h.1 a h.3)
-      (λ a. let clash : Nullable ≡ NonNullable = sym (ap nullability (child_once s c h.0 a.1 h.2 a.2) ∙ a.3) ∙ h.4 in cc)) f
+  fault_none s (map_of c v o x) k t f h = grind (arith, f, h, child_none s MapKeyMissing c k h.0, child_none s MapValueMissing v k h.1, child_once s c h.0)
   fault_none s (struct ns ms x) k t f h = ⊎_elim (λ a. some_none s ms k h.0 a h.1) (λ a. a.1 (h.2 ∙ count_all s ms h.0 h.1)) f
-  fault_none s (union ns ms gs x) k t f h =
-      ⊎_elim (λ a. some_none s ms k h.0 a h.2)
-      (⊎_elim (λ a. no_tag_fault gs h.1 h.3 a.1)
-      (λ a. let tags : h.1 ≡ a.0 = same_tags h.1 a.0 (sym (bytes_are gs h.1 h.3).0 ∙ a.1) in
-      let made : MakesUnion ns (message_count ms) a.0 = rw (← tags, ← count_all s ms h.0 h.2) h.4 in grind (arith, made, a.2))) f
-  fault_none s (extension id c b) k t f h =
-      ⊎_elim (λ a. child_none s StorageMissing c k h.0 a h.2) (λ a. none-some h.1 (sym a.3 ∙ ap (keeps s id (or_empty b)) (child_once s c a.1 h.0 a.2 h.2) ∙ h.3)) f
+  fault_none s (union ns ms gs x) k t f h = grind (arith, f, h, some_none s ms k h.0, no_tag_fault gs h.1, same_tags h.1, bytes_are gs h.1 h.3, count_all s ms h.0 h.2)
+  fault_none s (extension id c b) k t f h = grind (arith, f, h, child_none s StorageMissing c k h.0, child_once s c)
   fault_none s _ k t f h = f
 
   child_none : (s : Meaning) (j : MessageFault) (c : Child) (k : VortexError) (t : Tree) → ChildFault s j c k → ReadsChild s c t → ⊥
@@ -121,16 +111,9 @@ mutual
   written_normal s (decimal p k f) n t h = rw (h.1, is_nullable-of f) (λ e. e, λ e. e)
   written_normal s (list c f) n t h = rw (h.2, is_nullable-of f) (one_part _ (λ d. list d f) (present (written h.0)) n (λ d. child_normal s c d h.0 h.1))
   written_normal s (fixed_size_list c k f) n t h = rw (h.2, is_nullable-of f) (one_part _ (λ d. fixed_size_list d k f) (present (written h.0)) n (λ d. child_normal s c d h.0 h.1))
-  written_normal s (map_of c v o f) n t h =
-      rw (h.5, is_nullable-of f) (two_parts _ _ (λ d w. map_of d w o f) (present (written h.0)) (present (written h.1)) n
-      (λ d. child_normal s c d h.0 h.2) (λ d. child_normal s v d h.1 h.3))
-  written_normal s (struct ns ms f) n t h =
-      let w = field_messages ns h.0 h.2 in
-      rw (h.3, is_nullable-of f, w.0, w.1) (one_part _ (λ qs. struct ns qs f) (messages (map written h.0)) n (λ qs. all_normal s ms qs h.0 h.1))
-  written_normal s (union ns ms gs f) n t h =
-      let w = variant_messages ns h.0 h.1 h.4.0.0 h.4.0.1 in
-      rw (h.5, is_nullable-of f, w.0, w.1, w.2, ← (bytes_are gs h.1 h.3).0)
-      (one_part _ (λ qs. union ns qs gs f) (messages (map written h.0)) n (λ qs. all_normal s ms qs h.0 h.2))
+  written_normal s (map_of c v o f) n t h = grind (arith, h, is_nullable-of f, child_normal s c, child_normal s v)
+  written_normal s (struct ns ms f) n t h = grind (arith, h, is_nullable-of f, field_messages ns h.0 h.2, all_normal s ms)
+  written_normal s (union ns ms gs f) n t h = grind (arith, h, is_nullable-of f, variant_messages ns h.0 h.1, all_normal s ms, bytes_are gs h.1 h.3)
   written_normal s (extension id c b) n t h =
       let storage = λ (d : Child). child_normal s c d h.0 h.2 in
       rw h.4 (
@@ -170,17 +153,10 @@ mutual
   reads_sound s l (decimal p k f) t i h = subst (Sound s) (sym h.1) (h.0, tt)
   reads_sound s l (list c f) t i h = subst (Sound s) (sym h.2) (child_sound s l c h.0 i h.1)
   reads_sound s l (fixed_size_list c k f) t i h = let a = child_sound s l c h.0 i.1 h.1 in subst (Sound s) (sym h.2) ((i.0, a.0), a.1)
-  reads_sound s l (map_of c v o f) t i h =
-      let a = child_sound s l c h.0 i.0 h.2 in let b = child_sound s l v h.1 i.1 h.3 in
-      subst (Sound s) (sym h.5) ((h.4, a.0, b.0), (a.1, b.1))
+  reads_sound s l (map_of c v o f) t i h = grind (arith, h, i, child_sound s l c, child_sound s l v)
   reads_sound s l (struct ns ms f) t i h = subst (Sound s) (sym h.3) (sound_fields s ns h.0 (all_sound s l ms h.0 i h.1))
-  reads_sound s l (union ns ms gs f) t i h =
-      let a = sound_variants s ns h.0 h.1 (all_sound s l ms h.0 i.0 h.2) in
-      subst (Sound s) (sym h.5) ((zipped_variants ns h.0 h.1 h.4 (All-from_recursion (λ k. k < 256) h.1 (bytes_are gs h.1 h.3).1), a.0), a.1)
-  reads_sound s l (extension id c b) t i h =
-      let a = child_sound s l c h.0 i.0 h.2 in
-      let again = keeps_again s l id (or_empty b) h.1 h.0 i.1 a.0 h.3 in
-      subst (Sound s) (sym h.4) ((again.0, a.0), (again.1, a.1))
+  reads_sound s l (union ns ms gs f) t i h = grind (arith, h, i, sound_variants s ns h.0 h.1, all_sound s l ms h.0, zipped_variants ns h.0 h.1, All-from_recursion (λ k. k < 256) h.1, bytes_are gs h.1 h.3)
+  reads_sound s l (extension id c b) t i h = grind (arith, h, i, child_sound s l c h.0, keeps_again s l id (or_empty b) h.1 h.0)
   reads_sound s l _ t i h = subst (Sound s) (sym h) (tt, tt)
 
   child_sound : (s : Meaning) → LawfulSession s → (c : Child) (t : Tree) → IsChild c → ReadsChild s c t → Sound s t
@@ -242,14 +218,10 @@ written_accepted s t v a = record { reads = written_reads s t v a; valid = v; ad
 
 -- accepted types are equal where their normal forms are, and a normal form is its own
 pub same_normal : (s : Meaning) (m n : Message) (t u : Tree) (a b : Message) → Accepts s m t → Accepts s n u → Normal s m a → Normal s n b → (t ≡ u → a ≡ b) × (a ≡ b → t ≡ u)
-same_normal s m n t u a b h k p q =
-    let ea = (written_normal s m a t h.reads).0 p in let eb = (written_normal s n b u k.reads).0 q in
-    (λ e. ea ∙ ap written e ∙ sym eb, λ e. written_is t u (sym ea ∙ e ∙ eb))
+same_normal s m n t u a b h k p q = grind (arith, written_normal s m a t h.reads, written_normal s n b u k.reads, p, q, written_is t u)
 
 pub normal_again : (s : Meaning) (m n : Message) (t : Tree) → Accepts s m t → Normal s m n → Normal s n n
-normal_again s m n t h k =
-    let e = (written_normal s m n t h.reads).0 k in
-    (written_normal s n n t (subst (λ (x : Message). Reads s x t) (sym e) (written_reads s t h.valid h.admitted))).1 e
+normal_again s m n t h k = grind (arith, k, h, written_normal s m n t h.reads, written_normal s n n t, written_reads s t)
 
 -- equal messages read as equal types
 pub read_alike : (s : Meaning) (m n : Message) (t u : Tree) → m ≡ n → Accepts s m t → Accepts s n u → t ≡ u
@@ -260,7 +232,4 @@ copy_accepted s m n t e a = subst (λ (x : Message). Accepts s x t) e a
 
 -- what a session admits it admits with another outer nullability, and reads back
 pub other_nullability : (s : Meaning) → LawfulSession s → (t u : Tree) (n : Nullability) → Valid t → Admits s t → set_null t n ≡ Some u → Valid u × Admits s u × Accepts s (written u) u
-other_nullability s l t u n v a e =
-    let valid = set_valid t u n e v in
-    let admitted = (admits-set_null s l t u n v e).0 a in
-    (valid, admitted, written_accepted s u valid admitted)
+other_nullability s l t u n v a e = grind (arith, set_valid t u n e v, admits-set_null s l t u n v e, a, written_accepted s u)

@@ -2,15 +2,14 @@
 -- SPDX-FileCopyrightText: Copyright the Vortex contributors
 
 -- Laws of sessions: what is registered after a list of calls, what is kept, and what is admitted.
-use Rattle.std.specs.Prelude.{◌≡◌, ◌≢◌, ◌↔◌, ℕ, List, [], ◌∷◌, ◌++◌, Some, None, Bool, true, false, if◌then◌else◌, ◌||◌, bytes_eq, refl}
+use Rattle.std.specs.Prelude.{◌≡◌, ◌≢◌, ◌↔◌, ℕ, List, [], ◌∷◌, ◌++◌, Some, None, true, false, ◌||◌, refl}
 use Rattle.std.specs.List.{list_any}
 use Rattle.std.proofs.Common.{sym, ap, ◌∙◌, subst, arith}
-use Rattle.std.proofs.lemmas.Bool.{false_from_ne_true}
 use Rattle.std.proofs.lemmas.Slice.Eq.{bytes_eq-Decides}
 use Rattle.dtype_base.specs.declared.nullability.Nullability.{Nullability}
 use Rattle.dtype_base.specs.declared.vortex_error.VortexError.{VortexError}
 use Rattle.dtype_types.specs.tree.Kinds.{struct_fields}
-use Rattle.dtype_types.specs.tree.Tree.{Tree, fields, pairs, no_items, item, null, list, fixed_size_list, map_of, struct, union, extension, Holder, Items}
+use Rattle.dtype_types.specs.tree.Tree.{Tree, fields, no_items, item, null, list, fixed_size_list, map_of, struct, union, extension, Holder, Items}
 use Rattle.dtype_types.specs.tree.TreeOf.{tree, extension_tree, extension_metadata}
 use Rattle.dtype_types.specs.tree.Valid.{Valid}
 use Rattle.dtype_types.proofs.lemmas.TreeLaws.{tree_extension}
@@ -28,14 +27,11 @@ use Rattle.vortex_dtype.specs.Calls.{Call, register, allow, after, LeavesAlone, 
 -- a registration gives its id the plugin's meaning, and changes nothing for another id
 pub registered_register_in : (m n : Meaning) (i : List ℕ) (r : Rewrites) → n ≡ register_in i r m → n.registered i ≡ Some r
 unfolding register_in
-registered_register_in m n i r e =
-    ap (λ (s : Meaning). s.registered i) e ∙ ap (λ (b : Bool). if b then Some r else m.registered i) ((bytes_eq-Decides i i).1 refl)
+registered_register_in m n i r e = grind (arith, e, (bytes_eq-Decides i i).1 refl)
 
 pub others_register_in : (m n : Meaning) (i id : List ℕ) (r : Rewrites) → n ≡ register_in i r m → i ≢ id → n.registered id ≡ m.registered id
 unfolding register_in
-others_register_in m n i id r e other =
-    ap (λ (s : Meaning). s.registered id) e
-    ∙ ap (λ (b : Bool). if b then Some r else m.registered id) (false_from_ne_true (bytes_eq i id) (λ e. other ((bytes_eq-Decides i id).0 e)))
+others_register_in m n i id r e other = grind (arith, e, other, bytes_eq-Decides i id)
 
 -- calls that leave an id alone leave what is registered under it
 pub after-left_alone : (calls : List Call) (m : Meaning) (id : List ℕ) → LeavesAlone id calls → (after calls m).registered id ≡ m.registered id
@@ -79,9 +75,7 @@ keeps_outer m h id b s t n bs v e =
 -- a session admits a type with another outer nullability exactly where it admits the type
 pub admits-set_null : (m : Meaning) → LawfulSession m → (t u : Tree) (n : Nullability) → Valid t → set_null t n ≡ Some u → Admits m t ↔ Admits m u
 admits-set_null m h null u n v e = grind (arith, e)
-admits-set_null m h (extension id b s) u n v e =
-    let outer : (x : Tree) → set_null s n ≡ Some x → keeps m id b x ≡ keeps m id b s = λ x is. keeps_outer m h id b s x n v.0 v.1 is in
-    grind (arith, outer, λ (x : Tree). admits-set_null m h s x n v.1, e)
+admits-set_null m h (extension id b s) u n v e = grind (arith, λ (x : Tree). keeps_outer m h id b s x n v.0 v.1, λ (x : Tree). admits-set_null m h s x n v.1, e)
 admits-set_null m h _ u n v e = grind (arith, e)
 
 -- a session without plugins that keeps unknown ids keeps all metadata and admits every type
@@ -110,8 +104,7 @@ admits_joined m (p ∷ ps) qs a b = (a.0, admits_joined m ps qs a.1 b)
 
 -- a struct with more fields after those of an admitted one
 pub admits_more : (m : Meaning) (t : Tree) (ps qs : List (List ℕ × Tree)) (n k : Nullability) → struct_fields t ≡ Some ps → Admits m t → Admits m (struct (fields qs) k) → Admits m (struct (fields (ps ++ qs)) n)
-admits_more m (struct fs k') ps qs n k e a b =
-    let same : pairs fs ≡ ps = cc in admits_joined m ps qs (subst (AdmitsItems m) (sym (fields_of_pairs fs) ∙ ap fields same) a) b
+admits_more m (struct fs k') ps qs n k e a b = grind (arith, e, a, b, admits_joined m ps qs, fields_of_pairs fs)
 admits_more m t ps qs n k e a b = cc
 
 pub admits_one_more : (m : Meaning) (t u : Tree) (ps : List (List ℕ × Tree)) (name : List ℕ) (n : Nullability) → struct_fields t ≡ Some ps → Admits m t → Admits m u → Admits m (struct (fields (ps ++ (name, u) ∷ [])) n)

@@ -2,12 +2,11 @@
 -- SPDX-FileCopyrightText: Copyright the Vortex contributors
 
 -- Types of which the messages are equal are equal.
-use Rattle.std.proofs.Common.{◌≡◌, refl, sym, ap, ◌∙◌}
+use Rattle.std.proofs.Common.{arith, ◌≡◌, refl, sym, ap, ◌∙◌}
 use Rattle.dtype_base.specs.declared.nullability.Nullability.{Nullability}
 use Rattle.dtype_base.specs.declared.nullability.Nullability.TheVariants.{NonNullable, Nullable}
 use Rattle.dtype_base.specs.Nullability.{nullability_of}
 use Rattle.dtype_types.specs.tree.Tree.{Tree, Fields, no_items, Variants, item, null, bool, primitive, decimal, utf8, binary, list, fixed_size_list, map_of, struct, union, variant, extension}
-use Rattle.vortex_dtype.specs.Reads.{decimal_with}
 use Rattle.vortex_dtype.specs.Written.{is_nullable, written, written_names, written_items, written_variant_names, written_tags}
 use Rattle.vortex_dtype.proofs.lemmas.InOrder.{ptype_at-number}
 
@@ -23,9 +22,7 @@ mutual
   written_is null null e = refl
   written_is (bool m) (bool n) e = cc (flag_once m n (cc))
   written_is (primitive p m) (primitive q n) e = cc (ptype_at-number p, ptype_at-number q, flag_once m n (cc))
-  written_is (decimal c m) (decimal d n) e =
-      let p : c.precision ≡ d.precision = cc in let k : c.scale ≡ d.scale = cc in
-      let same : c ≡ d = ap (λ x. decimal_with x c.scale) p ∙ ap (decimal_with d.precision) k in cc (flag_once m n (cc))
+  written_is (decimal c m) (decimal d n) e = grind (arith, e, flag_once m n)
   written_is (utf8 m) (utf8 n) e = cc (flag_once m n (cc))
   written_is (binary m) (binary n) e = cc (flag_once m n (cc))
   written_is (list x m) (list y n) e = cc (written_is x y (cc), flag_once m n (cc))

@@ -145,8 +145,10 @@ impl DType {
     /// library is called.
     ///
     /// # Errors
-    /// The library's errors 12, 14 and 15, if there is no variant, if there are more than 256, or if a name repeats;
-    /// [`Error::TooDeep`]; [`Error::OutOfMemory`].
+    /// - The library's error 12 if there is no variant, 14 if there are more than 256 variants, and 15 if two variants have
+    ///   the same name
+    /// - [`Error::TooDeep`] if a variant's type is 128 levels deep
+    /// - [`Error::OutOfMemory`]
     pub fn union<N: AsRef<str>>(
         variants: impl IntoIterator<Item = (N, DType)>,
         nullability: Nullability,
@@ -160,8 +162,10 @@ impl DType {
     /// called.
     ///
     /// # Errors
-    /// The library's errors 12, 13 and 15, if there is no variant, or if a tag or a name repeats; [`Error::TooDeep`];
-    /// [`Error::OutOfMemory`].
+    /// - The library's error 12 if there is no variant, 13 if two variants have the same tag, and 15 if two variants have
+    ///   the same name
+    /// - [`Error::TooDeep`] if a variant's type is 128 levels deep
+    /// - [`Error::OutOfMemory`]
     pub fn union_with_tags<N: AsRef<str>>(
         variants: impl IntoIterator<Item = (N, u8, DType)>,
         nullability: Nullability,

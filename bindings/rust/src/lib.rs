@@ -5,9 +5,17 @@
 //!
 //! The library is written in Rattle, which is Rust with contracts that a checker proves. In this package, a type, a
 //! path or a set of paths is a pointer to an object that the library made, and a method calls an exported function of
-//! the library. Most methods that `vortex-array` has too have the same names here. It is proved what the exported
-//! functions return, except which value a text stands for: that `parse` and `to_source` read and write the right text is
-//! only tested. The Rust code between a method and its function is thin, and it is tested and not proved.
+//! the library. Most methods that also exist in `vortex-array` have the same name in both.
+//!
+//! Each exported function has a contract, and the contracts are proved. They specify which object a call makes or which
+//! value it writes, and for most functions also which error is returned in which case. They don't specify the following,
+//! so it is only tested:
+//!
+//! - Which value a text stands for: that `parse`, `to_source` and [`answer`] read and write the right text, and that each
+//!   error has the right text.
+//! - What [`FieldMask::starting_field`] returns.
+//!
+//! The Rust code between a method and its function is thin, and it is tested and not proved.
 //!
 //! ```
 //! use vortex_logical_types::{DType, FieldPath, FieldPathSet};

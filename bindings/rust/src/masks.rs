@@ -52,12 +52,12 @@ impl FieldMask {
         made(ffi::mask_all).map(FieldMask::of)
     }
 
-    /// Returns the mask that a path matches if it begins with this one.
+    /// Returns the mask that selects `path` and every path that begins with `path`.
     pub fn prefix(path: &FieldPath) -> FieldMask {
         or_abort(FieldMask::try_prefix(path))
     }
 
-    /// Returns the mask that a path matches if it begins with this one, or [`Error::OutOfMemory`].
+    /// Returns the mask that selects `path` and every path that begins with `path`, or [`Error::OutOfMemory`].
     pub fn try_prefix(path: &FieldPath) -> Result<FieldMask, Error> {
         made(|out| ffi::mask_prefix(&path.slot, out)).map(FieldMask::of)
     }
@@ -92,7 +92,8 @@ impl FieldMask {
     }
 
     /// Returns the mask of what is selected below the first step of the mask's path. For example, for the prefix `a.b` it
-    /// is the prefix `b`, and for the prefix `a` it is the mask that all paths match. For that mask it is the same mask.
+    /// is the prefix `b`, and for the prefix `a` it is [`FieldMask::all`]. For `FieldMask::all` and for the prefix of the
+    /// root, the call returns `FieldMask::all` too.
     ///
     /// # Errors
     /// The library's error 20 for the mask of exactly the root, and [`Error::OutOfMemory`].
@@ -103,7 +104,7 @@ impl FieldMask {
     /// Returns the first step of the mask's path, or `None` if that path is the root.
     ///
     /// # Errors
-    /// The library's error 21 for the mask that all paths match, and [`Error::OutOfMemory`].
+    /// The library's error 21 for [`FieldMask::all`], which has no path, and [`Error::OutOfMemory`].
     pub fn starting_field(&self) -> Result<Option<Field>, Error> {
         calls::step_found(|buffer, length| ffi::mask_starting_field(&self.slot, buffer, length))
     }

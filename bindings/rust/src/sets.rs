@@ -53,8 +53,8 @@ impl FieldPathSet {
         made(ffi::set_new).map(|slot| FieldPathSet { slot })
     }
 
-    /// Returns the set of these paths, or [`Error::OutOfMemory`]. All items are taken from the iterator before the library
-    /// is called.
+    /// Returns the set of these paths, or [`Error::OutOfMemory`]. All items are taken from the iterator before the first
+    /// path is inserted.
     pub fn try_from_iter(paths: impl IntoIterator<Item = impl Borrow<FieldPath>>) -> Result<FieldPathSet, Error> {
         let mut set = FieldPathSet::try_new()?;
         set.try_extend(paths)?;
@@ -201,7 +201,7 @@ impl Clone for FieldPathSet {
     }
 }
 
-/// All items are taken from the iterator before the library is called.
+/// All items are taken from the iterator before the first path is inserted.
 impl<P: Borrow<FieldPath>> FromIterator<P> for FieldPathSet {
     fn from_iter<I: IntoIterator<Item = P>>(paths: I) -> FieldPathSet {
         or_abort(FieldPathSet::try_from_iter(paths))

@@ -124,8 +124,8 @@ typedef struct {
     uint8_t nullable;
     /* 1 if the keys of a map are declared to be sorted, and otherwise 0. */
     uint8_t keys_sorted;
-    /* 1 if the element type of a list, the key type of a map or the storage type of an extension follows, and
-     * otherwise 0. */
+    /* 1 if the element type of a list or of a fixed-size list, the key type of a map or the storage type of an extension
+     * follows, and otherwise 0. */
     uint8_t has_first;
     /* 1 if the value type of a map or the text of the metadata of an extension follows, and otherwise 0. */
     uint8_t has_second;

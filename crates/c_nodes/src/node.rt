@@ -20,8 +20,8 @@ pub struct Node {
     pub nullable: u8,
     /// 1 if the keys of a map are declared to be sorted, and otherwise 0.
     pub keys_sorted: u8,
-    /// 1 if the element type of a list, the key type of a map or the storage type of an extension follows, and
-    /// otherwise 0.
+    /// 1 if the element type of a list or of a fixed-size list, the key type of a map or the storage type of an extension
+    /// follows, and otherwise 0.
     pub has_first: u8,
     /// 1 if the value type of a map or the text of the metadata of an extension follows, and otherwise 0.
     pub has_second: u8,

@@ -179,9 +179,10 @@ pub fn projections_are_valid()
 /// - `onto`: if `t` is valid, then each value of `u` is `restricted t w v` for some value `v` of `t`.
 /// - `found`: let `p` be a path that satisfies `w` and exists in `t`, and let `q` be `p` or a path that begins with
 ///   `p`. Then the values that lie along `q` in `v` are the values that lie along `q` in `restricted t w v`.
-/// - `beyond`: `found` is false without the premise that `p` exists in `t`. For example, a path that steps into an
-///   extension type exists in no type. But each value of an extension type is a value of its storage type, so a value
-///   can lie along such a path in `v` without lying along it in `restricted t w v`.
+/// - `beyond`: `found` is false without the premise that `p` exists in `t`. For example, if `a` is an extension over a
+///   struct with the field `b`, then `a.b` doesn't exist in `t`, because paths don't step into extensions. But a value of an
+///   extension is a value of its storage type, so a value can lie along `a.b` in `v` without lying along it in
+///   `restricted t w v`.
 ///
 /// With this law a caller knows that a program that reads only the projection finds the same values along the paths of
 /// its query as in the whole data.

@@ -137,10 +137,12 @@ pub(crate) fn boxed_deserialize(
     plugin.deserialize(alloc, metadata, storage)
 }
 
-/// Each plugin `plugin` is lawful (`Lawful`). For valid storage types this means that if the plugin reads metadata that
-/// it has written back, it writes the same metadata back, and that the metadata that it writes back doesn't depend on
-/// the outer nullability of the storage type. For example, a plugin that writes `ab` for `AB` writes `ab` for `ab`. A
-/// caller calls this law if a theorem requires lawful plugins.
+/// Each plugin `plugin` is lawful (`Lawful`). For a valid storage type this means two things:
+/// - If `deserialize` returns the metadata `c` for some metadata, it returns `c` for `c`. For example, a plugin that returns
+///   `ab` for `AB` returns `ab` for `ab`.
+/// - What it returns doesn't depend on the outer nullability of the storage type.
+///
+/// A caller calls this law if a theorem requires lawful plugins.
 ///
 /// About [`ExtDTypePlugin`].
 pub fn plugin_laws(plugin: &dyn ExtDTypePlugin)

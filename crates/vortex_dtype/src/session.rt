@@ -198,11 +198,14 @@ impl fmt::Debug for DTypeSession {
     }
 }
 
-/// In each session `session`, all plugins are lawful (`LawfulSession`). For valid storage types this means that if a
-/// plugin reads metadata that it has written back, it writes the same metadata back, and that the metadata that it
-/// writes back doesn't depend on the outer nullability of the storage type. For example, if a plugin of the session
-/// writes `ab` for `AB`, it writes `ab` for `ab`. A caller calls this law if a theorem requires a lawful session. For
-/// example, `laws::messages_are_exact` requires one to conclude that a type that is read from a message is admitted.
+/// In each session `session`, every registered plugin is lawful (`LawfulSession`). For a valid storage type this means two
+/// things:
+/// - If a plugin returns the metadata `c` for some metadata, it returns `c` for `c`. For example, a plugin that returns `ab`
+///   for `AB` returns `ab` for `ab`.
+/// - What a plugin returns doesn't depend on the outer nullability of the storage type.
+///
+/// A caller calls this law if a theorem requires a lawful session. For example, `laws::messages_are_exact` requires one to
+/// conclude that a type that is read from a message is admitted.
 ///
 /// About [`DTypeSession::deserialize`].
 pub fn session_laws(session: &DTypeSession)

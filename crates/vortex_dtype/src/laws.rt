@@ -102,7 +102,6 @@ pub fn unknown_once_allowed()
 /// that a type is written and read again.
 ///
 /// About [`ExtDTypePlugin`].
-#[tactic(auto, using(crate::proofs::lemmas::Sessions::keeps_again))]
 pub fn kept_again()
     ensures { (s : Meaning) → LawfulSession s → (id b c : List ℕ) (t : Tree) → Bytes b → Valid t
         → keeps s id b t ≡ Some c → Bytes c × (keeps s id c t ≡ Some c) }
@@ -166,7 +165,7 @@ pub fn admits_set_null()
 /// a message can conclude what `Reads` and `Fault` state about it.
 ///
 /// About [`DTypeProto::from_proto`].
-#[tactic(auto, using(crate::proofs::lemmas::Reading::reading, crate::proofs::lemmas::Reads::refused_faulty))]
+#[tactic(auto, using(crate::proofs::lemmas::Reading::reading))]
 pub fn read_is_what_reads()
     ensures given { (s : Meaning) (m : Message) (t : Tree) → (read s m ≡ Ok t) ↔ Reads s m t }
     ensures refused { (s : Meaning) (m : Message) (e : VortexError)

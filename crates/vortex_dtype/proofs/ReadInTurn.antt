@@ -2,14 +2,14 @@
 -- SPDX-FileCopyrightText: Copyright the Vortex contributors
 
 -- Reading the types of a struct or a union one at a time, and from a result of reading to the relations of `Reads`.
-use Rattle.std.proofs.Common.{◌≡◌, ◌≢◌, ◌⊎◌, ⊎_elim, inl, inr, ℕ, ◌+◌, ◌<◌, ◌≤◌, ℤ, pos, List, [], ◌∷◌, ◌++◌, length, map, take, All, zero, suc, get_or, Result, Ok, Err, IfOk, MatchResult, refl, sym, ap, subst, arith}
+use Rattle.std.proofs.Common.{◌≡◌, ◌≢◌, ◌⊎◌, ℕ, ◌+◌, ◌<◌, ◌≤◌, ℤ, pos, List, [], ◌∷◌, ◌++◌, length, map, take, All, zero, suc, get_or, Result, Ok, Err, IfOk, MatchResult, refl, sym, ap, subst, arith}
 use Rattle.std.specs.Int.{w32}
 use Rattle.std.specs.List.{filter_map, AllByRecursion}
 use Rattle.std.specs.Prelude.{FitsSigned}
 use Rattle.std.proofs.lemmas.Grind.{common_steps}
 use Rattle.std.proofs.lemmas.Int.{ints}
 use Rattle.std.proofs.lemmas.List.Elements.{All-from_recursion, recursion_from_All, All-map, All-more}
-use Rattle.std.proofs.lemmas.Result.{MatchResult-at_ok, MatchResult-weaker}
+use Rattle.std.proofs.lemmas.Result.{MatchResult-at_ok}
 use Rattle.std.proofs.lemmas.List.{take_all}
 use Rattle.dtype_base.specs.declared.vortex_error.VortexError.{VortexError}
 use Rattle.dtype_base.specs.declared.vortex_error.VortexError.TheVariants.{OutOfMemory, Message as Faulty}
@@ -44,10 +44,7 @@ pub record AreRead (s : Meaning) (ds : List DType) (vs : List Logical) : Type 0 
 
 pub read_more : (s : Meaning) (ds : List DType) (i : ℕ) (d : DType) (vs longer : List Logical) (v : Logical) → AreRead s (take i ds) vs → i < length ds → d ≡ get_or ds i d
     → read s (message d) ≡ Ok (tree v) → IsMessage (message d) → longer ≡ vs ++ v ∷ [] → AreRead s (take (i + 1) ds) longer
-read_more s ds i d vs longer v so_far less at r m pushed = record {
-  types = grind (arith, common_steps, so_far.types, at, r, pushed);
-  messages = All-more (λ d. IsMessage (message d)) ds i d less so_far.messages (subst (λ d. IsMessage (message d)) at m);
-}
+read_more s ds i d vs longer v so_far less at r m pushed = grind (arith, common_steps, so_far, at, r, m, pushed, All-more (λ d. IsMessage (message d)) ds i d less)
 
 all_read : (s : Meaning) (ds : List DType) (vs : List Logical) → map (λ d. read s (message d)) ds ≡ map (λ v. Ok (tree v)) vs → AllByRecursion (λ d. IsMessage (message d)) ds
     → (read_all s (messages (map message ds)) ≡ Ok (map tree vs)) × AreMessages (messages (map message ds))
@@ -59,7 +56,7 @@ all_read s _ _ e h = cc
 -- after the last, all messages are read
 pub ends : (s : Meaning) (ds : List DType) (i : ℕ) (vs : List Logical) → AreRead s (take i ds) vs → length ds ≤ i
     → (read_all s (messages (map message ds)) ≡ Ok (map tree vs)) × AreMessages (messages (map message ds))
-ends s ds i vs so_far over = let all = rw (take_all i ds over) at so_far in all_read _ _ _ all.types (recursion_from_All (λ d. IsMessage (message d)) ds all.messages)
+ends s ds i vs so_far over = grind (arith, so_far, take_all i ds over, all_read s ds vs, recursion_from_All (λ d. IsMessage (message d)) ds)
 
 -- an error of one message, after those that read as types, is that of all
 one_fails : (s : Meaning) (ds : List DType) (vs : List Logical) (i : ℕ) (d : DType) (e : VortexError) → map (λ d. read s (message d)) (take i ds) ≡ map (λ v. Ok (tree v)) vs
@@ -101,17 +98,12 @@ tags_fit gs tags e =
 -- ---- from a result to the relations
 
 pub gives_in_order : (s : Meaning) (m : Message) (r : Result Logical VortexError) → Gives tree r (read s m) → MatchResult r (λ t. read s m ≡ Ok (tree t)) (λ e. (e ≡ OutOfMemory) ⊎ (read s m ≡ Err e))
-gives_in_order s m (Ok d) g = g
-gives_in_order s m (Err OutOfMemory) g = inl refl
-gives_in_order s m (Err e) g = inr g
+gives_in_order s m r g = grind (arith, g)
 
 pub gives_accepts : (s : Meaning) → LawfulSession s → (m : Message) (r : Result Logical VortexError) → IfOk r (λ _. IsMessage m) → Gives tree r (read s m)
     → MatchResult r (λ t. Accepts s m (tree t)) (λ e. (e ≡ OutOfMemory) ⊎ Fault s m e)
-gives_accepts s l m (Ok d) i g = reads_accepted s m (tree d) l i (read_reads s m (tree d) g)
-gives_accepts s l m (Err e) i g = ⊎_elim inl (λ is. inr (read_fault s m e is)) (gives_in_order s m (Err e) g)
+gives_accepts s l m r i g = grind (arith, i, g, reads_accepted s m, read_reads s m, read_fault s m, l)
 
 -- the message of an admitted type reads as that type
 pub gives_back : (s : Meaning) (m : Message) (r : Result Logical VortexError) → Gives tree r (read s m) → (t : Tree) → Valid t → Admits s t → m ≡ written t → MatchResult r (λ u. tree u ≡ t) (λ e. e ≡ OutOfMemory)
-gives_back s m r g t v a e =
-    let back = written_read s m t v a e in
-    MatchResult-weaker r (gives_in_order s m r g) (λ d is. cc) (λ x. ⊎_elim (λ none. none) (λ is. cc))
+gives_back s m r g t v a e = grind (arith, g, written_read s m t v a e)

@@ -2,7 +2,7 @@
 -- SPDX-FileCopyrightText: Copyright the Vortex contributors
 
 -- The ids of a session's plugins, as the map of plugins has them and in order.
-use Rattle.std.proofs.Common.{◌≡◌, ◌⊎◌, ⊎_elim, inl, inr, ℕ, zero, suc, ◌+◌, ◌<◌, List, [], ◌∷◌, length, map, IsSome, Bool, true, false, get_or, refl, sym, ap, ◌∙◌, subst, arith}
+use Rattle.std.proofs.Common.{◌≡◌, ◌⊎◌, ℕ, suc, ◌+◌, ◌<◌, List, [], ◌∷◌, length, map, IsSome, Bool, true, false, get_or, refl, sym, subst, arith}
 use Rattle.std.specs.Prelude.{Contains, bytes_eq, option_map, slice_index_or, string_bytes}
 use Rattle.std.specs.Borrow.{Bor}
 use Rattle.std.specs.Cmp.Lexicographic.{slice_cmp, nat_list_cmp_total}
@@ -12,7 +12,7 @@ use Rattle.std.specs.List.Sorted.{IsPermutation, IsSorted, IsStrictlySortedBy}
 use Rattle.std.specs.Map.{keys_of, lookup}
 use Rattle.std.specs.Ordering.{is_eq, is_lt, nat_cmp, ordering_reverse}
 use Rattle.std.specs.declared.cmp.Ordering.{Ordering}
-use Rattle.std.specs.declared.cmp.Ordering.TheVariants.{Less, Equal, Greater}
+use Rattle.std.specs.declared.cmp.Ordering.TheVariants.{Less}
 use Rattle.std.specs.String.{string_eq}
 use Rattle.std.specs.declared.alloc.Global.{Global}
 use Rattle.std.specs.declared.dyn_box.DynBox.{DynBox}
@@ -29,8 +29,7 @@ use Rattle.vortex_dtype.specs.declared.session.DTypeSession.{DTypeSession}
 -- ---- an id is a key exactly where a plugin is found under it
 
 at_place : {X : Type 0} (x y : X) (xs : List X) (k : ℕ) → k < length (x ∷ xs) → slice_index_or (x ∷ xs) k y ≡ y → (x ≡ y) ⊎ Contains xs y
-at_place x y xs zero less is = inl is
-at_place x y xs (suc k) less is = inr (k, omega (arith, less), is)
+at_place x y xs k less is = grind (arith, less, is)
 
 module _ {B Y : Type 0} (r : B → Rewrites) (id : List ℕ) where
   abbrev found : List (String Y × B) → Type 0
@@ -40,14 +39,11 @@ module _ {B Y : Type 0} (r : B → Rewrites) (id : List ℕ) where
   ids_of es = map string_bytes (keys_of es)
 
   found_here : (e : String Y × B) (es : List (String Y × B)) (b : Bool) → bytes_eq id (string_bytes e.0) ≡ b → (b ≡ true) ⊎ found es → found (e ∷ es)
-  found_here e es true is h = rw is refl
-  found_here e es false is h = rw is (⊎_elim (λ no. cc) (λ rest. rest) h)
+  found_here e es b is h = grind (arith, is, h)
 
   is_found : (es : List (String Y × B)) → Contains (ids_of es) id → found es
   is_found [] h = absurd (omega (arith, h.1))
-  is_found (e ∷ es) h =
-      let b = bytes_eq id (string_bytes e.0) in
-      found_here e es b refl (⊎_elim (λ same. inl ((bytes_eq-Decides id (string_bytes e.0)).1 (sym same))) (λ rest. inr (is_found es rest)) (at_place (string_bytes e.0) id (ids_of es) h.0 h.1 h.2))
+  is_found (e ∷ es) h = grind (arith, h, is_found es, bytes_eq-Decides id (string_bytes e.0), at_place (string_bytes e.0) id (ids_of es))
 
   key_here : (e : String Y × B) (es : List (String Y × B)) (b : Bool) → bytes_eq id (string_bytes e.0) ≡ b → found (e ∷ es) → (found es → Contains (ids_of es) id) → Contains (ids_of (e ∷ es)) id
   key_here e es true is h rest = (0, omega arith, sym ((bytes_eq-Decides id (string_bytes e.0)).0 is))
@@ -69,14 +65,10 @@ distinct_bytes [] h = tt
 distinct_bytes (k ∷ ks) h = (apart_bytes k ks h.0, distinct_bytes ks h.1)
 
 order_is : (o : Ordering) → is_lt o ≡ false → is_eq (ordering_reverse o) ≡ false → ordering_reverse o ≡ Less
-order_is Less a b = cc
-order_is Equal a b = cc
-order_is Greater a b = refl
+order_is o a b = grind (arith, a, b)
 
 less_next : (x y : List ℕ) → is_lt (slice_cmp nat_cmp y x) ≡ false → bytes_eq x y ≡ false → slice_cmp nat_cmp x y ≡ Less
-less_next x y a b =
-    let back = nat_list_cmp_total.antisymm x y in
-    back ∙ order_is (slice_cmp nat_cmp y x) a (ap is_eq (sym back) ∙ is_eq-slice_cmp x y ∙ b)
+less_next x y a b = grind (arith, a, b, nat_list_cmp_total.antisymm x y, is_eq-slice_cmp x y)
 
 no_text : Bor (List ℕ)
 no_text = record { ref_ptr = (0, 0); now = [] }
@@ -84,21 +76,12 @@ no_text = record { ref_ptr = (0, 0); now = [] }
 strictly : (xs : List (Bor (List ℕ))) → IsSorted (λ x y. slice_cmp nat_cmp x.now y.now) xs → IsDistinct bytes_eq (map (λ x. x.now) xs) → IsStrictlySortedBy (slice_cmp nat_cmp) (map (λ x. x.now) xs)
 strictly xs up apart =
     let texts = map (λ (x : Bor (List ℕ)). x.now) xs in
-    let many : length texts ≡ length xs = length-map xs (λ (x : Bor (List ℕ)). x.now) in
-    sorted_from_all_adjacent nat_list_cmp_total texts [] (λ k less.
-    let here : get_or texts k [] ≡ (get_or xs k no_text).now = get_or-map (λ (x : Bor (List ℕ)). x.now) xs k no_text [] (omega (arith, many, less)) in
-    let next : get_or texts (k + 1) [] ≡ (get_or xs (k + 1) no_text).now = get_or-map (λ (x : Bor (List ℕ)). x.now) xs (k + 1) no_text [] (omega (arith, many, less)) in
-    less_next (get_or texts k []) (get_or texts (k + 1) []) (rw (here, next) (up k no_text (omega arith) (omega (arith, many, less)))) (apart_from_distinct bytes_eq texts k (k + 1) [] apart (omega arith) less))
+    sorted_from_all_adjacent nat_list_cmp_total texts [] (λ k less. grind (arith, less, length-map xs (λ (x : Bor (List ℕ)). x.now), get_or-map (λ (x : Bor (List ℕ)). x.now) xs, less_next (get_or texts k []) (get_or texts (k + 1) []), up k no_text, apart_from_distinct bytes_eq texts k (k + 1) [] apart))
 
 -- ---- the ids of a session
 
 bytes_eq-flips : (x y : List ℕ) → bytes_eq x y ≡ bytes_eq y x
-bytes_eq-flips x y = sym (is_eq-slice_cmp x y) ∙ ap is_eq (nat_list_cmp_total.antisymm x y) ∙ reversed (slice_cmp nat_cmp y x) ∙ is_eq-slice_cmp y x
-  where
-    reversed : (o : Ordering) → is_eq (ordering_reverse o) ≡ is_eq o
-    reversed Less = refl
-    reversed Equal = refl
-    reversed Greater = refl
+bytes_eq-flips x y = grind (arith, bytes_eq-Decides)
 
 -- the keys of the map, sorted, are the ids of the session
 pub sorted_keys : {X : Type 0} {F : X → Type 0} (r : DynBox X Global F → Rewrites) (s : DTypeSession X F) (given sorted : List (Bor (List ℕ))) → map (λ x. x.now) given ≡ map string_bytes (keys s.plugins) → IsUnique string_eq s.plugins → IsPermutation given sorted → IsSorted (λ x y. slice_cmp nat_cmp x.now y.now) sorted → ListsIds (meaning r s) (map (λ x. x.now) sorted)

@@ -2,7 +2,7 @@
 -- SPDX-FileCopyrightText: Copyright the Vortex contributors
 
 -- How many names a lookup compares, as a number: of at most 1,000 names 11, since 1,000 is at most the tenth power of two.
-use Rattle.std.proofs.Common.{◌≡◌, ◌∙◌, ◌≤◌, ◌-◌, ◌^◌, ℕ, List, length, suc, zero, true, ltb, refl, ap, sym, arith}
+use Rattle.std.proofs.Common.{◌≡◌, ◌≤◌, ◌-◌, ◌^◌, ℕ, List, length, suc, zero, true, ltb, refl, arith}
 use Rattle.std.proofs.lemmas.Bool.{ltb-true}
 use Rattle.std.proofs.lemmas.List.{length-map}
 use Rattle.dtype_base.specs.Comparisons.{comparisons, longest_bucket}
@@ -19,14 +19,8 @@ compared_to : (fields : List (List ℕ × Tree)) (digits : ℕ) → length field
 compared_to fields digits few = few_compared (field_names fields) _ digits refl (omega (arith, few, length-map fields (λ p. p.0)))
 
 pub compared_within : (fields : List (List ℕ × Tree)) (most count limit : ℕ) → count ≡ counted fields → length fields ≤ most → ltb most (2 ^ (limit - 1)) ≡ true → count ≤ limit
-compared_within fields most count zero is few fits =
-    let less = ltb-true most 1 fits in
-    let none : longest_bucket (field_names fields) ≡ 0 = omega (arith, few, less, longest_within (field_names fields), length-map fields (λ p. p.0)) in
-    omega (arith, is, ap comparisons none)
-compared_within fields most count (suc digits) is few fits =
-    let back : suc digits - 1 ≡ digits = omega arith in
-    let less = ltb-true most (2 ^ digits) (ap (λ d. ltb most (2 ^ d)) (sym back) ∙ fits) in
-    omega (arith, is, compared_to fields digits (omega (arith, few, less)))
+compared_within fields most count zero is few fits = grind (arith, is, few, ltb-true most 1 fits, longest_within (field_names fields), length-map fields (λ p. p.0))
+compared_within fields most count (suc digits) is few fits = grind (arith, is, few, ltb-true most (2 ^ digits), fits, compared_to fields digits)
 
 -- the same for one field, and for each power of two up to the twentieth: the tactics find no number of digits by themselves
 pub compared_up_to : (fields : List (List ℕ × Tree)) →

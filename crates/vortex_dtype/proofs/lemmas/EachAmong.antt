@@ -3,7 +3,7 @@
 
 -- What `find`, `field` and `variant` say of a name by the word `IsAmong`, so that `all`, `any` and `find` over names prove.
 -- `each_among` names all of it in one line.
-use Rattle.std.proofs.Common.{◌≡◌, ◌∙◌, ℕ, List, Option, Some, None, true, refl, ap, sym}
+use Rattle.std.proofs.Common.{arith, ◌≡◌, ◌∙◌, ℕ, List, Option, true, sym}
 use Rattle.std.specs.Borrow.{Bor}
 use Rattle.std.specs.Option.{is_some}
 use Rattle.dtype_base.specs.FieldNames.{first_place}
@@ -36,10 +36,6 @@ among_variant vs n a = placed_is_variant vs n ∙ among_placed (variant_names vs
 
 -- where a call lends the type, as `field` does, by whether it lends one
 pub typed_among : (fs : List (List ℕ × Tree)) (n : List ℕ) (r : Option (Bor DType)) → shown tree r ≡ first_named fs n → (is_some r ≡ true → IsAmong (field_names fs) n) × (IsAmong (field_names fs) n → is_some r ≡ true)
-typed_among fs n r e = (λ h. named_among fs n (sym (ap is_some e) ∙ shown_some r ∙ h), λ a. sym (shown_some r) ∙ ap is_some e ∙ among_named fs n a)
-  where
-    shown_some : (r : Option (Bor DType)) → is_some (shown tree r) ≡ is_some r
-    shown_some None = refl
-    shown_some (Some x) = refl
+typed_among fs n r e = grind (arith, e, named_among fs n, among_named fs n)
 
 pub ruleset each_among = (placed_among, among_placed, named_among, among_named, variant_among, among_variant, typed_among)

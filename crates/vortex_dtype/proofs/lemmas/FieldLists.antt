@@ -3,7 +3,7 @@
 
 -- Structs whose fields a contract names one after another, as the tree has them, where a call gives them as a list; and
 -- a field more at the end.
-use Rattle.std.proofs.Common.{◌≡◌, ◌∙◌, ℕ, List, [], ◌∷◌, ◌++◌, Some, ap, sym, subst}
+use Rattle.std.proofs.Common.{arith, ◌≡◌, ◌∙◌, ℕ, List, [], ◌∷◌, ◌++◌, Some, ap, sym}
 use Rattle.dtype_base.specs.declared.nullability.Nullability.{Nullability}
 use Rattle.dtype_types.specs.tree.Kinds.{struct_fields}
 use Rattle.dtype_types.specs.tree.Tree.{Tree, Fields, fields, pairs, struct}
@@ -37,8 +37,7 @@ valid_one_appended ps name u h g = valid_joined ps ((name, u) ∷ []) h (g, tt)
 
 -- the fields of a valid type, and more
 valid_listed : (t : Tree) (ps : List (List ℕ × Tree)) → struct_fields t ≡ Some ps → Valid t → ValidItems (fields ps)
-valid_listed (struct fs m) ps e h = let same : pairs fs ≡ ps = cc in subst ValidItems (sym (fields_of_pairs fs) ∙ ap fields same) h
-valid_listed _ ps e h = cc
+valid_listed t ps e h = grind (arith, e, h, fields_of_pairs)
 
 pub valid_more : (t : Tree) (ps qs : List (List ℕ × Tree)) → struct_fields t ≡ Some ps → Valid t → ValidItems (fields qs) → ValidItems (fields (ps ++ qs))
 valid_more t ps qs e h g = valid_joined ps qs (valid_listed t ps e h) g

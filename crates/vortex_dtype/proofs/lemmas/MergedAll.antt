@@ -3,11 +3,10 @@
 
 -- What several types are as one, which a loop merges one after another: that it is the least type above all of them, where
 -- there is one, its values, and that it is valid.
-use Rattle.std.proofs.Common.{◌≡◌, ◌↔◌, List, [], ◌∷◌, Option, Some, None, IsSome, IfSome, option_and_then, refl, sym, ap, subst}
+use Rattle.std.proofs.Common.{arith, ◌≡◌, ◌↔◌, List, [], ◌∷◌, Option, Some, None, IsSome, IfSome, option_and_then, refl, sym, subst}
 use Rattle.std.specs.List.{AllByRecursion}
 use Rattle.std.specs.Option.{option_map}
 use Rattle.std.proofs.lemmas.Bool.{false≢true}
-use Rattle.std.proofs.lemmas.Option.{same_Some}
 use Rattle.dtype_base.specs.Nullability.{either}
 use Rattle.dtype_types.specs.declared.dtype.DType.{DType}
 use Rattle.dtype_types.specs.nullability.Merged.{merged}
@@ -24,24 +23,13 @@ use Rattle.vortex_dtype.specs.MergedAll.{AreAlike, IncludesAll, IsLeastAboveAll,
 
 -- a fact of what one more type comes to, by what is merged with it
 one_more : (t u c : Tree) (us : List Tree) (P : Type 0) → ((m : Tree) → merged t u ≡ Some m → merged_all m us ≡ Some c → P) → merged_all t (u ∷ us) ≡ Some c → P
-one_more t u c us P f = by (merged t u) f
-  where
-    by : (o : Option Tree) → ((m : Tree) → o ≡ Some m → merged_all m us ≡ Some c → P) → option_and_then (λ m. merged_all m us) o ≡ Some c → P
-    by None g e = cc
-    by (Some m) g e = g m refl e
+one_more t u c us P f e = grind (arith, e, f)
 
 -- ---- the least type above all
 
 least : (t c : Tree) (us : List Tree) → merged_all t us ≡ Some c → IsLeastAboveAll t us c
-least t c [] e = subst (IsLeastAboveAll t []) (same_Some t c e) (record { first = sub_reflexive t; others = tt; least = λ d h k. h })
-least t c (u ∷ us) e = one_more t u c us (IsLeastAboveAll t (u ∷ us) c) (λ m is with_rest.
-    let two = merged_least t u m is in
-    let rest = least m c us with_rest in
-    record {
-      first = sub_transitive t m c two.first rest.first;
-      others = (sub_transitive u m c two.second rest.first, rest.others);
-      least = λ d h k. rest.least d (two.least d h k.0) k.1;
-    }) e
+least t c [] e = grind (arith, e, sub_reflexive t)
+least t c (u ∷ us) e = one_more t u c us (IsLeastAboveAll t (u ∷ us) c) (λ m is with_rest. grind (arith, merged_least t u m is, least m c us with_rest, sub_transitive t m c, sub_transitive u m c)) e
 
 -- ---- its values, and that it is valid
 
@@ -53,8 +41,8 @@ values : (t c : Tree) (us : List Tree) → merged_all t us ≡ Some c → Includ
 values t c us e = let l = least t c us e in record { first = sub_values t c l.first; others = included c us l.others }
 
 valid : (t c : Tree) (us : List Tree) → merged_all t us ≡ Some c → Valid t → AllByRecursion Valid us → Valid c
-valid t c [] e h k = subst Valid (same_Some t c e) h
-valid t c (u ∷ us) e h k = one_more t u c us (Valid c) (λ m is rest. valid m c us rest (merged_valid t u m is h k.0) k.1) e
+valid t c [] e h k = grind (arith, e, h)
+valid t c (u ∷ us) e h k = grind (arith, e, h, k, merged_valid t u, λ (m : Tree). valid m c us)
 
 -- ---- where there is one
 
@@ -77,19 +65,15 @@ alike t (u ∷ us) = by (merged t u) (under_where either t u) (λ m is. (merged_
 -- ---- the same of what a call returns
 
 pub all_least : (t : Tree) (us : List Tree) (o : Option DType) → option_map tree o ≡ merged_all t us → IfSome o (λ d. IsLeastAboveAll t us (tree d))
-all_least t us None is = tt
-all_least t us (Some d) is = least t (tree d) us (sym is)
+all_least t us o is = grind (arith, is, least t)
 
 pub all_values : (t : Tree) (us : List Tree) (o : Option DType) → option_map tree o ≡ merged_all t us → IfSome o (λ d. IncludesAll t us (tree d))
-all_values t us None is = tt
-all_values t us (Some d) is = values t (tree d) us (sym is)
+all_values t us o is = grind (arith, is, values t)
 
 pub all_valid : (t : Tree) (us : List Tree) (o : Option DType) → option_map tree o ≡ merged_all t us → Valid t → AllByRecursion Valid us → IfSome o (λ d. Valid (tree d))
-all_valid t us None is h k = tt
-all_valid t us (Some d) is h k = valid t (tree d) us (sym is) h k
+all_valid t us o is h k = grind (arith, is, valid t, h, k)
 
 pub all_alike : (t : Tree) (us : List Tree) (o : Option DType) → option_map tree o ≡ merged_all t us → IsSome o ↔ AreAlike t us
-all_alike t us None is = subst (λ p. IsSome p ↔ AreAlike t us) (sym is) (alike t us)
-all_alike t us (Some d) is = subst (λ p. IsSome p ↔ AreAlike t us) (sym is) (alike t us)
+all_alike t us o is = grind (arith, is, alike t us)
 
 pub ruleset merging_all = (all_least, all_values, all_valid, all_alike)

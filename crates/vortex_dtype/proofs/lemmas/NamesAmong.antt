@@ -11,7 +11,6 @@ use Rattle.std.proofs.lemmas.List.{length-map}
 use Rattle.std.proofs.lemmas.List.Elements.{All-contains}
 use Rattle.std.proofs.lemmas.List.Quantifiers.{all_pairs_remove}
 use Rattle.std.proofs.lemmas.Option.{slice_get_within, get_or_from_slice_get}
-use Rattle.dtype_base.specs.Bytes.{Bytes}
 use Rattle.dtype_base.specs.Distinct.{Distinct}
 use Rattle.dtype_base.specs.FieldNames.{first_place}
 use Rattle.dtype_paths.proofs.lemmas.DistinctLists.{distinct-below}
@@ -79,9 +78,6 @@ some_variants u h = at_least_one (variant_list u) (subst (λ vs. variant_names v
     at_least_one (v ∷ vs) h = omega arith
 
 pub few_variants : (u : UnionVariants) → ValidVariants (variants_of u) → length (variant_list u) ≤ 256
-few_variants u h =
-    let gs = variant_tags (variant_list u) in
-    let is = subst (λ vs. Distinct (variant_tags vs) × Bytes (variant_tags vs)) (triples_variants (variant_list u)) ((variants_are _ h.0).0.1, (variants_are _ h.0).1) in
-    omega (arith, distinct-below gs 256 is.0 (λ q c. All-contains (λ g. g < 256) gs q is.1 c), length-map (variant_list u) (λ v. v.1.1))
+few_variants u h = grind (arith, triples_variants (variant_list u), variants_are _ h.0, distinct-below (variant_tags (variant_list u)) 256, All-contains (λ g. g < 256) (variant_tags (variant_list u)), length-map (variant_list u) (λ v. v.1.1))
 
 pub ruleset among = (unplaced_not_among, among_is_named, unnamed_not_among, among_before, removed_not_among, none_first)

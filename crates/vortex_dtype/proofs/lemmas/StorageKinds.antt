@@ -10,7 +10,7 @@ use Rattle.dtype_base.specs.declared.nullability.Nullability.{Nullability}
 use Rattle.dtype_base.specs.declared.ptype.PType.{PType}
 use Rattle.dtype_types.specs.tree.Kinds.{kind, primitive_name, decimal_of, struct_fields, union_variants, map_parts, list_element, fixed_size_list_element, any_size_list_element}
 use Rattle.dtype_types.specs.nullability.Nullable.{SetNull}
-use Rattle.dtype_types.specs.tree.Tree.{Tree, null, fixed_size_list, extension}
+use Rattle.dtype_types.specs.tree.Tree.{Tree, fixed_size_list}
 use Rattle.dtype_types.specs.declared.dtype.kinds.Kind.{Kind}
 
 -- a view of a type that doesn't depend on its outer nullability
@@ -50,9 +50,7 @@ held t = record {
 }
 
 held-set_null : IsKept held
-held-set_null null t n e = grind (arith, e)
-held-set_null (extension i m s) t n e = grind (arith, e)
-held-set_null _ t n e = grind (arith, e)
+held-set_null s t n e = grind (arith, e)
 
 -- any view of these parts, as `part_kept (λ h. h.kind_of)`
 pub part_kept : {X : Type 0} (part : Held → X) → IsKept (λ t. part (held t))

@@ -52,25 +52,74 @@ pub fn tell(rt: &(impl Print + Eprint), alloc: Global) -> Result<()> {
     }
     tell_beside(rt, alloc, 10_000_000, 1025, COLLIDING)?;
     for (added, old) in EXTENDED.iter() {
-        let told = extend(rt, alloc, set(alloc, old)?, paths(alloc, added)?)?;
-        println!(rt; "extend {{{old}}} by {added}: {told}")?;
-        tell_items(rt, alloc, added, old)?;
+        tell_extend(rt, alloc, added, old)?;
+        for item in 0..paths(alloc, added)?.len() {
+            tell_item(rt, alloc, added, old, item)?;
+        }
     }
     Ok(())
 }
 
-// The insertions of an `extend`, each on its own in a set that has the paths before it, so that its allocations are counted.
-fn tell_items(rt: &(impl Print + Eprint), alloc: Global, added: &str, old: &str) -> Result<()> {
-    let paths = paths(alloc, added)?;
-    for item in 0..paths.len() {
-        let mut set = set(alloc, old)?;
-        for path in &paths[..item] {
-            set.insert(path.try_clone()?)?;
+// (what must be left is computed after the call, so that few allocations come before it)
+pub fn tell_extend(
+    rt: &(impl Print + Eprint),
+    alloc: Global,
+    added: &str,
+    old: &str,
+) -> Result<()> {
+    let mut extended = set(alloc, old)?;
+    let given = paths(alloc, added)?;
+    begin(rt);
+    let made = extended.extend(given);
+    end(rt);
+    let steps = steps_of(alloc, &set(alloc, old)?, &paths(alloc, added)?)?;
+    let told = told(alloc, made, &Shown::of(alloc, &extended)?, &steps)?;
+    println!(rt; "extend {{{old}}} by {added}: {told}")?;
+    Ok(())
+}
+
+// The insertion of one path of an `extend`, on its own in a set that has the paths before it, so that its allocations are
+// counted.
+pub fn tell_item(
+    rt: &(impl Print + Eprint),
+    alloc: Global,
+    added: &str,
+    old: &str,
+    item: usize,
+) -> Result<()> {
+    let (mut set, given) = before_item(alloc, added, old, item)?;
+    if let Some(path) = given {
+        begin(rt);
+        let made = set.insert(path);
+        end(rt);
+        let (before, again) = before_item(alloc, added, old, item)?;
+        let mut one = Vec::new(alloc);
+        if let Some(path) = again {
+            one.push(path)?;
         }
-        let told = insert(rt, alloc, set, paths[item].try_clone()?)?;
+        let steps = steps_of(alloc, &before, &one)?;
+        let told = told(alloc, made, &Shown::of(alloc, &set)?, &steps)?;
         println!(rt; "item {item} of extend {{{old}}} by {added}: {told}")?;
     }
     Ok(())
+}
+
+// The set with the paths before this one, and this one, if there are so many.
+fn before_item(
+    alloc: Global,
+    added: &str,
+    old: &str,
+    item: usize,
+) -> VortexResult<(FieldPathSet, Option<FieldPath>)> {
+    let mut set = set(alloc, old)?;
+    let mut given = paths(alloc, added)?.into_iter();
+    for _ in 0..item {
+        if let Some(path) = given.next() {
+            set.insert(path)?;
+        }
+    }
+    let path = given.next();
+    Ok((set, path))
 }
 
 fn tell_beside(
@@ -102,19 +151,6 @@ fn insert(
     let steps = steps_of(alloc, &set, &one)?;
     begin(rt);
     let made = set.insert(path);
-    end(rt);
-    told(alloc, made, &Shown::of(alloc, &set)?, &steps)
-}
-
-fn extend(
-    rt: &impl Eprint,
-    alloc: Global,
-    mut set: FieldPathSet,
-    paths: Vec<FieldPath>,
-) -> VortexResult<String> {
-    let steps = steps_of(alloc, &set, &paths)?;
-    begin(rt);
-    let made = set.extend(paths);
     end(rt);
     told(alloc, made, &Shown::of(alloc, &set)?, &steps)
 }

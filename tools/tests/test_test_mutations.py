@@ -10,7 +10,8 @@ CRATE = "crates/dtype_base"
 SOURCE = "pub fn one() -> u8 {\n    1\n}\n"
 EDIT = "file: src/two.rt\nold:     1\nnew:     {}\nfails: {}\nsays: {}\n"
 # With 1 all is as it should be. With 2 a golden test is answered wrongly, with 3 another as well. With 4 the source doesn't
-# compile. With 5 a test function fails, with 6 another. With 7 an `extend` adds all paths or none. With 8 `rt try` fails.
+# compile. With 5 a test function fails, with 6 another. With 7 an `extend` adds all paths or none. With 8 `rt try` fails,
+# and with 9 no test function ends.
 # Of an `extend` the 22nd and the 23rd allocation fail, which are those of its first two paths.
 TRY = """#!/usr/bin/env python3
 import os
@@ -43,7 +44,7 @@ elif "--cases" in sys.argv:
         elif item in ("0", "1") and turn == 22 + int(item):
             print(f"item: out of memory, holds the first 0")
 else:
-    for name, wrong in (("one::is_one", 5), ("one::is_not_two", 6)):
+    for name, wrong in (("one::is_one", 5), ("one::is_not_two", 6)) if number != 9 else ():
         print(f"test {name} ... {'FAILED' if number == wrong else 'ok'}")
 print("run=ended status=0 runners=1 proved=no", file=sys.stderr)
 """
@@ -93,16 +94,17 @@ class TestMutations(Planted):
                             *(f"dtype_base: m{at}: refused for another reason than" for at in range(len(edits))))
 
     def test_an_edit_that_does_not_compile_or_run_fails(self):
-        self.assert_told_of([EDIT.format(4, GOLDEN, "names"), EDIT.format(8, GOLDEN, "proved"), EDIT.format(8, COMPILED, "no")],
+        self.assert_told_of([EDIT.format(4, GOLDEN, "names"), EDIT.format(8, GOLDEN, "proved"), EDIT.format(8, COMPILED, "no"),
+                             EDIT.format(9, TESTED, "is_one")],
                             "dtype_base: m0: doesn't compile\n", "`names` is private", "dtype_base: m1: can't be tried\n",
-                            "dtype_base: m2: can't be tried\n")
+                            "dtype_base: m2: can't be tried\n", "dtype_base: m3: can't be tried\n")
 
     def test_a_test_that_fails_without_an_edit_refuses_nothing(self):
         self.write(f"{CRATE}/src/two.rt", SOURCE.replace("1", "2"))
         self.assert_told_of([EDIT.replace("old:     1", "old:     2").format(3, GOLDEN, "decimal 5"),
                              EDIT.replace("old:     1", "old:     2").format(5, "test tests_types one::is_three", "is_one")],
                             "dtype_base: m0: its test fails without it\n", "decimal 5 77: seventy",
-                            "dtype_base: m1: its test fails without it\n", "there is no test one::is_three in tests_types")
+                            "dtype_base: m1: its test fails without it\n", "tests_types has no test one::is_three")
 
     def test_what_cannot_be_tried_is_told(self):
         edit = EDIT.format(2, GOLDEN, "seventy")

@@ -207,10 +207,13 @@ impl DType {
         holds(ffi::dtype_can_be_nonnullable(&self.slot))
     }
 
-    /// Returns the type with this nullability. What is inside keeps its own.
+    /// Returns the type with this outer nullability. The types inside it keep their nullabilities. For example, `list(i32)`
+    /// becomes `list(i32)?` with [`Nullability::Nullable`]. For an extension type, the outer nullability is that of its
+    /// storage type.
     ///
     /// # Errors
-    /// [`Error::Precondition`] if it can't be non-nullable, and [`Error::OutOfMemory`].
+    /// [`Error::Precondition`] if `nullability` is [`Nullability::NonNullable`] and the type can't be made non-nullable,
+    /// which [`DType::can_be_nonnullable`] tests; and [`Error::OutOfMemory`].
     pub fn with_nullability(&self, nullability: Nullability) -> Result<DType, Error> {
         made(|out| ffi::dtype_with_nullability(&self.slot, nullability.into(), out)).map(DType::of)
     }
@@ -460,11 +463,12 @@ impl DType {
         self.is_extension().then_some(ExtDTypeRef { dtype: self })
     }
 
-    /// Returns the number of bytes that each value takes, or `None` if a part of the type is of variable width, such as a
-    /// text.
+    /// Returns the number of bytes that each value takes, or `None` if the type or a part of it is of variable width, such
+    /// as a text.
     ///
     /// # Errors
-    /// The library's error 19 if the width of the type, or of a part of it, is above [`usize::MAX`].
+    /// The library's error 19 if no part of the type is of variable width, and the width of the type, or of a part of it,
+    /// is above [`usize::MAX`].
     pub fn element_size(&self) -> Result<Option<usize>, Error> {
         value(|size| ffi::dtype_element_size(&self.slot, size))
     }

@@ -81,12 +81,13 @@ impl FieldMask {
         }
     }
 
-    /// Returns the path, unless all paths match.
+    /// Returns the path of the mask, or `None` if its kind is [`MaskKind::All`], because such a mask has no path. For the
+    /// prefix of the root the call returns the root, although all paths match that mask too.
     pub fn path(&self) -> Option<FieldPath> {
         or_abort(self.try_path())
     }
 
-    /// Returns the path, unless all paths match, or [`Error::OutOfMemory`].
+    /// Returns what [`FieldMask::path`] returns, or [`Error::OutOfMemory`].
     pub fn try_path(&self) -> Result<Option<FieldPath>, Error> {
         Ok(found(|out| ffi::mask_path(&self.slot, out))?.map(FieldPath::of))
     }

@@ -247,10 +247,11 @@ impl MapDType<'_> {
         made(|out| ffi::dtype_value(&self.dtype.slot, out)).map(DType::of)
     }
 
-    /// Returns the type of the entries, a struct of key and value.
+    /// Returns the type of the entries: a non-nullable struct with the fields `key` and `value`. For example, for
+    /// `map(utf8, i32?, keys_sorted=true)` it is `{key=utf8, value=i32?}`.
     ///
     /// # Errors
-    /// [`Error::TooDeep`] and [`Error::OutOfMemory`].
+    /// [`Error::OutOfMemory`].
     pub fn entries_dtype(&self) -> Result<DType, Error> {
         made(|out| ffi::dtype_entries(&self.dtype.slot, out)).map(DType::of)
     }

@@ -18,7 +18,7 @@ use fault::BenchResult;
 use fixture::{Naming, Shape, Types, all_names, make_types, some_names, two_structs};
 use lookups::{Find, FindMixed, Place, Project};
 use meter::Meter;
-use on_messages::{ReadMessage, WriteMessage, messages};
+use on_messages::{ReadMessage, WriteAndRead, WriteMessage, messages};
 use on_sets::{Contains, CopiedSet, Cover, FromPaths};
 use on_types::{
     Copied, ElementSize, Empty, Equal, EqualIgnoring, Hashed, Merged, Resolve, Text,
@@ -174,7 +174,12 @@ fn measure_messages<C: CpuClock, W: Write>(
         session: &session,
     };
     meter.measure("read", of, read)?;
-    meter.measure("write", of, WriteMessage(types))
+    meter.measure("write", of, WriteMessage(types))?;
+    let both = WriteAndRead {
+        types,
+        session: &session,
+    };
+    meter.measure("write_and_read", of, both)
 }
 
 // Structs of many fields.

@@ -50,3 +50,23 @@ impl<'a> Operation for WriteMessage<'a> {
         Ok(sum)
     }
 }
+
+/// `to_proto`, and `from_proto` of the message, which is dropped before the type.
+#[derive(Drop)]
+pub struct WriteAndRead<'a> {
+    pub types: &'a Types,
+    pub session: &'a DTypeSession,
+}
+
+impl<'a> Operation for WriteAndRead<'a> {
+    fn repeat(&mut self, alloc: Global, times: usize) -> BenchResult<usize> {
+        let mut sum = 0usize;
+        for i in 0..times {
+            let message = turn(&self.types.types, i)?.to_proto(alloc)?;
+            let dtype = DType::from_proto(alloc, &message, self.session)?;
+            drop(message);
+            sum = sum.wrapping_add(usize::from(dtype.is_struct()));
+        }
+        Ok(sum)
+    }
+}

@@ -5,7 +5,7 @@
 -- export returns. `old` and `new` are what a slot, a number or a buffer contains before and after the call. Each
 -- definition matches on what the slots contain, and so specifies which number is returned in each case: 2 if a slot
 -- contains no type, 1 if there is no result, and 0 if there is one.
-use Rattle.std.specs.Prelude.{◌≡◌, ◌⊎◌, ◌+◌, ◌++◌, if◌then◌else◌, ◌==◌, ℕ, Bool, true, false, List, ℤ, ◌<◌, drop, fold, remove, length, option_map, Option, Some, None, Result, Ok, Err}
+use Rattle.std.specs.Prelude.{◌≡◌, ◌⊎◌, ◌+◌, ◌++◌, if◌then◌else◌, ◌==◌, ℕ, Bool, true, false, List, ℤ, ◌<◌, ◌≤◌, IsUtf8, drop, fold, remove, length, option_map, Option, Some, None, Result, Ok, Err}
 use Rattle.c_objects.specs.declared.object.Object.{Object}
 use Rattle.c_objects.specs.declared.object.Object.TheVariants.{DType, Path, Set, Paths, Mask, Message}
 use Rattle.dtype_base.specs.declared.vortex_error.VortexError.{VortexError}
@@ -18,7 +18,7 @@ use Rattle.dtype_types.specs.nullability.Nullable.{CanBeNonNullable, IsNullable,
 use Rattle.dtype_types.specs.tree.Width.{Fixed, HasWidePart, width}
 use Rattle.dtype_base.specs.declared.vortex_error.VortexError.TheVariants.{OutOfMemory, MapKeyNullable}
 use Rattle.std.specs.Hash.DefaultHasher as sip
-use Rattle.dtype_base.specs.Decimals.{Decimal}
+use Rattle.dtype_base.specs.Decimals.{Decimal, DecimalError, greatest_precision}
 use Rattle.dtype_base.specs.Primitives.{ptype_row}
 use Rattle.dtype_types.specs.equality.Hashes.{hash_writes, hash_writes_ignoring_nullability}
 use Rattle.dtype_types.specs.tree.Kinds.{decimal_of, extension_parts, kind, kind_number, map_parts, primitive_name, struct_fields}
@@ -105,11 +105,11 @@ Writes (Some t) f code old new = WritesThe (f t) code old new
 abbrev pub Buffer : Type 0
 Buffer = List ℕ × ℕ
 
--- Bytes are written to the front of a buffer, and their number beside it. If they don't fit, only their number is
--- written, and 7 is returned.
+-- Bytes are written to the front of a buffer, and their number beside it. If the buffer is shorter than that, only their
+-- number is written, and 7 is returned.
 abbrev pub WritesBytes : List ℕ → ℕ → Buffer → Buffer → Type 0
 WritesBytes bytes code old new =
-    ((code ≡ 0) × ((new.0 ≡ bytes ++ drop (length bytes) old.0) × (new.1 ≡ length bytes))) ⊎ ((code ≡ 7) × ((new.0 ≡ old.0) × (new.1 ≡ length bytes)))
+    ((code ≡ 0) × ((new.0 ≡ bytes ++ drop (length bytes) old.0) × (new.1 ≡ length bytes))) ⊎ ((code ≡ 7) × ((length old.0 < length bytes) × ((new.0 ≡ old.0) × (new.1 ≡ length bytes))))
 
 -- nothing is written
 abbrev pub SameBuffer : Buffer → Buffer → Type 0
@@ -125,10 +125,37 @@ abbrev pub WritesTextOf : Option Tree → (Tree → Option (List ℕ)) → ℕ �
 WritesTextOf None f code old new = (code ≡ 2) × SameBuffer old new
 WritesTextOf (Some t) f code old new = WritesText (f t) code old new
 
--- Some text is written. It is proved that nothing else is written, and not which text it is.
+-- Some text is written, or 7 is returned because the buffer is too short for it. It is proved that nothing else is
+-- written, and not which text it is.
+abbrev pub WritesAnyText : ℕ → Buffer → Buffer → Type 0
+WritesAnyText code old new =
+    ((code ≡ 0) × (drop new.1 new.0 ≡ drop new.1 old.0)) ⊎ ((code ≡ 7) × ((length old.0 < new.1) × (new.0 ≡ old.0)))
+
+-- some text is written, or nothing is
 abbrev pub WritesSome : ℕ → Buffer → Buffer → Type 0
-WritesSome code old new =
-    ((code ≡ 0) × (drop new.1 new.0 ≡ drop new.1 old.0)) ⊎ (((code ≡ 7) × (new.0 ≡ old.0)) ⊎ SameBuffer old new)
+WritesSome code old new = WritesAnyText code old new ⊎ SameBuffer old new
+
+-- A number that an export may return: 0 to 9, or 100 plus the number of an error of the library, from 0 to 36.
+abbrev pub IsCode : ℕ → Type 0
+IsCode code = (code ≤ 9) ⊎ ((100 ≤ code) × (code ≤ 136))
+
+-- A statement about bytes that have to be a text: if they are UTF-8, P is true. Otherwise 3 is returned, and `same` is true,
+-- which says that nothing changes.
+abbrev pub IfUtf8 : List ℕ → ℕ → Type 0 → Type 0 → Type 0
+IfUtf8 text code same P = (IsUtf8 text × P) ⊎ ((code ≡ 3) × (IsUtf8 text → ⊥) × same)
+
+-- a statement about an object, which a slot has to contain: otherwise 2 is returned
+abbrev pub IfThere : {X : Type 0} → Option X → ℕ → Type 0 → Type 0
+IfThere None code P = code ≡ 2
+IfThere (Some x) code P = P
+
+-- the number for the rule of decimals that a precision and a scale break
+abbrev pub RefusesDecimal : ℕ → ℤ → ℕ → Type 0
+RefusesDecimal precision scale code = (e : VortexError) × DecimalError greatest_precision precision scale e × (code ≡ 100 + number_of e)
+
+-- a number is returned, and nothing changes
+abbrev pub Refused : {X : Type 0} → ℕ → X → X → ℕ → Type 0
+Refused result old new code = (result ≡ code) × (new ≡ old)
 
 -- A statement about a part of a type. `refused` is the statement about the number that is returned otherwise: 5 if the
 -- type has no such part, and 2 if there is no type.
@@ -248,7 +275,7 @@ PutsFields (Err e) n code old new = (code ≡ 100 + number_of e) × (new ≡ old
 -- the struct without the field at a position is stored, or 117 is returned if there is no such field
 abbrev pub PutsWithout : List (List ℕ × Tree) → Nullability → ℕ → ℕ → Option Object → Option Object → Type 0
 PutsWithout fs n index code old new =
-    ((code ≡ 0) × ((index < length fs) × (type_in new ≡ Some (struct (fields (remove fs index)) n)))) ⊎ (((code ≡ 117) × (new ≡ old)) ⊎ ((code ≡ 100) × (new ≡ old)))
+    ((code ≡ 0) × ((index < length fs) × (type_in new ≡ Some (struct (fields (remove fs index)) n)))) ⊎ (((code ≡ 117) × ((length fs ≤ index) × (new ≡ old))) ⊎ ((code ≡ 100) × (new ≡ old)))
 
 -- the struct of the fields of two structs is stored, or 118 is returned if a name occurs twice
 abbrev pub JoinsFields : List (List ℕ × Tree) → List (List ℕ × Tree) → Nullability → ℕ → Option Object → Option Object → Type 0

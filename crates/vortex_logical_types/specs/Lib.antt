@@ -2,7 +2,9 @@
 -- SPDX-FileCopyrightText: Copyright the Vortex contributors
 
 pub mod Answers
+pub mod Levels
 pub mod Messages
 pub mod Objects
 pub mod Several
+pub mod Steps
 pub mod Texts

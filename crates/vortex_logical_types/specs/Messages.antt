@@ -3,9 +3,12 @@
 
 -- What exports for messages return, and what their slots contain afterwards. `code` is the number that the export
 -- returns. `old` and `new` are what a slot contains before and after the call.
-use Rattle.std.specs.Prelude.{◌≡◌, ◌⊎◌, ◌+◌, ◌++◌, ℕ, Bool, true, false, List, [], drop, length, map, Option, Some, None, Result, Ok, Err}
+use Rattle.std.specs.Prelude.{◌≡◌, ◌⊎◌, ◌+◌, ◌++◌, ◌<◌, ℕ, Bool, true, false, List, [], drop, length, map, Option, Some, None, Result, Ok, Err}
 use Rattle.std.specs.List.{flat_map}
+use Rattle.c_nodes.specs.Depth.{depth, holders}
 use Rattle.c_nodes.specs.Flat.{flat_nodes, flat_texts}
+use Rattle.c_nodes.specs.declared.fault.NodeFault.{NodeFault}
+use Rattle.c_nodes.specs.declared.fault.NodeFault.TheVariants.{NotUtf8, OutOfMemory, OutOfRange, TooDeep}
 use Rattle.c_nodes.specs.declared.node.Node.{Node}
 use Rattle.c_objects.specs.declared.object.Object.{Object}
 use Rattle.c_objects.specs.declared.object.Object.TheVariants.{Message as Held}
@@ -64,6 +67,18 @@ abbrev pub IsFlat : List Node → List ℕ → Option Message → Type 0
 IsFlat nodes texts None = ⊥
 IsFlat nodes texts (Some m) = (flat_nodes m ≡ nodes) × (flat_texts m ≡ texts)
 
+-- the number that is returned for each reason why nodes and texts aren't those of a message
+abbrev pub node_code : NodeFault → ℕ
+node_code OutOfMemory = 100
+node_code NotUtf8 = 3
+node_code TooDeep = 6
+node_code OutOfRange = 9
+
+-- The number that is returned if no message is read from nodes and texts. It is 6 only if more than 128 of the nodes are
+-- of kinds that may have parts, because each level of nesting takes one such node.
+abbrev pub RefusesNodes : List Node → ℕ → Type 0
+RefusesNodes nodes code = ((code ≡ 6) × (128 < holders nodes)) ⊎ ((code ≡ 3) ⊎ ((code ≡ 9) ⊎ (code ≡ 100)))
+
 -- what two buffers and the numbers beside them contain
 abbrev pub Buffers : Type 0
 Buffers = (List Node × ℕ) × Buffer
@@ -76,12 +91,17 @@ SameBuffers old new = ((new.0.0 ≡ old.0.0) × (new.0.1 ≡ old.0.1)) × SameBu
 abbrev pub HasSizes : Message → Buffers → Type 0
 HasSizes m new = (new.0.1 ≡ length (flat_nodes m)) × (new.1.1 ≡ length (flat_texts m))
 
--- Nodes and texts are written to the fronts of two buffers, and their numbers beside them. If they don't fit, only the
--- numbers are written, and 7 is returned. If another number is returned, nothing is written.
+-- one of the two buffers is too short for the nodes or the texts of a message
+abbrev pub AreShort : Message → Buffers → Type 0
+AreShort m old = (length old.0.0 < length (flat_nodes m)) ⊎ (length old.1.0 < length (flat_texts m))
+
+-- Nodes and texts are written to the fronts of two buffers, and their numbers beside them. If a buffer is too short, only
+-- the numbers are written, and 7 is returned. If another number is returned, nothing is written. It is 6 only if a message
+-- is nested in more than 128 others.
 abbrev pub WritesFlat : Message → ℕ → Buffers → Buffers → Type 0
 WritesFlat m code old new =
     ((code ≡ 0) × (HasSizes m new × ((new.0.0 ≡ flat_nodes m ++ drop (length (flat_nodes m)) old.0.0) × (new.1.0 ≡ flat_texts m ++ drop (length (flat_texts m)) old.1.0))))
-    ⊎ (((code ≡ 7) × (HasSizes m new × ((new.0.0 ≡ old.0.0) × (new.1.0 ≡ old.1.0)))) ⊎ (((code ≡ 6) ⊎ ((code ≡ 9) ⊎ (code ≡ 100))) × SameBuffers old new))
+    ⊎ (((code ≡ 7) × (AreShort m old × HasSizes m new × ((new.0.0 ≡ old.0.0) × (new.1.0 ≡ old.1.0)))) ⊎ ((((code ≡ 6) × (128 < depth m)) ⊎ ((code ≡ 9) ⊎ (code ≡ 100))) × SameBuffers old new))
 
 abbrev pub WritesFlatOf : Option Message → ℕ → Buffers → Buffers → Type 0
 WritesFlatOf None code old new = (code ≡ 2) × SameBuffers old new

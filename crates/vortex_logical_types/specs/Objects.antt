@@ -110,6 +110,17 @@ WritesStep None code old new = (code ≡ 1) × (new ≡ old)
 WritesStep (Some (Name n)) code old new = WritesBytes n code old new
 WritesStep (Some ElementType) code old new = (code ≡ 0) × (new.0 ≡ old.0) × (new.1 ≡ 18446744073709551615)
 
+-- The first step of the path of a mask is written. The mask of everything has no path, and the code is 121.
+abbrev pub WritesFirst : FieldMask → ℕ → Buffer → Buffer → Type 0
+WritesFirst All code old new = (code ≡ 121) × (new ≡ old)
+WritesFirst (Prefix p) code old new = WritesStep (slice_get p 0) code old new
+WritesFirst (Exact p) code old new = WritesStep (slice_get p 0) code old new
+
+-- the same of the mask in a slot
+abbrev pub WritesFirstOf : Option FieldMask → ℕ → Buffer → Buffer → Type 0
+WritesFirstOf None code old new = (code ≡ 2) × (new ≡ old)
+WritesFirstOf (Some m) code old new = WritesFirst m code old new
+
 abbrev pub WritesStepOf : {X : Type 0} → Option X → (X → Option Field) → ℕ → Buffer → Buffer → Type 0
 WritesStepOf None f code old new = (code ≡ 2) × (new ≡ old)
 WritesStepOf (Some x) f code old new = WritesStep (f x) code old new

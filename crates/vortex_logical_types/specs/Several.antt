@@ -3,9 +3,9 @@
 
 -- Several names, or several slots, that are passed to one call, and what exports make of them. `code` is the number
 -- that the export returns. `old` and `new` are what the slot for the result contains before and after the call.
-use Rattle.std.specs.Prelude.{◌≡◌, ◌≢◌, ◌⊎◌, ◌+◌, ◌<◌, ◌++◌, ℕ, List, [], ◌∷◌, if◌then◌else◌, nat_le, drop, length, map, option_map, slice_get, take, Option, Some, None}
+use Rattle.std.specs.Prelude.{◌≡◌, ◌≢◌, ◌⊎◌, ◌+◌, ◌<◌, ◌≤◌, ◌++◌, ℕ, List, [], ◌∷◌, if◌then◌else◌, nat_le, drop, get_or, length, map, option_map, slice_get, take, IsUtf8, Option, Some, None}
 use Rattle.std.specs.FinSet as set
-use Rattle.std.specs.List.{range_with_len, zip}
+use Rattle.std.specs.List.{range_with_len, sum_by, zip}
 use Rattle.c_objects.specs.declared.object.Object.{Object}
 use Rattle.c_objects.specs.declared.slot.Slot.{Slot}
 use Rattle.dtype_base.specs.FieldNames.{IsFirstAbsent}
@@ -18,6 +18,7 @@ use Rattle.dtype_types.specs.parts.Lookups.{Projects, field_names}
 use Rattle.dtype_types.specs.parts.Unions.{MakesUnion, UnionError}
 use Rattle.dtype_types.specs.tree.Tree.{Tree, fields, struct, union, variants}
 use Rattle.vortex_logical_types.specs.Answers.{type_in}
+use Rattle.vortex_logical_types.specs.Levels.{levels_over}
 use Rattle.vortex_logical_types.specs.Objects.{path_in, set_in}
 
 -- no names, if no bytes are left
@@ -31,10 +32,24 @@ abbrev pub names_cut : List ℕ → List ℕ → Option (List (List ℕ))
 names_cut bytes [] = none_left bytes
 names_cut bytes (l ∷ lengths) = if nat_le l (length bytes) then option_map (λ ns. take l bytes ∷ ns) (names_cut (drop l bytes) lengths) else None
 
+-- The bytes of the name at a position, which follow those of the names before it. `size l` is the number of bytes of a
+-- name whose length is given as `l`.
+abbrev pub name_at : (ℕ → ℕ) → List ℕ → List ℕ → ℕ → List ℕ
+name_at size bytes lengths i = take (size (get_or lengths i 0)) (drop (sum_by size (take i lengths)) bytes)
+
+-- one of the names isn't UTF-8
+abbrev pub HasNotUtf8 : (ℕ → ℕ) → List ℕ → List ℕ → Type 0
+HasNotUtf8 size bytes lengths = (i : ℕ) × (i < length lengths) × (IsUtf8 (name_at size bytes lengths i) → ⊥)
+
+-- a name has as many bytes as its length says
+abbrev pub whole : ℕ → ℕ
+whole l = l
+
 -- the number that is returned if names can't be read: 3 if a name isn't UTF-8, 9 if the lengths don't add up, and 100
 -- if an allocation fails
-abbrev pub RefusesNames : Option (List (List ℕ)) → ℕ → Type 0
-RefusesNames names code = (code ≡ 3) ⊎ ((code ≡ 100) ⊎ ((code ≡ 9) × (names ≡ None)))
+abbrev pub RefusesNames : List ℕ → List ℕ → ℕ → Type 0
+RefusesNames bytes lengths code =
+    ((code ≡ 3) × HasNotUtf8 whole bytes lengths) ⊎ (((code ≡ 9) × (names_cut bytes lengths ≡ None)) ⊎ (code ≡ 100))
 
 -- the objects in several slots
 abbrev pub objects_in : List Slot → List (Option Object)
@@ -61,15 +76,22 @@ OfBoth None y P = ⊥
 OfBoth (Some x) None P = ⊥
 OfBoth (Some x) (Some y) P = P x y
 
--- the number that is returned if names and types can't be used: 2 if a slot contains no type, 6 if a type has 128
--- levels, or the number for the names
-abbrev pub RefusesParts : Option (List (List ℕ)) → Option (List Tree) → ℕ → Type 0
-RefusesParts names types code = RefusesNames names code ⊎ ((code ≡ 6) ⊎ ((code ≡ 2) × (types ≡ None)))
+-- each slot contains a type, and one of the types has more than 127 levels
+abbrev pub AreDeep : Option (List Tree) → Type 0
+AreDeep None = ⊥
+AreDeep (Some ts) = 128 < levels_over ts
 
--- a type that is made from names and types is stored, or the number specifies what is wrong with them
-abbrev pub PutsMadeOf : Option (List (List ℕ)) → Option (List Tree) → (List (List ℕ) → List Tree → ℕ → Option Object → Option Object → Type 0) → ℕ → Option Object → Option Object → Type 0
-PutsMadeOf names types P code old new =
-    (RefusesParts names types code × (new ≡ old)) ⊎ OfBoth names types (λ ns ts. P ns ts code old new)
+-- the number that is returned if names or types can't be used: those of `RefusesNames`, 2 if a slot contains no type, and
+-- 6 if a type has more than 127 levels
+abbrev pub RefusesParts : List ℕ → List ℕ → Option (List Tree) → ℕ → Type 0
+RefusesParts bytes lengths types code =
+    RefusesNames bytes lengths code ⊎ (((code ≡ 6) × AreDeep types) ⊎ ((code ≡ 2) × (types ≡ None)))
+
+-- A type is made of names and of types that have at most 127 levels each, or a number of `RefusesParts` is returned and
+-- nothing is stored.
+abbrev pub PutsMadeOf : List ℕ → List ℕ → Option (List Tree) → (List (List ℕ) → List Tree → ℕ → Option Object → Option Object → Type 0) → ℕ → Option Object → Option Object → Type 0
+PutsMadeOf bytes lengths types P code old new =
+    (RefusesParts bytes lengths types code × (new ≡ old)) ⊎ OfBoth (names_cut bytes lengths) types (λ ns ts. (levels_over ts ≤ 128) × P ns ts code old new)
 
 -- the struct of names and types is stored, or 9 is returned if there are more or fewer names than types
 abbrev pub PutsStruct : Nullability → List (List ℕ) → List Tree → ℕ → Option Object → Option Object → Type 0
@@ -98,10 +120,14 @@ PutsProjection fs n names code old new =
     ((code ≡ 0) × ((gs : List (List ℕ × Tree)) × Projects fs names gs × (type_in new ≡ Some (struct (fields gs) n))))
     ⊎ (((code ≡ 116) × (((i : ℕ) × IsFirstAbsent (field_names fs) names i) × (new ≡ old))) ⊎ ((code ≡ 100) × (new ≡ old)))
 
--- a statement about names if they can be read, and otherwise the number that is returned
-abbrev pub WithNames : Option (List (List ℕ)) → ℕ → Option Object → Option Object → (List (List ℕ) → Type 0) → Type 0
-WithNames None code old new P = RefusesNames None code × (new ≡ old)
-WithNames (Some ns) code old new P = (((code ≡ 3) ⊎ (code ≡ 100)) × (new ≡ old)) ⊎ P ns
+-- a statement about a value, which has to be there
+abbrev pub OfThe : {X : Type 0} → Option X → (X → Type 0) → Type 0
+OfThe None P = ⊥
+OfThe (Some x) P = P x
+
+-- a statement about names, or a number of `RefusesNames` is returned and nothing changes
+abbrev pub WithNames : List ℕ → List ℕ → ℕ → Option Object → Option Object → (List (List ℕ) → Type 0) → Type 0
+WithNames bytes lengths code old new P = (RefusesNames bytes lengths code × (new ≡ old)) ⊎ OfThe (names_cut bytes lengths) P
 
 -- a set gains the paths that slots contain; each slot has to contain one
 abbrev pub GainsFirst : Option (List (List Field)) → PathSet → PathSet → Type 0

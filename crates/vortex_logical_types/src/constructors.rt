@@ -10,7 +10,8 @@ ghost use Rattle.dtype_base.specs.Decimals.{IsDecimalWithin, greatest_precision}
 ghost use Rattle.dtype_base.specs.Errors.{Makes};
 ghost use Rattle.dtype_types.specs.tree.Tree as t;
 ghost use Rattle.dtype_types.specs.tree.TreeOf.{tree};
-ghost use Rattle.vortex_logical_types.specs.Answers.{Puts, PutsPrimitive, PutsThe, ptype_numbered, type_in};
+ghost use Rattle.vortex_logical_types.specs.Answers.{Puts, PutsPrimitive, PutsThe, RefusesDecimal, ptype_numbered, type_in};
+ghost use Rattle.vortex_logical_types.specs.Levels.{UnlessDeep};
 
 use crate::errors::{KIND, RANGE, TOO_DEEP, of_library};
 use crate::levels::{MAX_LEVELS, fits};
@@ -123,6 +124,7 @@ pub extern "C" fn vlt_dtype_decimal(
     ensures accepted { IsDecimalWithin greatest_precision precision scale → PutsThe (Some (t.decimal (record { precision = precision; scale = scale }) (nullability_of nullable))) result out.old.value out.new.value }
     ensures unchanged { (result ≡ 0) ⊎ (out.new.value ≡ out.old.value) }
     ensures refused { result ≡ 0 → IsDecimalWithin greatest_precision precision scale }
+    ensures codes { ((result ≡ 0) ⊎ (result ≡ 100)) ⊎ RefusesDecimal precision scale result }
 {
     match DecimalDType::try_new(precision, scale) {
         Ok(decimal) => put_new(
@@ -143,7 +145,7 @@ pub extern "C" fn vlt_dtype_list(
     nullable: bool,
     out: &mut Slot,
 ) -> u32
-    ensures puts { ((result ≡ 6) × (out.new.value ≡ out.old.value)) ⊎ Puts (type_in element.old.value) (λ e. Some (t.list e (nullability_of nullable))) result out.old.value out.new.value }
+    ensures puts { UnlessDeep (type_in element.old.value) result (out.new.value ≡ out.old.value) (Puts (type_in element.old.value) (λ e. Some (t.list e (nullability_of nullable))) result out.old.value out.new.value) }
     ensures kept { element.new.value ≡ element.old.value }
 {
     let Some(object) = element.take(alloc) else {
@@ -158,7 +160,7 @@ pub extern "C" fn vlt_dtype_list(
 }
 
 fn list(alloc: Global, element: &DType, nullable: bool, out: &mut Slot) -> u32
-    ensures { ((result ≡ 6) × (out.new.value ≡ out.old.value)) ⊎ PutsThe (Some (t.list (tree element.now) (nullability_of nullable))) result out.old.value out.new.value }
+    ensures { UnlessDeep (Some (tree element.now)) result (out.new.value ≡ out.old.value) (PutsThe (Some (t.list (tree element.now) (nullability_of nullable))) result out.old.value out.new.value) }
 {
     if !fits(element, MAX_LEVELS - 1) {
         return TOO_DEEP;
@@ -187,7 +189,7 @@ pub extern "C" fn vlt_dtype_fixed_size_list(
     nullable: bool,
     out: &mut Slot,
 ) -> u32
-    ensures puts { ((result ≡ 6) × (out.new.value ≡ out.old.value)) ⊎ Puts (type_in element.old.value) (λ e. Some (t.fixed_size_list e size (nullability_of nullable))) result out.old.value out.new.value }
+    ensures puts { UnlessDeep (type_in element.old.value) result (out.new.value ≡ out.old.value) (Puts (type_in element.old.value) (λ e. Some (t.fixed_size_list e size (nullability_of nullable))) result out.old.value out.new.value) }
     ensures kept { element.new.value ≡ element.old.value }
 {
     let Some(object) = element.take(alloc) else {
@@ -202,7 +204,7 @@ pub extern "C" fn vlt_dtype_fixed_size_list(
 }
 
 fn fixed_size_list(alloc: Global, element: &DType, size: u32, nullable: bool, out: &mut Slot) -> u32
-    ensures { ((result ≡ 6) × (out.new.value ≡ out.old.value)) ⊎ PutsThe (Some (t.fixed_size_list (tree element.now) size (nullability_of nullable))) result out.old.value out.new.value }
+    ensures { UnlessDeep (Some (tree element.now)) result (out.new.value ≡ out.old.value) (PutsThe (Some (t.fixed_size_list (tree element.now) size (nullability_of nullable))) result out.old.value out.new.value) }
 {
     if !fits(element, MAX_LEVELS - 1) {
         return TOO_DEEP;

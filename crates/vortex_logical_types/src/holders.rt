@@ -2,15 +2,16 @@
 // SPDX-FileCopyrightText: Copyright the Vortex contributors
 
 // Types: constructors of what has several names and types.
-ghost use Rattle.std.specs.Prelude.{◌≡◌, MatchResult, Some, map};
+ghost use Rattle.std.specs.Prelude.{◌≡◌, ◌≤◌, MatchResult, Some, map};
 ghost use Rattle.dtype_base.specs.Nullability.{nullability_of};
 ghost use Rattle.dtype_types.specs.tree.TreeOf.{tree};
 ghost use Rattle.vortex_logical_types.specs.Answers.{type_in};
 ghost use Rattle.vortex_logical_types.specs.Several.{PutsConsecutive, PutsMadeOf, PutsStruct, PutsUnion, RefusesParts, each_in, names_cut, objects_in};
+ghost use Rattle.vortex_logical_types.specs.Levels.{levels_over};
 
 use crate::constructors::put_new;
 use crate::errors::{LIBRARY, RANGE, TOO_DEEP, of_library};
-use crate::levels::{MAX_LEVELS, fits};
+use crate::levels::{MAX_LEVELS, all_fit};
 use crate::names::{names_of, types_of};
 use c_objects::Slot;
 use dtype_base::{FieldNames, Nullability};
@@ -34,7 +35,7 @@ pub extern "C" fn vlt_dtype_struct(
     nullable: bool,
     out: &mut Slot,
 ) -> u32
-    ensures made { PutsMadeOf (names_cut names.now name_lengths.now) (each_in type_in (objects_in dtypes.old)) (PutsStruct (nullability_of nullable)) result out.old.value out.new.value }
+    ensures made { PutsMadeOf names.now name_lengths.now (each_in type_in (objects_in dtypes.old)) (PutsStruct (nullability_of nullable)) result out.old.value out.new.value }
     ensures kept { objects_in dtypes.new ≡ objects_in dtypes.old }
 {
     match parts_of(alloc, names, name_lengths, dtypes) {
@@ -79,7 +80,7 @@ pub extern "C" fn vlt_dtype_union(
     nullable: bool,
     out: &mut Slot,
 ) -> u32
-    ensures made { PutsMadeOf (names_cut names.now name_lengths.now) (each_in type_in (objects_in dtypes.old)) (PutsUnion tags.now (nullability_of nullable)) result out.old.value out.new.value }
+    ensures made { PutsMadeOf names.now name_lengths.now (each_in type_in (objects_in dtypes.old)) (PutsUnion tags.now (nullability_of nullable)) result out.old.value out.new.value }
     ensures kept { objects_in dtypes.new ≡ objects_in dtypes.old }
 {
     match parts_of(alloc, names, name_lengths, dtypes) {
@@ -138,7 +139,7 @@ pub extern "C" fn vlt_dtype_union_consecutive(
     nullable: bool,
     out: &mut Slot,
 ) -> u32
-    ensures made { PutsMadeOf (names_cut names.now name_lengths.now) (each_in type_in (objects_in dtypes.old)) (PutsConsecutive (nullability_of nullable)) result out.old.value out.new.value }
+    ensures made { PutsMadeOf names.now name_lengths.now (each_in type_in (objects_in dtypes.old)) (PutsConsecutive (nullability_of nullable)) result out.old.value out.new.value }
     ensures kept { objects_in dtypes.new ≡ objects_in dtypes.old }
 {
     match parts_of(alloc, names, name_lengths, dtypes) {
@@ -173,13 +174,13 @@ fn parts_of(
     dtypes: &mut [Slot],
 ) -> Result<(FieldNames, Vec<DType>), u32>
     ensures parts { MatchResult result
-        (λ r. (names_cut names.now name_lengths.now ≡ Some r.0) × (each_in type_in (objects_in dtypes.old) ≡ Some (map tree r.1.items)))
-        (λ code. RefusesParts (names_cut names.now name_lengths.now) (each_in type_in (objects_in dtypes.old)) code) }
+        (λ r. (names_cut names.now name_lengths.now ≡ Some r.0) × (each_in type_in (objects_in dtypes.old) ≡ Some (map tree r.1.items)) × (levels_over (map tree r.1.items) ≤ 128))
+        (λ code. RefusesParts names.now name_lengths.now (each_in type_in (objects_in dtypes.old)) code) }
     ensures kept { objects_in dtypes.new ≡ objects_in dtypes.old }
 {
     let names = names_of(alloc, names, name_lengths)?;
     let dtypes = types_of(alloc, dtypes)?;
-    if dtypes.iter().all(|dtype| fits(dtype, MAX_LEVELS - 1)) {
+    if all_fit(&dtypes, MAX_LEVELS) {
         Ok((names, dtypes))
     } else {
         Err(TOO_DEEP)

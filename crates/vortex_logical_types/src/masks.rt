@@ -8,7 +8,7 @@ ghost use Rattle.dtype_paths.specs.In.{In};
 ghost use Rattle.dtype_paths.specs.declared.field.Field.{Field};
 ghost use Rattle.dtype_paths.specs.declared.field_mask.FieldMask.TheVariants.{All, Exact, Prefix};
 ghost use Rattle.vortex_logical_types.specs.Answers.{Tells};
-ghost use Rattle.vortex_logical_types.specs.Objects.{Asks, AsksBoth, Gives, GivesOf, SteppedMask, StepsMask, WritesOf, mask_number, mask_in, mask_path, path_in};
+ghost use Rattle.vortex_logical_types.specs.Objects.{Asks, AsksBoth, Gives, GivesOf, SteppedMask, StepsMask, WritesFirst, WritesFirstOf, WritesOf, mask_number, mask_in, mask_path, path_in};
 
 use crate::errors::{KIND, NONE, OK, of_library};
 use crate::objects::put;
@@ -205,6 +205,7 @@ pub extern "C" fn vlt_mask_starting_field(
     buffer: &mut [u8],
     length: &mut usize,
 ) -> u32
+    ensures writes { WritesFirstOf (mask_in mask.old.value) result (buffer.old, length.old) (buffer.new, length.new) }
     ensures kept { mask.new.value ≡ mask.old.value }
 {
     let Some(object) = mask.take(alloc) else {
@@ -218,7 +219,10 @@ pub extern "C" fn vlt_mask_starting_field(
     answer
 }
 
-fn starting_field(mask: &FieldMask, buffer: &mut [u8], length: &mut usize) -> u32 {
+#[tactic(auto, using(crate::proofs::FirstSteps::written_of_all, crate::proofs::FirstSteps::written_of_path))]
+fn starting_field(mask: &FieldMask, buffer: &mut [u8], length: &mut usize) -> u32
+    ensures { WritesFirst mask.now result (buffer.old, length.old) (buffer.new, length.new) }
+{
     match mask.starting_field() {
         Ok(Some(step)) => write_step(step, buffer, length),
         Ok(None) => NONE,

@@ -2,8 +2,8 @@
 // SPDX-FileCopyrightText: Copyright the Vortex contributors
 
 // Messages of types in the form of the console.
-ghost use Rattle.std.specs.Prelude.{◌≡◌, ◌⊎◌, IsSome, IsUtf8};
-ghost use Rattle.vortex_logical_types.specs.Answers.{WritesSome};
+ghost use Rattle.std.specs.Prelude.{◌≡◌, ◌⊎◌, ◌≤◌, IsSome};
+ghost use Rattle.vortex_logical_types.specs.Answers.{IfUtf8, WritesSome};
 ghost use Rattle.vortex_logical_types.specs.Objects.{message_in};
 
 use crate::buffers::write_bytes;
@@ -30,7 +30,7 @@ pub extern "C" fn vlt_message_from_text(
     position: &mut usize,
 ) -> u32
     ensures put { result ≡ 0 → IsSome (message_in out.new.value) }
-    ensures utf8 { (result ≡ 3) ⊎ IsUtf8 text.now }
+    ensures utf8 { IfUtf8 text.now result (out.new.value ≡ out.old.value) ((result ≡ 0) ⊎ (4 ≤ result)) }
     ensures unchanged { (result ≡ 0) ⊎ (out.new.value ≡ out.old.value) }
 {
     match str::from_utf8(text) {
@@ -41,6 +41,7 @@ pub extern "C" fn vlt_message_from_text(
 
 fn read(alloc: Global, text: &str, out: &mut Slot, position: &mut usize) -> u32
     ensures put { result ≡ 0 → IsSome (message_in out.new.value) }
+    ensures codes { (result ≡ 0) ⊎ (4 ≤ result) }
     ensures unchanged { (result ≡ 0) ⊎ (out.new.value ≡ out.old.value) }
 {
     match read_message(alloc, text) {

@@ -2,7 +2,7 @@
 // SPDX-FileCopyrightText: Copyright the Vortex contributors
 
 // Several names, and several types, of one call.
-ghost use Rattle.std.specs.Prelude.{◌≡◌, ◌⊎◌, ◌++◌, ◌∷◌, ◌<◌, ◌≤◌, [], drop, length, map, take, MatchResult, None, Some};
+ghost use Rattle.std.specs.Prelude.{◌≡◌, ◌⊎◌, ◌++◌, ◌∷◌, ◌<◌, ◌≤◌, [], drop, length, map, take, IsUtf8, MatchResult, None, Some};
 ghost use Rattle.c_objects.specs.declared.object.Object.{Object};
 ghost use Rattle.dtype_types.specs.tree.TreeOf.{tree};
 ghost use Rattle.vortex_logical_types.specs.Answers.{type_in};
@@ -20,7 +20,7 @@ use std::str;
 pub fn names_of(alloc: Global, names: &[u8], lengths: &[usize]) -> Result<FieldNames, u32>
     ensures { MatchResult result
         (λ ns. names_cut names.now lengths.now ≡ Some ns)
-        (λ code. RefusesNames (names_cut names.now lengths.now) code) }
+        (λ code. RefusesNames names.now lengths.now code) }
 {
     let mut all = Vec::new(alloc);
     let mut rest = names;
@@ -40,7 +40,7 @@ pub fn names_of(alloc: Global, names: &[u8], lengths: &[usize]) -> Result<FieldN
 fn split(bytes: &[u8], wanted: usize) -> Result<(&str, &[u8]), u32>
     ensures { MatchResult result
         (λ r. (wanted ≤ length bytes.now) × (r.0.now ≡ take wanted bytes.now) × (r.1.now ≡ drop wanted bytes.now))
-        (λ code. (code ≡ 3) ⊎ ((code ≡ 9) × (length bytes.now < wanted))) }
+        (λ code. ((code ≡ 3) × (IsUtf8 (take wanted bytes.now) → ⊥)) ⊎ ((code ≡ 9) × (length bytes.now < wanted))) }
 {
     let Some((name, others)) = bytes.split_at_checked(wanted) else {
         return Err(RANGE);

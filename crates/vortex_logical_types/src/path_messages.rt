@@ -2,11 +2,13 @@
 // SPDX-FileCopyrightText: Copyright the Vortex contributors
 
 // Messages of paths. No slot has one: they are read from names or from a text, and put as the paths that they describe.
-ghost use Rattle.std.specs.Prelude.{◌≡◌, ◌≢◌, ◌⊎◌, ◌++◌, IfOk, IsSome, IsUtf8, map};
+ghost use Rattle.std.specs.Prelude.{◌≡◌, ◌≢◌, ◌⊎◌, ◌++◌, ◌≤◌, drop, length, IfErr, IfOk, IsSome, map};
 ghost use Rattle.std.specs.List.{Contains, flat_map};
 ghost use Rattle.dtype_messages.specs.PathNames.{part_name, part_names};
+ghost use Rattle.vortex_logical_types.specs.Answers.{IfUtf8};
 ghost use Rattle.vortex_logical_types.specs.Messages.{HasParts, part_bytes, part_length};
 ghost use Rattle.vortex_logical_types.specs.Objects.{path_in};
+ghost use Rattle.vortex_logical_types.specs.Steps.{RefusesName, RefusesSteps, fault_code, step_size};
 
 use crate::errors::{NOT_UTF8, of_console};
 use crate::objects::put;
@@ -35,6 +37,7 @@ pub extern "C" fn vlt_path_from_message(
 ) -> u32
     ensures made { result ≡ 0 → HasParts names.now name_lengths.now (path_in out.new.value) }
     ensures missing { result ≡ 136 → Contains name_lengths.now 18446744073709551615 }
+    ensures refused { ((result ≡ 0) ⊎ (result ≡ 136)) ⊎ RefusesSteps names.now name_lengths.now result }
     ensures unchanged { result ≢ 0 → out.new.value ≡ out.old.value }
 {
     match message_of(alloc, names, name_lengths) {
@@ -47,6 +50,7 @@ pub extern "C" fn vlt_path_from_message(
 fn message_of(alloc: Global, names: &[u8], lengths: &[usize]) -> Result<pb::FieldPath, StepFault>
     ensures bytes { IfOk result (λ m. flat_map part_bytes (part_names m) ≡ names.now) }
     ensures sizes { IfOk result (λ m. map part_length (part_names m) ≡ lengths.now) }
+    ensures fault { IfErr result (λ e. RefusesSteps names.now lengths.now (fault_code e)) }
 {
     let mut names = Names { rest: names };
     let mut path = Vec::with_capacity(alloc, lengths.len())?;
@@ -61,14 +65,16 @@ fn message_of(alloc: Global, names: &[u8], lengths: &[usize]) -> Result<pb::Fiel
 }
 
 // Takes the next part, which has a name of this length, or no kind.
-fn part(alloc: Global, names: &mut Names<'_>, length: usize) -> Result<pb::Field, StepFault>
+fn part(alloc: Global, names: &mut Names<'_>, wanted: usize) -> Result<pb::Field, StepFault>
     ensures bytes { IfOk result (λ f. names.old.rest.now ≡ part_bytes (part_name f) ++ names.new.rest.now) }
-    ensures size { IfOk result (λ f. part_length (part_name f) ≡ length) }
+    ensures size { IfOk result (λ f. part_length (part_name f) ≡ wanted) }
+    ensures advance { IfOk result (λ _. (step_size wanted ≤ length names.old.rest.now) × (names.new.rest.now ≡ drop (step_size wanted) names.old.rest.now)) }
+    ensures fault { IfErr result (λ e. RefusesName (step_size wanted) names.old.rest.now (fault_code e)) }
 {
-    if length == ELEMENT {
+    if wanted == ELEMENT {
         return Ok(pb::Field { field_type: None });
     }
-    let name = String::from_str(alloc, names.name(length)?)?;
+    let name = String::from_str(alloc, names.name(wanted)?)?;
     Ok(pb::Field {
         field_type: Some(pb::FieldType::Name(name)),
     })
@@ -88,7 +94,7 @@ pub extern "C" fn vlt_path_from_message_text(
     position: &mut usize,
 ) -> u32
     ensures put { result ≡ 0 → IsSome (path_in out.new.value) }
-    ensures utf8 { (result ≡ 3) ⊎ IsUtf8 text.now }
+    ensures utf8 { IfUtf8 text.now result (out.new.value ≡ out.old.value) ((result ≡ 0) ⊎ (4 ≤ result)) }
     ensures unchanged { (result ≡ 0) ⊎ (out.new.value ≡ out.old.value) }
 {
     match str::from_utf8(text) {
@@ -99,6 +105,7 @@ pub extern "C" fn vlt_path_from_message_text(
 
 fn read(alloc: Global, text: &str, out: &mut Slot, position: &mut usize) -> u32
     ensures put { result ≡ 0 → IsSome (path_in out.new.value) }
+    ensures codes { (result ≡ 0) ⊎ (4 ≤ result) }
     ensures unchanged { (result ≡ 0) ⊎ (out.new.value ≡ out.old.value) }
 {
     match read_path(alloc, text) {

@@ -2,7 +2,7 @@
 // SPDX-FileCopyrightText: Copyright the Vortex contributors
 
 // Paths.
-ghost use Rattle.std.specs.Prelude.{◌≡◌, ◌≢◌, ◌++◌, ◌∷◌, [], length, option_map, slice_get, string_bytes};
+ghost use Rattle.std.specs.Prelude.{◌≡◌, ◌≢◌, ◌⊎◌, ◌++◌, ◌∷◌, [], length, option_map, slice_get, string_bytes};
 ghost use Rattle.std.specs.declared.option.Option.TheVariants.{Some};
 ghost use Rattle.dtype_base.specs.Errors.{Makes};
 ghost use Rattle.dtype_paths.specs.Along.{along};
@@ -11,7 +11,7 @@ ghost use Rattle.dtype_paths.specs.Overlaps.{Overlaps};
 ghost use Rattle.dtype_paths.specs.Texts.{path_text};
 ghost use Rattle.dtype_paths.specs.declared.field.Field.TheVariants.{ElementType, Name};
 ghost use Rattle.dtype_types.specs.tree.TreeOf.{tree};
-ghost use Rattle.vortex_logical_types.specs.Answers.{Tells, WritesText, type_in};
+ghost use Rattle.vortex_logical_types.specs.Answers.{IfThere, IfUtf8, Tells, WritesText, type_in};
 ghost use Rattle.vortex_logical_types.specs.Objects.{AsksBoth, Gives, GivesIf, GivesIfOf, GivesOf, GivesOfBoth, PutsPath, StartsWith, StartsWithOf, WritesOf, WritesStep, WritesStepOf, WritesTextIn, hash_of_path, path_in, tail_of};
 
 use crate::buffers::write_bytes;
@@ -129,6 +129,7 @@ pub extern "C" fn vlt_path_push_name(
 ) -> u32
     ensures made { result ≡ 0 → path_in out.new.value ≡ option_map (λ p. p ++ (Name name.now ∷ [])) (path_in path.old.value) }
     ensures err { result ≢ 0 → out.new.value ≡ out.old.value }
+    ensures codes { IfThere (path_in path.old.value) result (IfUtf8 name.now result (out.new.value ≡ out.old.value) ((result ≡ 0) ⊎ (result ≡ 100))) }
     ensures kept { path.new.value ≡ path.old.value }
 {
     let Some(object) = path.take(alloc) else {
@@ -145,6 +146,7 @@ pub extern "C" fn vlt_path_push_name(
 fn push_name(alloc: Global, path: &FieldPath, name: &[u8], out: &mut Slot) -> u32
     ensures made { result ≡ 0 → path_in out.new.value ≡ Some (path.now ++ (Name name.now ∷ [])) }
     ensures err { result ≢ 0 → out.new.value ≡ out.old.value }
+    ensures codes { IfUtf8 name.now result (out.new.value ≡ out.old.value) ((result ≡ 0) ⊎ (result ≡ 100)) }
 {
     match str::from_utf8(name) {
         Ok(name) => put_path(alloc, out, with_name(alloc, path, name)),

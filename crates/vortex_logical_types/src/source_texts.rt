@@ -2,8 +2,8 @@
 // SPDX-FileCopyrightText: Copyright the Vortex contributors
 
 // Types in the form of the console.
-ghost use Rattle.std.specs.Prelude.{◌≡◌, ◌⊎◌, IsSome, IsUtf8};
-ghost use Rattle.vortex_logical_types.specs.Answers.{WritesSome, type_in};
+ghost use Rattle.std.specs.Prelude.{◌≡◌, ◌⊎◌, ◌≤◌, IsSome};
+ghost use Rattle.vortex_logical_types.specs.Answers.{IfUtf8, WritesSome, type_in};
 
 use crate::buffers::write_bytes;
 use crate::errors::{KIND, NOT_UTF8, of_console, of_library};
@@ -27,7 +27,7 @@ pub extern "C" fn vlt_dtype_from_text(
     position: &mut usize,
 ) -> u32
     ensures put { result ≡ 0 → IsSome (type_in out.new.value) }
-    ensures utf8 { (result ≡ 3) ⊎ IsUtf8 text.now }
+    ensures utf8 { IfUtf8 text.now result (out.new.value ≡ out.old.value) ((result ≡ 0) ⊎ (4 ≤ result)) }
     ensures unchanged { (result ≡ 0) ⊎ (out.new.value ≡ out.old.value) }
 {
     match str::from_utf8(text) {
@@ -38,6 +38,7 @@ pub extern "C" fn vlt_dtype_from_text(
 
 fn read(alloc: Global, text: &str, out: &mut Slot, position: &mut usize) -> u32
     ensures put { result ≡ 0 → IsSome (type_in out.new.value) }
+    ensures codes { (result ≡ 0) ⊎ (4 ≤ result) }
     ensures unchanged { (result ≡ 0) ⊎ (out.new.value ≡ out.old.value) }
 {
     match read_dtype(alloc, text) {

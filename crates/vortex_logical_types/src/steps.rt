@@ -3,9 +3,11 @@
 
 // Several names that come in as one text, and the length of each. The length `ELEMENT` stands for the step into the element,
 // and has no bytes.
-ghost use Rattle.std.specs.Prelude.{◌≡◌, ◌++◌, ◌≢◌, ◌⊎◌, map, IfOk, length};
+ghost use Rattle.std.specs.Prelude.{◌≡◌, ◌++◌, ◌≢◌, ◌⊎◌, ◌≤◌, drop, map, IfErr, IfOk, length};
 ghost use Rattle.std.specs.List.{flat_map};
 ghost use Rattle.vortex_logical_types.specs.Objects.{HasSteps, path_in, step_bytes, step_length};
+ghost use Rattle.vortex_logical_types.specs.Steps.{RefusesName, RefusesSteps, fault_code, step_size};
+ghost use Rattle.vortex_logical_types.specs.declared.steps.StepFault.TheVariants.{OutOfMemory};
 
 use crate::errors::{LIBRARY, NOT_UTF8, RANGE};
 use crate::objects::put;
@@ -28,18 +30,24 @@ pub enum StepFault {
 }
 
 impl From<VortexError> for StepFault {
+    ghost from_gives = { λ _ e. e ≡ OutOfMemory };
+
     fn from(_error: VortexError) -> StepFault {
         StepFault::OutOfMemory
     }
 }
 
 impl From<AllocError> for StepFault {
+    ghost from_gives = { λ _ e. e ≡ OutOfMemory };
+
     fn from(_error: AllocError) -> StepFault {
         StepFault::OutOfMemory
     }
 }
 
 impl<T: Drop> From<AllocFailed<T>> for StepFault {
+    ghost from_gives = { λ _ e. e ≡ OutOfMemory };
+
     fn from(_error: AllocFailed<T>) -> StepFault {
         StepFault::OutOfMemory
     }
@@ -53,20 +61,24 @@ pub struct Names<'a> {
 
 impl<'a> Names<'a> {
     // Takes the next step, which has this length.
-    fn step(&mut self, alloc: Global, length: usize) -> Result<Field, StepFault>
+    fn step(&mut self, alloc: Global, wanted: usize) -> Result<Field, StepFault>
         ensures bytes { IfOk result (λ f. self.old.rest.now ≡ step_bytes f ++ self.new.rest.now) }
-        ensures size { IfOk result (λ f. step_length f ≡ length) }
+        ensures size { IfOk result (λ f. step_length f ≡ wanted) }
+        ensures advance { IfOk result (λ _. (step_size wanted ≤ length self.old.rest.now) × (self.new.rest.now ≡ drop (step_size wanted) self.old.rest.now)) }
+        ensures fault { IfErr result (λ e. RefusesName (step_size wanted) self.old.rest.now (fault_code e)) }
     {
-        if length == ELEMENT {
+        if wanted == ELEMENT {
             return Ok(Field::ElementType);
         }
-        Ok(Field::Name(FieldName::new(alloc, self.name(length)?)?))
+        Ok(Field::Name(FieldName::new(alloc, self.name(wanted)?)?))
     }
 
     /// Removes the next name, which has this length, from the front of the bytes and returns it.
     pub fn name(&mut self, wanted: usize) -> Result<&'a str, StepFault>
         ensures bytes { IfOk result (λ n. self.old.rest.now ≡ n.now ++ self.new.rest.now) }
         ensures size { IfOk result (λ n. length n.now ≡ wanted) }
+        ensures advance { IfOk result (λ _. (wanted ≤ length self.old.rest.now) × (self.new.rest.now ≡ drop wanted self.old.rest.now)) }
+        ensures fault { IfErr result (λ e. RefusesName wanted self.old.rest.now (fault_code e)) }
     {
         if wanted > self.rest.len() {
             return Err(StepFault::Lengths);
@@ -84,6 +96,7 @@ impl<'a> Names<'a> {
 fn steps_of(alloc: Global, names: &[u8], lengths: &[usize]) -> Result<Vec<Field>, StepFault>
     ensures bytes { IfOk result (λ v. flat_map step_bytes v.items ≡ names.now) }
     ensures sizes { IfOk result (λ v. map step_length v.items ≡ lengths.now) }
+    ensures fault { IfErr result (λ e. RefusesSteps names.now lengths.now (fault_code e)) }
 {
     let mut names = Names { rest: names };
     let mut steps = Vec::with_capacity(alloc, lengths.len())?;
@@ -99,7 +112,7 @@ fn steps_of(alloc: Global, names: &[u8], lengths: &[usize]) -> Result<Vec<Field>
 
 /// Returns the number that an export returns if the steps can't be read.
 pub fn code_of(fault: StepFault) -> u32
-    ensures { (result ≡ 3) ⊎ ((result ≡ 9) ⊎ (result ≡ 100)) }
+    ensures { result ≡ fault_code fault }
 {
     match fault {
         StepFault::OutOfMemory => LIBRARY,
@@ -120,6 +133,7 @@ pub extern "C" fn vlt_path_from_steps(
     out: &mut Slot,
 ) -> u32
     ensures made { result ≡ 0 → HasSteps names.now name_lengths.now (path_in out.new.value) }
+    ensures refused { (result ≡ 0) ⊎ RefusesSteps names.now name_lengths.now result }
     ensures unchanged { result ≢ 0 → out.new.value ≡ out.old.value }
 {
     match steps_of(alloc, names, name_lengths) {

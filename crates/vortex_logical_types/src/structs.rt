@@ -2,14 +2,14 @@
 // SPDX-FileCopyrightText: Copyright the Vortex contributors
 
 // Structs: the fields of a type.
-ghost use Rattle.std.specs.Prelude.{◌≡◌, ◌⊎◌, IsUtf8, length, option_copied, slice_get};
+ghost use Rattle.std.specs.Prelude.{◌≡◌, length, option_copied, slice_get};
 ghost use Rattle.std.specs.declared.option.Option.TheVariants.{Some};
 ghost use Rattle.c_objects.specs.declared.object.Object.{Object};
 ghost use Rattle.dtype_base.specs.FieldNames.{first_place};
 ghost use Rattle.dtype_types.specs.parts.Lookups.{field_names, field_types, first_named};
 ghost use Rattle.dtype_types.specs.tree.Kinds.{struct_fields};
 ghost use Rattle.dtype_types.specs.tree.TreeOf.{tree};
-ghost use Rattle.vortex_logical_types.specs.Answers.{PutsThe, SameBuffer, Within, WithinThe, WritesText, WritesThe, type_in};
+ghost use Rattle.vortex_logical_types.specs.Answers.{IfUtf8, Refused, PutsThe, SameBuffer, Within, WithinThe, WritesText, WritesThe, type_in};
 
 use crate::buffers::write_bytes;
 use crate::errors::{CONDITION, KIND, NONE, NOT_UTF8, OK};
@@ -23,7 +23,7 @@ use std::str;
 /// Writes the number of fields of the struct to `count`. Returns 5 if the type isn't a struct.
 #[unsafe(no_mangle)]
 pub extern "C" fn vlt_struct_nfields(alloc: Global, dtype: &mut Slot, count: &mut usize) -> u32
-    ensures answer { Within (type_in dtype.old.value) struct_fields (λ code. (result ≡ code) × (count.new ≡ count.old)) (λ fs. (result ≡ 0) × (count.new ≡ length fs)) }
+    ensures answer { Within (type_in dtype.old.value) struct_fields (Refused result count.old count.new) (λ fs. (result ≡ 0) × (count.new ≡ length fs)) }
     ensures kept { dtype.new.value ≡ dtype.old.value }
 {
     let Some(object) = dtype.take(alloc) else {
@@ -38,7 +38,7 @@ pub extern "C" fn vlt_struct_nfields(alloc: Global, dtype: &mut Slot, count: &mu
 }
 
 fn nfields(alloc: Global, dtype: &DType, count: &mut usize) -> u32
-    ensures { WithinThe (struct_fields (tree dtype.now)) (λ code. (result ≡ code) × (count.new ≡ count.old)) (λ fs. (result ≡ 0) × (count.new ≡ length fs)) }
+    ensures { WithinThe (struct_fields (tree dtype.now)) (Refused result count.old count.new) (λ fs. (result ≡ 0) × (count.new ≡ length fs)) }
 {
     match dtype.as_struct_fields_opt() {
         Some(fields) => {
@@ -58,7 +58,7 @@ pub extern "C" fn vlt_struct_field_by_index(
     index: usize,
     out: &mut Slot,
 ) -> u32
-    ensures answer { Within (type_in dtype.old.value) struct_fields (λ code. (result ≡ code) × (out.new.value ≡ out.old.value)) (λ fs. PutsThe (slice_get (field_types fs) index) result out.old.value out.new.value) }
+    ensures answer { Within (type_in dtype.old.value) struct_fields (Refused result out.old.value out.new.value) (λ fs. PutsThe (slice_get (field_types fs) index) result out.old.value out.new.value) }
     ensures kept { dtype.new.value ≡ dtype.old.value }
 {
     let Some(object) = dtype.take(alloc) else {
@@ -73,7 +73,7 @@ pub extern "C" fn vlt_struct_field_by_index(
 }
 
 fn field_by_index(alloc: Global, dtype: &DType, index: usize, out: &mut Slot) -> u32
-    ensures { WithinThe (struct_fields (tree dtype.now)) (λ code. (result ≡ code) × (out.new.value ≡ out.old.value)) (λ fs. PutsThe (slice_get (field_types fs) index) result out.old.value out.new.value) }
+    ensures { WithinThe (struct_fields (tree dtype.now)) (Refused result out.old.value out.new.value) (λ fs. PutsThe (slice_get (field_types fs) index) result out.old.value out.new.value) }
 {
     match dtype.as_struct_fields_opt() {
         Some(fields) => put_copy(alloc, out, fields.field_by_index(index)),
@@ -90,8 +90,7 @@ pub extern "C" fn vlt_struct_find(
     name: &[u8],
     index: &mut usize,
 ) -> u32
-    ensures answer { ((result ≡ 3) × (index.new ≡ index.old)) ⊎ (Within (type_in dtype.old.value) struct_fields (λ code. (result ≡ code) × (index.new ≡ index.old)) (λ fs. WritesThe (first_place (field_names fs) name.now) result index.old index.new)) }
-    ensures utf8 { (result ≡ 3) ⊎ IsUtf8 name.now }
+    ensures answer { IfUtf8 name.now result (index.new ≡ index.old) (Within (type_in dtype.old.value) struct_fields (Refused result index.old index.new) (λ fs. WritesThe (first_place (field_names fs) name.now) result index.old index.new)) }
     ensures kept { dtype.new.value ≡ dtype.old.value }
 {
     let Ok(name) = str::from_utf8(name) else {
@@ -109,7 +108,7 @@ pub extern "C" fn vlt_struct_find(
 }
 
 fn find(alloc: Global, dtype: &DType, name: &str, index: &mut usize) -> u32
-    ensures { WithinThe (struct_fields (tree dtype.now)) (λ code. (result ≡ code) × (index.new ≡ index.old)) (λ fs. WritesThe (first_place (field_names fs) name.now) result index.old index.new) }
+    ensures { WithinThe (struct_fields (tree dtype.now)) (Refused result index.old index.new) (λ fs. WritesThe (first_place (field_names fs) name.now) result index.old index.new) }
 {
     match dtype.as_struct_fields_opt() {
         Some(fields) => write_place(fields.find(name), index),
@@ -126,8 +125,7 @@ pub extern "C" fn vlt_struct_field(
     name: &[u8],
     out: &mut Slot,
 ) -> u32
-    ensures answer { ((result ≡ 3) × (out.new.value ≡ out.old.value)) ⊎ (Within (type_in dtype.old.value) struct_fields (λ code. (result ≡ code) × (out.new.value ≡ out.old.value)) (λ fs. PutsThe (first_named fs name.now) result out.old.value out.new.value)) }
-    ensures utf8 { (result ≡ 3) ⊎ IsUtf8 name.now }
+    ensures answer { IfUtf8 name.now result (out.new.value ≡ out.old.value) (Within (type_in dtype.old.value) struct_fields (Refused result out.old.value out.new.value) (λ fs. PutsThe (first_named fs name.now) result out.old.value out.new.value)) }
     ensures kept { dtype.new.value ≡ dtype.old.value }
 {
     let Ok(name) = str::from_utf8(name) else {
@@ -145,7 +143,7 @@ pub extern "C" fn vlt_struct_field(
 }
 
 fn field(alloc: Global, dtype: &DType, name: &str, out: &mut Slot) -> u32
-    ensures { WithinThe (struct_fields (tree dtype.now)) (λ code. (result ≡ code) × (out.new.value ≡ out.old.value)) (λ fs. PutsThe (first_named fs name.now) result out.old.value out.new.value) }
+    ensures { WithinThe (struct_fields (tree dtype.now)) (Refused result out.old.value out.new.value) (λ fs. PutsThe (first_named fs name.now) result out.old.value out.new.value) }
 {
     match dtype.as_struct_fields_opt() {
         Some(fields) => put_copy(alloc, out, fields.field(name)),

@@ -2,7 +2,7 @@
 // SPDX-FileCopyrightText: Copyright the Vortex contributors
 
 // Unions: the variants of a type.
-ghost use Rattle.std.specs.Prelude.{◌≡◌, ◌⊎◌, IsUtf8, length, option_copied, position, slice_get, ◌==◌};
+ghost use Rattle.std.specs.Prelude.{◌≡◌, length, option_copied, position, slice_get, ◌==◌};
 ghost use Rattle.std.specs.declared.option.Option.TheVariants.{Some};
 ghost use Rattle.c_objects.specs.declared.object.Object.{Object};
 ghost use Rattle.dtype_base.specs.FieldNames.{first_place};
@@ -10,7 +10,7 @@ ghost use Rattle.dtype_types.specs.parts.Lookups.{variant_named, variant_names, 
 ghost use Rattle.dtype_types.specs.parts.Unions.{AreConsecutive};
 ghost use Rattle.dtype_types.specs.tree.Kinds.{union_variants};
 ghost use Rattle.dtype_types.specs.tree.TreeOf.{tree, variant_list};
-ghost use Rattle.vortex_logical_types.specs.Answers.{PutsThe, SameBuffer, Tells, Within, WithinThe, WritesText, WritesThe, type_in};
+ghost use Rattle.vortex_logical_types.specs.Answers.{IfUtf8, Refused, PutsThe, SameBuffer, Tells, Within, WithinThe, WritesText, WritesThe, type_in};
 
 use crate::errors::{CONDITION, KIND, NONE, NOT_UTF8, OK};
 use crate::objects::put_copy;
@@ -23,7 +23,7 @@ use std::str;
 /// Writes the number of variants of the union to `count`. Returns 5 if the type isn't a union.
 #[unsafe(no_mangle)]
 pub extern "C" fn vlt_union_len(alloc: Global, dtype: &mut Slot, count: &mut usize) -> u32
-    ensures answer { Within (type_in dtype.old.value) union_variants (λ code. (result ≡ code) × (count.new ≡ count.old)) (λ vs. (result ≡ 0) × (count.new ≡ length vs)) }
+    ensures answer { Within (type_in dtype.old.value) union_variants (Refused result count.old count.new) (λ vs. (result ≡ 0) × (count.new ≡ length vs)) }
     ensures kept { dtype.new.value ≡ dtype.old.value }
 {
     let Some(object) = dtype.take(alloc) else {
@@ -38,7 +38,7 @@ pub extern "C" fn vlt_union_len(alloc: Global, dtype: &mut Slot, count: &mut usi
 }
 
 fn len(alloc: Global, dtype: &DType, count: &mut usize) -> u32
-    ensures { WithinThe (union_variants (tree dtype.now)) (λ code. (result ≡ code) × (count.new ≡ count.old)) (λ vs. (result ≡ 0) × (count.new ≡ length vs)) }
+    ensures { WithinThe (union_variants (tree dtype.now)) (Refused result count.old count.new) (λ vs. (result ≡ 0) × (count.new ≡ length vs)) }
 {
     match dtype.as_union_variants_opt() {
         Some(variants) => {
@@ -58,7 +58,7 @@ pub extern "C" fn vlt_union_variant_by_index(
     index: usize,
     out: &mut Slot,
 ) -> u32
-    ensures answer { Within (type_in dtype.old.value) union_variants (λ code. (result ≡ code) × (out.new.value ≡ out.old.value)) (λ vs. PutsThe (slice_get (variant_types vs) index) result out.old.value out.new.value) }
+    ensures answer { Within (type_in dtype.old.value) union_variants (Refused result out.old.value out.new.value) (λ vs. PutsThe (slice_get (variant_types vs) index) result out.old.value out.new.value) }
     ensures kept { dtype.new.value ≡ dtype.old.value }
 {
     let Some(object) = dtype.take(alloc) else {
@@ -73,7 +73,7 @@ pub extern "C" fn vlt_union_variant_by_index(
 }
 
 fn variant_by_index(alloc: Global, dtype: &DType, index: usize, out: &mut Slot) -> u32
-    ensures { WithinThe (union_variants (tree dtype.now)) (λ code. (result ≡ code) × (out.new.value ≡ out.old.value)) (λ vs. PutsThe (slice_get (variant_types vs) index) result out.old.value out.new.value) }
+    ensures { WithinThe (union_variants (tree dtype.now)) (Refused result out.old.value out.new.value) (λ vs. PutsThe (slice_get (variant_types vs) index) result out.old.value out.new.value) }
 {
     match dtype.as_union_variants_opt() {
         Some(variants) => put_copy(alloc, out, variants.variant_by_index(index)),
@@ -90,8 +90,7 @@ pub extern "C" fn vlt_union_find(
     name: &[u8],
     index: &mut usize,
 ) -> u32
-    ensures answer { ((result ≡ 3) × (index.new ≡ index.old)) ⊎ (Within (type_in dtype.old.value) union_variants (λ code. (result ≡ code) × (index.new ≡ index.old)) (λ vs. WritesThe (first_place (variant_names vs) name.now) result index.old index.new)) }
-    ensures utf8 { (result ≡ 3) ⊎ IsUtf8 name.now }
+    ensures answer { IfUtf8 name.now result (index.new ≡ index.old) (Within (type_in dtype.old.value) union_variants (Refused result index.old index.new) (λ vs. WritesThe (first_place (variant_names vs) name.now) result index.old index.new)) }
     ensures kept { dtype.new.value ≡ dtype.old.value }
 {
     let Ok(name) = str::from_utf8(name) else {
@@ -109,7 +108,7 @@ pub extern "C" fn vlt_union_find(
 }
 
 fn find(alloc: Global, dtype: &DType, name: &str, index: &mut usize) -> u32
-    ensures { WithinThe (union_variants (tree dtype.now)) (λ code. (result ≡ code) × (index.new ≡ index.old)) (λ vs. WritesThe (first_place (variant_names vs) name.now) result index.old index.new) }
+    ensures { WithinThe (union_variants (tree dtype.now)) (Refused result index.old index.new) (λ vs. WritesThe (first_place (variant_names vs) name.now) result index.old index.new) }
 {
     match dtype.as_union_variants_opt() {
         Some(variants) => write_place(variants.find(name), index),
@@ -126,8 +125,7 @@ pub extern "C" fn vlt_union_variant(
     name: &[u8],
     out: &mut Slot,
 ) -> u32
-    ensures answer { ((result ≡ 3) × (out.new.value ≡ out.old.value)) ⊎ (Within (type_in dtype.old.value) union_variants (λ code. (result ≡ code) × (out.new.value ≡ out.old.value)) (λ vs. PutsThe (variant_named vs name.now) result out.old.value out.new.value)) }
-    ensures utf8 { (result ≡ 3) ⊎ IsUtf8 name.now }
+    ensures answer { IfUtf8 name.now result (out.new.value ≡ out.old.value) (Within (type_in dtype.old.value) union_variants (Refused result out.old.value out.new.value) (λ vs. PutsThe (variant_named vs name.now) result out.old.value out.new.value)) }
     ensures kept { dtype.new.value ≡ dtype.old.value }
 {
     let Ok(name) = str::from_utf8(name) else {
@@ -145,7 +143,7 @@ pub extern "C" fn vlt_union_variant(
 }
 
 fn variant(alloc: Global, dtype: &DType, name: &str, out: &mut Slot) -> u32
-    ensures { WithinThe (union_variants (tree dtype.now)) (λ code. (result ≡ code) × (out.new.value ≡ out.old.value)) (λ vs. PutsThe (variant_named vs name.now) result out.old.value out.new.value) }
+    ensures { WithinThe (union_variants (tree dtype.now)) (Refused result out.old.value out.new.value) (λ vs. PutsThe (variant_named vs name.now) result out.old.value out.new.value) }
 {
     match dtype.as_union_variants_opt() {
         Some(variants) => put_copy(alloc, out, variants.variant(name)),
@@ -162,7 +160,7 @@ pub extern "C" fn vlt_union_tag_to_child_index(
     tag: u8,
     index: &mut usize,
 ) -> u32
-    ensures answer { Within (type_in dtype.old.value) union_variants (λ code. (result ≡ code) × (index.new ≡ index.old)) (λ vs. WritesThe (position (λ t. t == tag) (variant_tags vs)) result index.old index.new) }
+    ensures answer { Within (type_in dtype.old.value) union_variants (Refused result index.old index.new) (λ vs. WritesThe (position (λ t. t == tag) (variant_tags vs)) result index.old index.new) }
     ensures kept { dtype.new.value ≡ dtype.old.value }
 {
     let Some(object) = dtype.take(alloc) else {
@@ -177,7 +175,7 @@ pub extern "C" fn vlt_union_tag_to_child_index(
 }
 
 fn tag_to_child_index(alloc: Global, dtype: &DType, tag: u8, index: &mut usize) -> u32
-    ensures { WithinThe (union_variants (tree dtype.now)) (λ code. (result ≡ code) × (index.new ≡ index.old)) (λ vs. WritesThe (position (λ t. t == tag) (variant_tags vs)) result index.old index.new) }
+    ensures { WithinThe (union_variants (tree dtype.now)) (Refused result index.old index.new) (λ vs. WritesThe (position (λ t. t == tag) (variant_tags vs)) result index.old index.new) }
 {
     match dtype.as_union_variants_opt() {
         Some(variants) => write_place(variants.tag_to_child_index(tag), index),
@@ -194,7 +192,7 @@ pub extern "C" fn vlt_union_child_index_to_tag(
     index: usize,
     tag: &mut u8,
 ) -> u32
-    ensures answer { Within (type_in dtype.old.value) union_variants (λ code. (result ≡ code) × (tag.new ≡ tag.old)) (λ vs. WritesThe (slice_get (variant_tags vs) index) result tag.old tag.new) }
+    ensures answer { Within (type_in dtype.old.value) union_variants (Refused result tag.old tag.new) (λ vs. WritesThe (slice_get (variant_tags vs) index) result tag.old tag.new) }
     ensures kept { dtype.new.value ≡ dtype.old.value }
 {
     let Some(object) = dtype.take(alloc) else {
@@ -209,7 +207,7 @@ pub extern "C" fn vlt_union_child_index_to_tag(
 }
 
 fn child_index_to_tag(alloc: Global, dtype: &DType, index: usize, tag: &mut u8) -> u32
-    ensures { WithinThe (union_variants (tree dtype.now)) (λ code. (result ≡ code) × (tag.new ≡ tag.old)) (λ vs. WritesThe (slice_get (variant_tags vs) index) result tag.old tag.new) }
+    ensures { WithinThe (union_variants (tree dtype.now)) (Refused result tag.old tag.new) (λ vs. WritesThe (slice_get (variant_tags vs) index) result tag.old tag.new) }
 {
     match dtype.as_union_variants_opt() {
         Some(variants) => write_tag(variants.type_ids().get(index), tag),

@@ -8,12 +8,9 @@
 //! the library. Most methods that also exist in `vortex-array` have the same name in both.
 //!
 //! Each exported function has a contract, and the contracts are proved. They specify which object a call makes or which
-//! value it writes, and for most functions also which error is returned in which case. They don't specify the following,
-//! so it is only tested:
-//!
-//! - Which value a text stands for: that `parse`, `to_source` and [`answer`] read and write the right text, and that each
-//!   error has the right text.
-//! - What [`FieldMask::starting_field`] returns.
+//! value it writes, and for most functions also which error is returned in which case. They don't specify which value a
+//! text stands for: that `parse`, `to_source` and [`answer`] read and write the right text, and that each error has the
+//! right text, is only tested.
 //!
 //! The Rust code between a method and its function is thin, and it is tested and not proved.
 //!

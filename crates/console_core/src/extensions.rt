@@ -48,7 +48,7 @@ pub fn rows() -> &'static [Row] {
 #[rattlefmt::skip]
 const ROWS: [Row; 19] = [
     Row("extension", "ID HEX T", "x.tag 0x6162 utf8?", "the extension with this id, this metadata and this storage type", "", Extensions(ExtensionCommand::Extension)),
-    Row("foreign", "ID HEX T", "x.y 0x i32", "the same extension, made by ForeignExtDType::from_parts, with which a session makes extensions whose id no plugin knows", "", Typed(TypedCommand::Foreign)),
+    Row("foreign", "ID HEX T", "x.y 0x i32", "the extension of this id, with this metadata and this storage type, made by ForeignExtDType::from_parts. A session makes an extension in this way if it keeps unknown ids and has no plugin of the id.", "", Typed(TypedCommand::Foreign)),
     Row("id", "E", "x.tag[0x6162](utf8)", "the id of the extension", "", Extensions(ExtensionCommand::Query(ExtensionQuery::Id))),
     Row("metadata", "E", "x.tag[0x6162](utf8)", "the metadata of the extension", "", Extensions(ExtensionCommand::Query(ExtensionQuery::Metadata))),
     Row("serialize_metadata", "E", "x.tag[0x6162](utf8)", "the metadata of the extension, as a message contains it", "", Extensions(ExtensionCommand::Query(ExtensionQuery::SerializeMetadata))),

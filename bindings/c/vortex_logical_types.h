@@ -96,7 +96,7 @@ static inline bool vlt_is_among(const vlt_slot *slot, const vlt_slot *slots, siz
 #define VLT_KIND 2u
 /* A text isn't UTF-8. */
 #define VLT_UTF8 3u
-/* A text can't be read. `*position` is the first byte that doesn't fit, counted from 1. */
+/* A text can't be read. `*position` is the byte at which reading failed, counted from 1. */
 #define VLT_UNREADABLE 4u
 /* The call has a precondition, and the arguments don't meet it. */
 #define VLT_CONDITION 5u
@@ -289,7 +289,7 @@ uint32_t vlt_dtype_keys_sorted(vlt_slot *dtype);
 /* Reads a type from its text in the form of the console, for example `{a=i32, b=list(utf8)?}`, and stores it in `out`.
  *
  * Returns 3 if the text isn't UTF-8. If the text can't be read, the call returns 4 and writes the position of the
- * first byte that doesn't fit, counted from 1, to `position`. */
+ * byte at which reading failed, counted from 1, to `position`. At an unknown word this is its first byte. */
 uint32_t vlt_dtype_from_text(const uint8_t *text, size_t text_len, vlt_slot *out, size_t *position);
 
 /* Writes the type to `buffer` in the form of the console. `vlt_dtype_from_text` reads the same type from this text. */
@@ -450,14 +450,14 @@ uint32_t vlt_path_from_message(
  * the message has no kind.
  *
  * Returns 3 if the text isn't UTF-8. If the text can't be read, the call returns 4 and writes the position of the
- * first byte that doesn't fit, counted from 1, to `position`. */
+ * byte at which reading failed, counted from 1, to `position`. At an unknown word this is its first byte. */
 uint32_t vlt_path_from_message_text(const uint8_t *text, size_t text_len, vlt_slot *out, size_t *position);
 
 /* Reads a path from its text in the form of the console and stores it in `out`. For example, `a.[].b` is a path of
  * three steps, and `.` is the root.
  *
  * Returns 3 if the text isn't UTF-8. If the text can't be read, the call returns 4 and writes the position of the
- * first byte that doesn't fit, counted from 1, to `position`. */
+ * byte at which reading failed, counted from 1, to `position`. At an unknown word this is its first byte. */
 uint32_t vlt_path_from_text(const uint8_t *text, size_t text_len, vlt_slot *out, size_t *position);
 
 /* Writes the path to `buffer` in the form of the console, for example `a.[].b`. `vlt_path_from_text` reads the same
@@ -634,7 +634,7 @@ uint32_t vlt_mask_eq(vlt_slot *one, vlt_slot *other);
  * protobuf's text format, for example `list { element_type { primitive { type: I32 } } }`.
  *
  * Returns 3 if the text isn't UTF-8. If the text can't be read, the call returns 4 and writes the position of the
- * first byte that doesn't fit, counted from 1, to `position`. */
+ * byte at which reading failed, counted from 1, to `position`. At an unknown word this is its first byte. */
 uint32_t vlt_message_from_text(const uint8_t *text, size_t text_len, vlt_slot *out, size_t *position);
 
 /* Writes the message to `buffer` in the form of the console. `vlt_message_from_text` reads the same message from this

@@ -27,7 +27,7 @@ NONE = 1
 KIND = 2
 # A text isn't UTF-8.
 UTF8 = 3
-# A text can't be read. `*position` is the first byte that doesn't fit, counted from 1.
+# A text can't be read. `*position` is the byte at which reading failed, counted from 1.
 UNREADABLE = 4
 # The call has a precondition, and the arguments don't meet it.
 CONDITION = 5

@@ -76,7 +76,7 @@ pub(crate) const NONE: u32 = 1;
 pub(crate) const KIND: u32 = 2;
 /// A text isn't UTF-8.
 pub(crate) const UTF8: u32 = 3;
-/// A text can't be read. `*position` is the first byte that doesn't fit, counted from 1.
+/// A text can't be read. `*position` is the byte at which reading failed, counted from 1.
 pub(crate) const UNREADABLE: u32 = 4;
 /// The call has a precondition, and the arguments don't meet it.
 pub(crate) const CONDITION: u32 = 5;
@@ -666,7 +666,7 @@ pub(crate) fn dtype_keys_sorted(dtype: &Slot) -> u32 {
 /// Reads a type from its text in the form of the console, for example `{a=i32, b=list(utf8)?}`, and stores it in `out`.
 ///
 /// Returns 3 if the text isn't UTF-8. If the text can't be read, the call returns 4 and writes the position of the
-/// first byte that doesn't fit, counted from 1, to `position`.
+/// byte at which reading failed, counted from 1, to `position`. At an unknown word this is its first byte.
 pub(crate) fn dtype_from_text(text: &[u8], out: &mut Slot, position: &mut usize) -> u32 {
     // SAFETY: see the head of this file.
     unsafe { vlt_dtype_from_text(text.as_ptr(), text.len(), out, position) }
@@ -1061,7 +1061,7 @@ pub(crate) fn path_from_message(names: &[u8], name_lengths: &[usize], out: &mut 
 /// the message has no kind.
 ///
 /// Returns 3 if the text isn't UTF-8. If the text can't be read, the call returns 4 and writes the position of the
-/// first byte that doesn't fit, counted from 1, to `position`.
+/// byte at which reading failed, counted from 1, to `position`. At an unknown word this is its first byte.
 pub(crate) fn path_from_message_text(text: &[u8], out: &mut Slot, position: &mut usize) -> u32 {
     // SAFETY: see the head of this file.
     unsafe { vlt_path_from_message_text(text.as_ptr(), text.len(), out, position) }
@@ -1071,7 +1071,7 @@ pub(crate) fn path_from_message_text(text: &[u8], out: &mut Slot, position: &mut
 /// three steps, and `.` is the root.
 ///
 /// Returns 3 if the text isn't UTF-8. If the text can't be read, the call returns 4 and writes the position of the
-/// first byte that doesn't fit, counted from 1, to `position`.
+/// byte at which reading failed, counted from 1, to `position`. At an unknown word this is its first byte.
 pub(crate) fn path_from_text(text: &[u8], out: &mut Slot, position: &mut usize) -> u32 {
     // SAFETY: see the head of this file.
     unsafe { vlt_path_from_text(text.as_ptr(), text.len(), out, position) }
@@ -1541,7 +1541,7 @@ pub(crate) fn mask_eq(one: &Slot, other: &Slot) -> u32 {
 /// protobuf's text format, for example `list { element_type { primitive { type: I32 } } }`.
 ///
 /// Returns 3 if the text isn't UTF-8. If the text can't be read, the call returns 4 and writes the position of the
-/// first byte that doesn't fit, counted from 1, to `position`.
+/// byte at which reading failed, counted from 1, to `position`. At an unknown word this is its first byte.
 pub(crate) fn message_from_text(text: &[u8], out: &mut Slot, position: &mut usize) -> u32 {
     // SAFETY: see the head of this file.
     unsafe { vlt_message_from_text(text.as_ptr(), text.len(), out, position) }

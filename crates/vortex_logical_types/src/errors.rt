@@ -40,7 +40,7 @@ pub fn of_library(error: VortexError) -> u32
 }
 
 /// Returns the number that an export returns for this error of the reader of the console. If a text can't be read, the
-/// number is 4, and the position of the first byte that doesn't fit, counted from 1, is written to `position`.
+/// number is 4, and the position of the byte at which reading failed, counted from 1, is written to `position`.
 pub fn of_console(error: &ConsoleError, position: &mut usize) -> u32
     ensures code { 4 ≤ result }
     ensures unchanged { (result ≡ 4) ⊎ (position.new ≡ position.old) }

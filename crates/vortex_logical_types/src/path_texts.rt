@@ -20,7 +20,7 @@ use std::str;
 /// three steps, and `.` is the root.
 ///
 /// Returns 3 if the text isn't UTF-8. If the text can't be read, the call returns 4 and writes the position of the
-/// first byte that doesn't fit, counted from 1, to `position`.
+/// byte at which reading failed, counted from 1, to `position`. At an unknown word this is its first byte.
 #[unsafe(no_mangle)]
 pub extern "C" fn vlt_path_from_text(
     alloc: Global,

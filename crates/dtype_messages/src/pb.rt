@@ -199,11 +199,13 @@ pub struct Variant {
 #[derive(Debug, PartialEq, Eq, Drop)]
 #[cycle(message)]
 pub struct Extension {
-    /// The id of the extension type. By this id a session finds the plugin that reads the metadata.
+    /// The id of the extension type. By this id a session finds the plugin that reads the metadata. If it finds none
+    /// and doesn't keep unknown ids, reading the message returns the error `ExtensionUnregistered` (35).
     pub id: String,
     /// The storage type. Reading an extension without a storage type returns the error `StorageMissing` (34).
     pub storage_dtype: Option<Box<DType>>,
-    /// The metadata. If it is missing, the message is read as if it contained empty metadata.
+    /// The metadata. If it is missing, the message is read as if it contained empty metadata. If the plugin doesn't
+    /// accept the metadata over the storage type, reading the message returns the error `MetadataRefused` (22).
     pub metadata: Option<Vec<u8>>,
 }
 

@@ -26,7 +26,8 @@
 //! - `values`: values, and which are values of which type.
 //! - `texts`: what is printed.
 //! - `equality`: when types are equal, and what they write to a hasher.
-//! - `formers`: how the containers of the fields of a struct and of the variants of a union contain types.
+//! - `formers`: which values the lists of the fields of a struct and of the variants of a union contain. A `DType`
+//!   contains other types through these lists, so the checker needs this to see a type as a tree.
 //!
 //! `laws` and `nullability_laws` state theorems about these definitions. `docs/TRUST.md` lists what is proved and what
 //! is only tested.

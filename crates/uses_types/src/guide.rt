@@ -136,7 +136,8 @@ pub fn read_keeping_unknown(alloc: Global, stored: &pb::DType) -> VortexResult<D
     DType::from_proto(alloc, stored, &session)
 }
 
-/// Returns the part of a stored schema that a query opens, or `None` if the schema lacks a column of the query.
+/// Returns the part of a stored schema that a query opens, or `None` if the query has no column, or one that the schema
+/// lacks.
 pub fn open_stored(
     alloc: Global,
     stored: &pb::DType,

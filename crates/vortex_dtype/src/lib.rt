@@ -14,8 +14,8 @@
 //!
 //! The definitions are in `specs/`:
 //! - `Typed`: what a vtable does.
-//! - `Meaning`: what a plugin and a session do with metadata (`keeps`), and of which types a session keeps all metadata
-//!   unchanged (`Admits`).
+//! - `Meaning`: what a plugin and a session do with metadata (`keeps`), and which types a session admits (`Admits`):
+//!   those whose metadata it keeps unchanged.
 //! - `Errors`: which errors plugins and sessions return.
 //! - `Calls`: a session after a list of calls.
 //! - `Reads`: the type that a message describes, and the faults of a message.

@@ -16,7 +16,8 @@ Form = namedtuple("Form", "name text imports warning loop", defaults=((),))
 Parts = namedtuple("Parts", "head clauses body")
 Written = namedtuple("Written", "kind name text")
 
-MODULES = {"AllByRecursion": "Rattle.std.specs.List", "IsAmong": "Rattle.vortex_dtype.specs.Names"}
+MODULES = {"AllByRecursion": "Rattle.std.specs.List", "IsAmong": "Rattle.vortex_dtype.specs.Names",
+           "after_steps": "Rattle.vortex_dtype.specs.PathPredicates"}
 PRELUDE = "Rattle.std.specs.Prelude"
 STATEMENT = re.compile(r"(?:if|match|for|while|loop|unsafe)\b|\{")
 ARM = re.compile(r"\s*=>\s*")
@@ -283,6 +284,24 @@ def loops(parts, _):
         yield Form("a `for` loop in place of a chain", parts._replace(body=parts.body[:begin] + loop + behind + rest), (), "", known)
 
 
+ZIPPED = re.compile(r"(?P<over>\w+\.fields\(\)\.zip\(\w+\.fields\(\)\))\.all\(\|\((?P<items>\w+, \w+)\)\| (?P<test>.*)\)", re.S)
+
+
+def zipped_loops(parts, _):
+    """A `for` loop in place of `all` over two structs side by side, of which nothing can be said."""
+    shape = shape_of(code_of(parts.body))
+    last = last_of_block(shape, 0)
+    found = last and ZIPPED.fullmatch(re.sub(r"\s*\n\s*", "", parts.body[slice(*last)]))
+    if found:
+        loop = (f"for ({found['items']}) in {found['over']} {{\n        if !({found['test']}) {{\n            return false;\n"
+                f"        }}\n    }}\n    true")
+        changed = parts._replace(body=parts.body[:last[0]] + loop + parts.body[last[1]:])
+        by_recursion = next(of_each(changed, _), None) if words(" ".join(it.text for it in parts.clauses), "All") else None
+        known = (f"{found['items'].split(',')[0]}-iterator", *re.findall(r"(\w+): ", parts.head.partition("(")[2]))
+        yield Form("a `for` loop in place of a chain", by_recursion.text if by_recursion else changed,
+                   by_recursion.imports if by_recursion else (), "", known)
+
+
 def is_slice(head, over):
     """Whether a chain goes over a parameter that is a slice, or over the steps of a path."""
     name = re.match(r"(\w+)\.(?:iter|parts)\(\)$", over)
@@ -367,6 +386,31 @@ def of_each(parts, _):
             yield Form("`IsAmong` in place of `Contains`", changed, ("IsAmong",), "")
 
 
+def trees_of_each(parts, _):
+    """What is said of each tree of a slice of types, said of each type."""
+    def of_types(text):
+        for found in re.finditer(r"(?<![\w.])(?:All|AllByRecursion|Any|list_any|count_by|find|position) ", text):
+            end = atom_at(text, found.end())
+            over = re.match(r" \(map tree (\w+\.\w+)\)", text[end:])
+            if over:
+                said = text[found.end():end]
+                bound = re.fullmatch(r"\(λ (\w+)\. (.*)\)", said, re.S) or ("", "d", f"{said} d")
+                inner = re.sub(rf"(?<![\w.]){bound[1]}(?![\w'])", f"(tree {bound[1]})", bound[2])
+                return f"{text[:found.end()]}(λ {bound[1]}. {inner}) {over[1]}{text[end + over.end():]}"
+        return text
+    if changed := with_clauses(parts, of_types):
+        yield Form("`P (tree d)` of each type in place of `P` of each of their trees", changed, (), "")
+
+
+def below_a_path(parts, _):
+    """What a cursor contains after a path, as an equation in place of a statement about each path."""
+    each = (r"\((\w+) : List Field\) → contains_below (\w+(?:\.now)?) \1 ≡ set\.contains (\w+\.now) "
+            r"\((\w+\.now) \+\+ \1\)")
+    equation = lambda text: re.sub(each, r"contains_below \2 ≡ after_steps \4 (set.contains \3)", text)
+    if changed := with_clauses(parts, equation):
+        yield Form("an equation by `after_steps` in place of one for each path", changed, ("after_steps",), "")
+
+
 def negations(parts, _):
     def plain(text):
         while found := re.search(r"¬ ", text):
@@ -435,7 +479,8 @@ def outside(text):
 
 
 CODE = (tail_calls, split_options, named_bindings, matched_closures, positions, compared_values, branches)
-CLAUSES = (of_none, of_each, negations, conjunctions, premises)
+LOOPS = (loops, zipped_loops)
+CLAUSES = (of_none, of_each, trees_of_each, below_a_path, negations, conjunctions, premises)
 
 
 def returned_by(parts):
@@ -444,18 +489,13 @@ def returned_by(parts):
 
 def forms_of(text):
     """The forms of a function, each a single edit, and then all edits of its code, and these with those of its clauses
-    that ask no more of a caller and promise no less."""
+    that ask no more of a caller and promise no less, and at last these with a premise that each caller has to show."""
     parts = parts_of(text)
-    single = [form for make in CODE + (loops,) + CLAUSES for form in make(parts, returned_by(parts))]
-    together = []
-    for makers in (CODE, CODE + CLAUSES):
-        changed, names, imports = parts, [], []
-        for make in makers:
-            form = next((it for it in make(changed, returned_by(changed)) if not it.warning), None)
-            if form:
-                changed, names, imports = form.text, names + [form.name], imports + list(form.imports)
-        if len(names) > 1:
-            together.append(Form(", ".join(names), changed, tuple(imports), ""))
+    single = [form for make in CODE + LOOPS + CLAUSES for form in make(parts, returned_by(parts))]
+    as_it_is = Form("", parts, (), "")
+    together = [all_of(as_it_is, CODE), all_of(as_it_is, CODE + CLAUSES)]
+    together += [all_of(it, makers) for it in premises(parts, returned_by(parts)) for makers in (CODE, CODE + CLAUSES)]
+    together = [it for it in together if ", " in it.name]
     found, seen = [], {text_of_parts(parts)}
     for it in single + together:
         form = it._replace(text=text_of_parts(it.text))
@@ -463,6 +503,16 @@ def forms_of(text):
             seen.add(form.text)
             found.append(form)
     return found
+
+
+def all_of(form, makers):
+    """A form with the forms of these besides that ask no more of a caller and promise no less."""
+    for make in makers:
+        more = next((it for it in make(form.text, returned_by(form.text)) if not it.warning), None)
+        if more:
+            form = form._replace(name=f"{form.name}{', ' * bool(form.name)}{more.name}", text=more.text,
+                                 imports=(*form.imports, *more.imports))
+    return form
 
 
 def module_of_word(word):

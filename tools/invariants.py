@@ -13,15 +13,19 @@ from repository import code_of, shape_of
 
 COMMON = "Rattle.std.proofs.Common"
 # A loop: its variable, what a clause calls all that it goes over, what an invariant calls all of it, what of it is done
-# (None if the loop doesn't tell) and what is left.
+# (None if no term tells) and what is left.
 Loop = namedtuple("Loop", "variable all whole done rest")
 EXTRA = {"take": COMMON, "drop": COMMON, "map": COMMON, "length": COMMON, "with_trees": "Rattle.vortex_dtype.specs.TreeOf",
          "tree": "Rattle.vortex_dtype.specs.TreeOf", "children": "Rattle.vortex_dtype.specs.TreeOf",
          "into_iter_items": "Rattle.std.specs.Vec.Iter", "field_names": "Rattle.vortex_dtype.specs.Lookups",
          "field_types": "Rattle.vortex_dtype.specs.Lookups", "◌++◌": COMMON, "◌+◌": COMMON, "◌<◌": COMMON,
-         "◌^◌": COMMON, "◌≡◌": COMMON, "◌↔◌": COMMON}
-# A definition of a skeleton with a hole, or with what the toolchain knows of a loop by itself.
-HOLE = re.compile(r"(?m)^((?:invariant|decreases)-\S+) l =(?: \?|(?:\n {4}.*)+)$")
+         "◌^◌": COMMON, "◌≡◌": COMMON, "◌↔◌": COMMON, "zip_first": "Rattle.std.specs.Iterator.Adapters",
+         "zip_second": "Rattle.std.specs.Iterator.Adapters", "contains_below": "Rattle.vortex_dtype.specs.Cursors"}
+# A definition of a skeleton with a hole, or with what the toolchain knows of a loop by itself. In a function that takes a
+# session it has one argument more.
+HOLE = re.compile(r"(?m)^((?:invariant|decreases)-\S+)((?: \w+)* l) =(?: \?|(?:\n {4}.*)+)$")
+# Words that go from a start along a list, each with what its start is made of and whether the start comes first.
+WALKS = {"along": ("tree", True), "merged_all": ("tree", True), "after_steps": ("contains_below", False)}
 OPERATORS = {"≡": "◌≡◌", "↔": "◌↔◌", "++": "◌++◌", "+": "◌+◌", "<": "◌<◌", "^": "◌^◌", "∷": "◌∷◌", "≤": "◌≤◌", "[]": "[]"}
 
 
@@ -36,21 +40,28 @@ def loop_of(text, known):
     method = over[over.index(name) + len(name):]
     index = next((it for it in known if it.endswith("-index")), None)
     iterator = next((it for it in known if it.endswith("-iterator")), None)
-    whole = f"l.{name}"
+    whole = at(name, known)
     if index and method in ("", ".iter()", ".parts()", ".as_slice()"):
+        # (a list of the function itself has a name that the loop gives it)
+        is_own = not {name, f"fn.{name}"} & set(known) and f"{index[:-6]}-items" in known
+        whole = f"l.{index[:-6]}-items" if is_own else whole
         return Loop(index[:-6], f"{name}.now", whole, f"(take l.{index} {whole})", f"(drop l.{index} {whole})")
     if not iterator:
         return None
     rest = f"l.{iterator}"
-    over = {".fields()": (f"field_types (children {name}.now)", f"field_types (children {whole})", f"(map tree {rest})"),
-            ".pairs()": (f"children {name}.now", f"children {whole}", f"(with_trees {rest})"),
-            ".names().iter()": (f"field_names (children {name}.now)", f"field_names (children {whole})", rest),
-            ".iter()": (f"{name}.now", whole, rest)}
-    if method in over:
-        return Loop(iterator[:-9], *over[method][:2], None, over[method][2])
-    if method == "":
-        return Loop(iterator[:-9], f"{name}.items", f"{whole}.items", None, f"(into_iter_items {rest})")
-    return None
+    if zipped := re.fullmatch(r"(\w+)\.fields\(\)\.zip\((\w+)\.fields\(\)\)", over):
+        both = lambda one, other: f"zip ({one}) ({other})"
+        return Loop(iterator[:-9], both(*(f"field_types (children {it}.now)" for it in zipped.groups())),
+                    both(*(f"field_types (children {at(it, known)})" for it in zipped.groups())), None,
+                    f"({both(*(f'map tree (zip_{it} {rest})' for it in ('first', 'second')))})")
+    yielded = "(map (λ x. x.now) l.yielded)"
+    over = {".fields()": (f"field_types (children {name}.now)", f"field_types (children {whole})",
+                          "(map (λ d. tree d.now) l.yielded)", f"(map tree {rest})"),
+            ".pairs()": (f"children {name}.now", f"children {whole}", None, f"(with_trees {rest})"),
+            ".names().iter()": (f"field_names (children {name}.now)", f"field_names (children {whole})", yielded, rest),
+            ".iter()": (f"{name}.now", whole, yielded, rest),
+            "": (f"{name}.items", f"{whole}.items", "l.yielded", f"(into_iter_items {rest})")}
+    return Loop(iterator[:-9], *over[method]) if method in over else None
 
 
 def names_in(text, name, skeleton):
@@ -61,9 +72,16 @@ def names_in(text, name, skeleton):
 
 
 def names_of(lines):
-    """The fields of `l` that an invariant can name."""
-    found = re.search(r"\| l: (.*)", lines)
-    return re.findall(r"\.([\w-]+)", re.sub(r"\{[^}]*\}", "", found[1])) if found else []
+    """The fields of `l` that an invariant can name. What was passed of a parameter is `fn.x`."""
+    fields = lambda it: re.findall(r"\.([\w-]+)", re.sub(r"\{[^}]*\}", "", it))
+    found = [name for it in re.findall(r"(?m)\| l: (.*)$", lines) for name in fields(it)]
+    found += [it for it in re.findall(r"(?m)\| l\.([\w-]+):", lines) if it not in ("initial", "fn")]
+    return found + [f"fn.{name}" for it in re.findall(r"(?m)\| l\.fn: (.*)$", lines) for name in fields(it)]
+
+
+def at(name, known):
+    """What an invariant calls a parameter: one that the function moves is as it was passed."""
+    return f"l.fn.{name}" if name not in known and f"fn.{name}" in known else f"l.{name}"
 
 
 def collected(parts):
@@ -91,7 +109,8 @@ def said_of(clause, variable, around):
 def in_invariant(text, known):
     """A clause with the parameters as an invariant names them."""
     return re.sub(r"(?<![\w.])(\w+)\.(now|items)\b",
-                  lambda it: f"l.{it[1]}" + ("" if it[2] == "now" else ".items") if it[1] in known else it[0], text)
+                  lambda it: at(it[1], known) + ("" if it[2] == "now" else ".items")
+                  if it[1] in known or f"fn.{it[1]}" in known else it[0], text)
 
 
 def statements(text, known):
@@ -103,14 +122,87 @@ def statements(text, known):
         return []
     found = []
     said = [it for it in (said_of(clause, variable, around) for clause in ensured) if it] if variable in known else []
+    so_far = []
     if said and loop.done:
-        so_far = [in_invariant(it.replace(loop.all, loop.done), known) for it in said]
-        found.append(" × ".join(f"({it})" for it in so_far) if len(so_far) > 1 else so_far[0])
-    for clause in said:
-        found += equations(clause, loop, known)
+        each = [in_invariant(it.replace(f"({loop.all})", loop.all).replace(loop.all, loop.done), known) for it in said]
+        so_far.append(" × ".join(f"({it})" for it in each) if len(each) > 1 else each[0])
+    equal = [it for clause in said for it in equations(clause, loop, known)]
+    # (a count has to be shown to fit)
+    found += equal + so_far if any(it.startswith("record") for it in equal) else so_far + equal
+    if loop.whole.endswith("-items") and variable in known:
+        found = copied(ensured, variable, loop) + found
     for clause in ensured:
-        found += found_early(clause, loop, known)
+        found += found_early(clause, loop, known) + walks(clause, loop, parts, known) + changed_in_place(clause, loop, known)
+    found += of_what_is_made(parts, ensured, loop, known)
     return list(dict.fromkeys(found))
+
+
+def copied(ensured, variable, loop):
+    """That what is collected is what was gone over, in the form in which the clauses have what is collected."""
+    forms_of_it = re.findall(r"map (\w+) \(?\w+\.items", " ".join(ensured))
+    left = f"map {forms_of_it[0]} l.{variable}.items" if forms_of_it else f"l.{variable}.items"
+    return [f"{left} ≡ {it}" for it in (loop.done.strip("()"), f"map (λ x. x.now) {loop.done}", f"map tree {loop.done}")]
+
+
+def changed_in_place(clause, loop, known):
+    """What a clause says of a parameter that the loop changes: of what it is now, from what was passed."""
+    about = re.fullmatch(r"OnOk result \((.*)\)", clause)
+    said = about[1] if about else clause
+    if not re.search(r"(?<![\w.])\w+\.new\b", said) or re.search(r"(?<![\w.])result(?![\w'])", said):
+        return []
+    said = re.sub(r"(?<![\w.])(\w+)\.old\b", r"l.fn.\1", re.sub(r"(?<![\w.])(\w+)\.new\b", r"l.\1", said))
+    if loop.all not in said:
+        return [in_invariant(said, known)]
+    left = re.fullmatch(r"(l\.\w+) ≡ (.*)", said)
+    collected = left and re.search(r"\(?set_of (?:\([^()]*\)|[\w.]+)\)?", left[2])
+    if not collected or loop.all not in collected[0]:
+        return []
+    rest = collected[0].strip("()") if collected[0].count("(") != collected[0].count(")") else collected[0]
+    rest = rest if rest.startswith("(") else f"({rest})"
+    now, whole = rest.replace(loop.all, loop.rest), left[2].replace(loop.all, loop.whole)
+    return [in_invariant(f"set.union {left[1]} {now} ≡ {whole}", known)]
+
+
+def walks(clause, loop, parts, known):
+    """What a walk along the rest comes to from what a variable is now, is what it comes to along all from the start."""
+    found = []
+    for it in re.finditer(rf"(?<![\w.])({'|'.join(WALKS)}) ", clause):
+        (made_of, is_first), first = WALKS[it[1]], clause[it.end():it.end() + 1]
+        end = forms.atom_at(clause, it.end())
+        second = forms.atom_at(clause, end + 1) if clause[end:end + 1] == " " else None
+        if not first or second is None:
+            continue
+        start, over = (clause[it.end():end], clause[end + 1:second])[::1 if is_first else -1]
+        if loop.all not in over:
+            continue
+        start, over = in_invariant(start, known), over.replace(loop.all, "ALL")
+        for variable in re.findall(r"let mut (\w+)", parts.body):
+            now = f"({made_of} l.{variable})"
+            both = lambda one, other: f"{it[1]} {one} {other}" if is_first else f"{it[1]} {other} {one}"
+            found.append(f"{both(now, over.replace('ALL', loop.rest))} ≡ {both(start, over.replace('ALL', loop.whole))}")
+    return found
+
+
+def of_what_is_made(parts, ensured, loop, known):
+    """What is said of the types of a struct that is made of a list, said of the list that the loop collects."""
+    made = re.search(r"StructFields::new\(\w+, (\w+)(?:\.\w+\(\w*\)\??)?, (\w+)\)\??\)?\s*\}\s*\Z", parts.body)
+    if not made or made[2] not in known:
+        return []
+    found = []
+    for clause in ensured:
+        about = re.fullmatch(r"IfOk result \(λ (\w+)\. (.*)\)", clause)
+        if not about or f"field_types (children {about[1]})" not in about[2]:
+            continue
+        said = about[2].replace(f"(field_types (children {about[1]}))", f"field_types (children {about[1]})")
+        list_of = f"map tree l.{made[2]}.items"
+        said = re.sub(rf"(?<=[\w)] )field_types \(children {about[1]}\)", f"({list_of})", said)
+        said = said.replace(f"field_types (children {about[1]})", list_of)
+        if re.search(rf"(?<![\w.]){about[1]}(?![\w'])", said):
+            continue
+        found += equations(said, loop, known)
+        if " ≡ " not in said:
+            found.append(in_invariant(said, known))
+    return found
 
 
 def equations(clause, loop, known):
@@ -173,14 +265,21 @@ def guesses(text, file_text, skeleton, names):
     holes = list(HOLE.finditer(skeleton))
     if len(holes) != 1 or not holes[0][1].startswith("invariant-loop-"):
         return []
-    name, found = holes[0][1], []
+    name, arguments, found = holes[0][1], holes[0][2], []
     for it in statements(text, names_of(names[name]) if name in names else names_in(text, name, skeleton)):
-        head, _, rest = (skeleton[:holes[0].start()] + f"{name} l = ?\n").partition("\n\n")
+        head, _, rest = (skeleton[:holes[0].start()] + f"{name}{arguments} = ?\n").partition("\n\n")
         lines = imports(it, file_text, head)
+        it = of_plugins(it) if arguments != " l" else it
         last = next((n for n, line in enumerate(head.split("\n")) if line.endswith(" as goal")), 0)
         head = "\n".join([*head.split("\n")[:last], *lines, *head.split("\n")[last:]])
-        found.append(f"{head}\n\n{rest.replace('l = ?', 'l = ' + it)}")
+        found.append(f"{head}\n\n{rest.replace(' l = ?', ' l = ' + it)}")
     return found
+
+
+def of_plugins(statement):
+    """A statement about sessions, with what a boxed plugin does as an invariant names it."""
+    does = "(λ b. (goal.ExtDTypePlugin-dyn g (b.vtable, b.value)).rewrites b.value)"
+    return re.sub(r"(?<![\w.])meaning (?:rewrites|\(λ b\. rewrites \(b\.vtable, b\.value\)\))(?![\w'])", f"meaning {does}", statement)
 
 
 def guesses_of_form(form, file_text, crate, path):
@@ -197,4 +296,4 @@ def skeleton(text, names):
         known = names_of(names.get(it[1], ""))
         said = f"-- what is true before each turn, by {', '.join('l.' + name for name in known)}\n" if known else ""
         return f"{said}{it[0]}"
-    return re.sub(r"(?m)^abbrev pub (\S+) :.*\n\1 l =", commented, text)
+    return re.sub(r"(?m)^abbrev pub (\S+) :.*\n\1(?: \w+)* l =", commented, text)

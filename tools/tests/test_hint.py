@@ -30,9 +30,24 @@ pub fn type_at<'a>(path: &FieldPath, schema: &'a DType) -> Option<&'a DType>
     path.resolve(schema)
 }
 """
-# An `rt` that proves each function in whose text, with the lines above it, one of these words is.
+# A loop, and an invariant of it that nothing proves.
+LISTED = """
+/// The set of the paths of a list.
+pub fn listed(alloc: Global, paths: Vec<FieldPath>) -> VortexResult<FieldPathSet>
+    ensures { IfOk result (λ s. s ≡ set_of paths.items) }
+{
+    let mut found = FieldPathSet::new(alloc);
+    for path in paths {
+        found.insert(path)?;
+    }
+    Ok(found)
+}
+"""
+WRONG = "use Rattle.schemas.proofs.listed.Given as goal\n\nabbrev pub invariant-loop-path : goal.invariant-loop-path\ninvariant-loop-path l = l.nothing\n"
+# An `rt` that proves each function in whose text, with the lines above it and its invariant, one of these words is. Of a
+# loop without an invariant it says what to write.
 PROVER = '''
-import glob, re, sys
+import glob, os, re, sys
 if sys.argv[1] != "check":
     sys.exit()
 for file in sorted(glob.glob("src/*.rt")):
@@ -40,7 +55,19 @@ for file in sorted(glob.glob("src/*.rt")):
     module = "" if file == "src/lib.rt" else file[4:-3] + "::"
     for it in re.finditer(r"((?:#\\[.*\\n)*)pub fn (\\w+)[^\\n]*(?:\\n(?!}\\n).*)*", text):
         name = f"schemas::{module}{it[2]}"
-        if any(word in it[0] for word in WORDS):
+        file_of_loop = f"proofs/{it[2]}/Invariants.antt"
+        has_file = os.path.exists(file_of_loop)
+        if " for " in it[0] and not has_file:
+            print(f"fn {name}: no proof: expected {file_of_loop}")
+            print(f"help: write ./{file_of_loop} with these lines, and check again")
+            print(f"    use Rattle.schemas.proofs.{it[2]}.Given as goal")
+            print("    ")
+            print("    abbrev pub invariant-loop-path : goal.invariant-loop-path")
+            print("    invariant-loop-path l = ?")
+            print(f"note: `invariant-loop-path` of {file_of_loop} is yours to choose")
+            print("  | l: .found, .yielded, .path-iterator")
+            print("  | l.fn: .paths {.items}")
+        elif any(word in it[0] + (open(file_of_loop, encoding="utf-8").read() if has_file else "") for word in WORDS):
             print(f"fn {name}: no holes")
         else:
             print(f"fn {name}: no proof: expected answers in ./proofs/x/Answers.antt; `search` did not prove `returns-clause-x`")
@@ -93,6 +120,35 @@ class Hint(Planted):
         self.assertRegex(said, r"type_at: nothing of \d+ tries proves it\n")
         self.assertIn("    open: `x` must show Valid (tree resolve(..))\n", said)
         self.assertEqual((status, said.splitlines()[-1]), (1, "0 proved as written, 0 with an edit, 1 open"))
+
+    def test_an_invariant_that_proves_is_printed(self):
+        status, said = self.hint(HEAD + LISTED, ["set_of l.yielded"])
+        self.assertIn("listed: proved:\n    + proofs/listed/Invariants.antt:\n", said)
+        self.assertIn("      invariant-loop-path l = l.found ≡ set_of l.yielded\n", said)
+        self.assertEqual(status, 0)
+
+    def test_an_invariant_of_ones_own_that_does_not_prove_is_replaced(self):
+        self.write(f"{CRATE}/proofs/listed/Invariants.antt", WRONG)
+        status, said = self.hint(HEAD + LISTED, ["set_of l.yielded"])
+        self.assertIn("      invariant-loop-path l = l.found ≡ set_of l.yielded\n", said)
+        self.assertEqual((status, self.read(f"{CRATE}/proofs/listed/Invariants.antt")), (0, WRONG))
+
+    def test_an_invariant_of_ones_own_that_wants_a_ruleset_is_kept(self):
+        self.write(f"{CRATE}/proofs/listed/Invariants.antt", WRONG)
+        _, said = self.hint(HEAD + LISTED, ["rulesets::covering"])
+        self.assertIn("listed: proved:\n    + #[tactic(auto, using(vortex_dtype::proofs::rulesets::covering))]\n", said)
+
+    def test_it_ends_when_the_time_is_over(self):
+        status, said = self.hint(HEAD + TYPE_AT, ["nothing proves"], "--minutes", "0")
+        self.assertIn("hint: the time is over (--minutes) for type_at\n", said)
+        self.assertRegex(said, r"type_at: nothing of \d+ tries proves it\n")
+        self.assertEqual(status, 1)
+
+    def test_nothing_more_is_tried_of_what_is_proved(self):
+        _, said = self.hint(HEAD + TYPE_AT, ["rulesets::types_along"], "--jobs", "1")
+        self.assertEqual(said.count("hint: trying them: done"), said.count("hint: trying 6 copies of type_at\n"))
+        _, whole = self.hint(HEAD + TYPE_AT, ["nothing proves"], "--jobs", "1")
+        self.assertLess(said.count("trying them"), whole.count("trying them"))
 
     def test_what_is_proved_is_not_tried(self):
         status, said = self.hint(HEAD + TYPE_AT, ["fn type_at"])
@@ -154,6 +210,32 @@ class Forms(unittest.TestCase):
         self.assertIn("match a.g() {\n        Some(b) => Some(b.h()),\n        None => None,\n    }",
                       form(text, "a `match` in place of a closure around an option"))
 
+    def test_each_type_in_place_of_each_tree(self):
+        text = "fn f(a: &[DType]) -> bool\n    ensures { IsTrue result ↔ AllByRecursion (λ t. P t × Q t.0) (map tree a.now) }\n{\n    g(a)\n}"
+        self.assertIn("AllByRecursion (λ t. P (tree t) × Q (tree t).0) a.now",
+                      form(text, "`P (tree d)` of each type in place of `P` of each of their trees"))
+
+    def test_what_a_cursor_contains_below_a_path(self):
+        text = ("fn f(s: &S, p: &P) -> Option<C>\n    ensures { IfSome result (λ c. (q : List Field) → contains_below c q ≡ "
+                "set.contains s.now (p.now ++ q)) }\n{\n    g(s)\n}")
+        self.assertIn("IfSome result (λ c. contains_below c ≡ after_steps p.now (set.contains s.now))",
+                      form(text, "an equation by `after_steps` in place of one for each path"))
+
+    def test_all_over_two_structs_becomes_a_loop(self):
+        text = ("fn f(a: &StructFields, b: &StructFields) -> bool\n    ensures { IsTrue result ↔ All (λ p. P p) "
+                "(zip (field_types (children a.now)) (field_types (children b.now))) }\n{\n"
+                "    a.fields().zip(b.fields()).all(|(x, y)| g(x, y))\n}")
+        made = next(it for it in forms.forms_of(text) if it.loop)
+        self.assertIn("    for (x, y) in a.fields().zip(b.fields()) {\n        if !(g(x, y)) {\n            return false;\n", made.text)
+        self.assertIn("AllByRecursion (λ p. P p)", made.text)
+        self.assertIn("(zip (map tree (zip_first l.x-iterator)) (map tree (zip_second l.x-iterator))) ↔ AllByRecursion (λ p. P p) (zip ",
+                      invariants.guesses_of_form(made, "", "shop", "schemas::f")[0])
+
+    def test_a_premise_that_each_caller_has_to_show_with_a_form_of_the_code(self):
+        text = "fn f(a: &A) -> VortexResult<B>\n    ensures { Valid (tree a.now) → IfOk result (λ b. P b) }\n{\n    g(a)\n}"
+        made = next(it for it in forms.forms_of(text) if it.warning and ", " in it.name)
+        self.assertIn("    requires { Valid (tree a.now) }\n    ensures { IfOk result (λ b. P b) }\n{\n    Ok(g(a)?)\n}", made.text)
+
     def test_what_has_no_other_form(self):
         self.assertEqual(forms.forms_of("fn f(a: &A) -> bool\n    ensures { IsTrue result }\n{\n    true\n}"), [])
 
@@ -186,6 +268,52 @@ class Invariants(unittest.TestCase):
         file = invariants.guesses(text, "", skeleton, {})[0]
         self.assertIn("invariant-loop-d l = record {\n  all : l.count + count_by is_nested (map tree l.d-iterator) ≡", file)
         self.assertNotIn("can_next", file)
+
+    def test_a_walk_along_a_list(self):
+        text = ("fn f(s: &FieldPathSet, path: &FieldPath) -> Option<C>\n"
+                "    ensures { contains_below_if result ≡ after_steps path.now (set.contains s.now) }\n{\n"
+                "    let mut cursor = s.cursor();\n    for step in path.parts() {\n        cursor = g(cursor);\n    }\n    Some(cursor)\n}")
+        self.assertIn("after_steps (drop l.step-index l.path) (contains_below l.cursor) ≡ after_steps l.path (set.contains l.s)",
+                      invariants.statements(text, ["s", "path", "cursor", "step-index"]))
+
+    def test_the_types_of_a_struct_that_is_made_of_a_list(self):
+        text = ("fn f(alloc: Global, t: &StructFields) -> VortexResult<StructFields>\n"
+                "    ensures { IfOk result (λ s. All IsNullable (field_types (children s))) }\n{\n"
+                "    let names = t.names().try_clone(alloc)?;\n    let mut dtypes = Vec::new(alloc);\n"
+                "    for d in t.fields() {\n        dtypes.push(g(d)?)?;\n    }\n    StructFields::new(alloc, names, dtypes)\n}")
+        self.assertEqual(invariants.statements(text, ["t", "names", "dtypes", "d-iterator"]),
+                         ["All IsNullable (map tree l.dtypes.items)"])
+
+    def test_an_invariant_beside_a_session_has_an_argument_more(self):
+        text = ("fn f(s: &DTypeSession, xs: &[A]) -> VortexResult<Vec<B>>\n    ensures { IfOk result (λ v. map Some v.items ≡ map g xs.now) }\n"
+                "{\n    let mut found = Vec::new(alloc);\n    for x in xs {\n        found.push(h(x))?;\n    }\n    Ok(found)\n}")
+        skeleton = "use Rattle.shop.proofs.f.Given as goal\n\nabbrev pub invariant-loop-x : goal.invariant-loop-x\ninvariant-loop-x g l = ?\n"
+        self.assertIn("invariant-loop-x g l = map Some l.found.items ≡ map g (take l.x-index l.xs)\n",
+                      invariants.guesses(text, "", skeleton, {})[0])
+
+    def test_a_session_that_a_loop_changes(self):
+        text = ("fn f(s: &mut DTypeSession, ps: Vec<Box<dyn ExtDTypePlugin>>) -> VortexResult<()>\n"
+                "    ensures { (meaning rewrites s.new).unknown ≡ (meaning rewrites s.old).unknown }\n{\n"
+                "    for p in ps {\n        s.register(p)?;\n    }\n    Ok(())\n}")
+        skeleton = "use Rattle.shop.proofs.f.Given as goal\n\nabbrev pub invariant-loop-p : goal.invariant-loop-p\ninvariant-loop-p g l = ?\n"
+        known = {"invariant-loop-p": "  | l: .yielded\n  | l.s: .plugins\n  | l.p-iterator: .rest\n  | l.fn: .s {.plugins}, .ps {.items}"}
+        does = "(λ b. (goal.ExtDTypePlugin-dyn g (b.vtable, b.value)).rewrites b.value)"
+        self.assertIn(f"invariant-loop-p g l = (meaning {does} l.s).unknown ≡ (meaning {does} l.fn.s).unknown\n",
+                      invariants.guesses(text, "", skeleton, known)[0])
+
+    def test_a_loop_over_a_list_that_was_passed_has_what_it_yielded(self):
+        text = ("fn f(alloc: Global, ps: Vec<FieldPath>) -> VortexResult<FieldPathSet>\n"
+                "    ensures { IfOk result (λ s. s ≡ set_of ps.items) }\n{\n    let mut found = FieldPathSet::new(alloc);\n"
+                "    for p in ps {\n        found.insert(p)?;\n    }\n    Ok(found)\n}")
+        self.assertEqual(invariants.statements(text, ["found", "yielded", "p-iterator", "fn.ps"]),
+                         ["l.found ≡ set_of l.yielded", "set.union l.found (set_of (into_iter_items l.p-iterator)) ≡ set_of l.fn.ps.items"])
+
+    def test_a_loop_over_a_list_of_its_own(self):
+        text = ("fn f(alloc: Global, s: &S) -> VortexResult<Vec<String>>\n"
+                "    ensures { IfOk result (λ v. P s.now (map string_bytes v.items)) }\n{\n    let known = s.ids()?;\n"
+                "    let mut found = Vec::new(alloc);\n    for id in &known {\n        found.push(g(id)?)?;\n    }\n    Ok(found)\n}")
+        self.assertIn("map string_bytes l.found.items ≡ map (λ x. x.now) (take l.id-index l.id-items)",
+                      invariants.statements(text, ["id-items", "id-index", "s", "found"]))
 
     def test_a_chain_that_collects_becomes_a_loop_with_its_invariant(self):
         text = ("fn f(alloc: Global, xs: &[A]) -> VortexResult<Vec<B>>\n"

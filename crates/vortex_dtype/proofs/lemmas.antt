@@ -6,6 +6,7 @@ pub mod Reads
 pub mod InOrder
 pub mod Written
 pub mod PathMessages
+pub mod Prefixes
 pub mod Reading
 pub mod Compared
 pub mod Differences

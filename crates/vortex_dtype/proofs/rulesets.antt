@@ -22,7 +22,7 @@ pub use Rattle.dtype_paths.proofs.lemmas.Covering.{count_bounds, counting, cover
 pub use Rattle.dtype_paths.proofs.lemmas.LentPaths.{lent_paths}
 pub use Rattle.dtype_paths.proofs.lemmas.MaskLists.{mask_lists}
 pub use Rattle.dtype_paths.proofs.lemmas.PathsBelow.{set_cursors, walked_cursors}
-pub use Rattle.dtype_paths.proofs.lemmas.Stepping.{beginnings, stepped_masks, stepping, types_along}
+pub use Rattle.dtype_paths.proofs.lemmas.Stepping.{stepped_masks, stepping, types_along}
 pub use Rattle.dtype_paths.proofs.lemmas.Unresolved.{unresolved_paths}
 pub use Rattle.dtype_projection.proofs.lemmas.Projecting.{projecting, projecting_one}
 -- of vortex_dtype: sessions; and what callers of the crates below need and their own proofs don't: names that are among
@@ -37,6 +37,7 @@ use Rattle.dtype_base.proofs.lemmas.Lookups.{lookups as name_lookups, few_compar
 use Rattle.dtype_messages.proofs.lemmas.Equality.{equality as message_equality, dtype_Decides}
 use Rattle.dtype_messages.proofs.lemmas.Names.{names}
 use Rattle.dtype_messages.proofs.lemmas.Numbers.{numbers}
+use Rattle.dtype_paths.proofs.lemmas.Stepping.{beginnings as prefixes}
 use Rattle.dtype_projection.proofs.lemmas.Above.{above}
 use Rattle.dtype_types.proofs.lemmas.DistinctFields.{distinct_fields as fields_distinct}
 use Rattle.dtype_types.proofs.lemmas.Equality.{equality as type_equality}
@@ -54,10 +55,11 @@ use Rattle.vortex_dtype.proofs.lemmas.InOrder.{read_reads, reads_once, reads_rea
 use Rattle.vortex_dtype.proofs.lemmas.Intersected.{given_values_of_both, values_of_both}
 use Rattle.vortex_dtype.proofs.lemmas.NamesAmong.{among_before, among_behind, distinct_removed, few_variants, removed_not_among, some_variants, tag_at_is_among, unnamed_not_among, unplaced_not_among}
 use Rattle.vortex_dtype.proofs.lemmas.PathMessages.{missing_part, no_path, path_root, path_steps, same_path_names, steps_by_names}
+use Rattle.vortex_dtype.proofs.lemmas.Prefixes.{begins_first, first_begins}
 use Rattle.vortex_dtype.proofs.lemmas.Reading.{reading}
 use Rattle.vortex_dtype.proofs.lemmas.Reads.{copy_accepted, fault_none, fault_refused, normal_again, other_nullability, read_alike, reads_accepted, refused_faulty, same_normal, unread_refused, written_accepted, written_normal, written_read}
 use Rattle.vortex_dtype.proofs.lemmas.Registered.{keeps_nothing, keeps_other, keeps_registered, keeps_unknown, keeps_unless_unknown}
-use Rattle.vortex_dtype.proofs.lemmas.Sessions.{admits-set_null, admits_allow_unknown_in, admits_extension, admits_field, admits_fields_appended, admits_more, admits_one_more, flag_allow_unknown_in, flag_register_in, kept_allow_unknown_in, keeps_again, keeps_outer, others_register_in, registered_allow_unknown_in, registered_before, registered_empty_meaning, registered_register_in, unknown_empty_meaning, unknown_kept_after_allowing, unknown_register_in, unrefused}
+use Rattle.vortex_dtype.proofs.lemmas.Sessions.{admits-set_null, admits_allow_unknown_in, admits_extension, admits_field, admits_fields_appended, admits_more, admits_one_more, flag_allow_unknown_in, flag_register_in, kept_allow_unknown_in, keeps_again, keeps_outer, others_register_in, registered_allow_unknown_in, registered_before, registered_empty_meaning, registered_register_in, unknown_empty_meaning, unknown_kept_after_allowing, unknown_register_in, unrefused, unregistered_allow_unknown_in}
 use Rattle.vortex_dtype.proofs.lemmas.Widened.{merged_nullable}
 use Rattle.vortex_dtype.proofs.lemmas.Written.{written_is}
 
@@ -104,10 +106,13 @@ pub ruleset read_messages = (read_reads, reads_read, refused_faulty, fault_refus
 
 pub ruleset written_messages = (written_read, written_accepted, written_normal, written_is, same_normal, normal_again, other_nullability, dtype_Decides)
 
+-- that a path is a prefix of another, also that it begins with a step
+pub ruleset beginnings = (prefixes, first_begins, begins_first)
+
 pub ruleset path_messages = (steps_by_names, path_steps, path_root, same_path_names, no_path, missing_part, names)
 
 -- `sessions` by question: what is registered and allowed; what is kept; what is admitted
-pub ruleset registrations = (registered_register_in, others_register_in, registered_before, unknown_register_in, flag_register_in, registered_allow_unknown_in, unknown_kept_after_allowing, flag_allow_unknown_in, registered_empty_meaning, unknown_empty_meaning)
+pub ruleset registrations = (registered_register_in, others_register_in, registered_before, unknown_register_in, flag_register_in, registered_allow_unknown_in, unknown_kept_after_allowing, flag_allow_unknown_in, registered_empty_meaning, unregistered_allow_unknown_in, unknown_empty_meaning)
 
 pub ruleset keeping = (keeps_registered, keeps_other, keeps_nothing, keeps_unknown, keeps_unless_unknown, kept_allow_unknown_in, keeps_again, keeps_outer, unrefused)
 

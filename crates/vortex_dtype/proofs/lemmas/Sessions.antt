@@ -145,6 +145,11 @@ pub registered_empty_meaning : (n : Meaning) (id : List ℕ) → n ≡ empty_mea
 unfolding empty_meaning
 registered_empty_meaning n id e = ap (λ (s : Meaning). s.registered id) e
 
+-- a session without plugins that keeps unknown ids knows none
+pub unregistered_allow_unknown_in : (n : Meaning) (id : List ℕ) → n ≡ allow_unknown_in empty_meaning → n.registered id ≡ None
+unfolding allow_unknown_in empty_meaning
+unregistered_allow_unknown_in n id e = ap (λ (s : Meaning). s.registered id) e
+
 pub unknown_empty_meaning : (n : Meaning) → n ≡ empty_meaning → n.unknown ≡ false
 unfolding empty_meaning
 unknown_empty_meaning n e = ap (λ (s : Meaning). s.unknown) e
@@ -162,7 +167,7 @@ unrefused m id b s e is h = grind arith
 
 -- What calls of a session change and leave alone, what it keeps and what it admits: for callers' proofs. It is all of the
 -- topic, since what is kept follows from what is registered; the address of all rulesets has it by question too.
-pub ruleset sessions = (registered_register_in, others_register_in, registered_before, unknown_register_in, flag_register_in, registered_allow_unknown_in, unknown_kept_after_allowing, flag_allow_unknown_in, registered_empty_meaning, unknown_empty_meaning, admits_allow_unknown_in, kept_allow_unknown_in, admits_one_more, admits_more, admits_fields_appended, admits_field, admits_extension, keeps_again, keeps_outer, unrefused)
+pub ruleset sessions = (registered_register_in, others_register_in, registered_before, unknown_register_in, flag_register_in, registered_allow_unknown_in, unknown_kept_after_allowing, flag_allow_unknown_in, registered_empty_meaning, unregistered_allow_unknown_in, unknown_empty_meaning, admits_allow_unknown_in, kept_allow_unknown_in, admits_one_more, admits_more, admits_fields_appended, admits_field, admits_extension, keeps_again, keeps_outer, unrefused)
 
 -- What is registered and allowed after any calls, and what is admitted whatever the outer nullability: for the laws.
 pub ruleset session_laws = (after-last, after-left_alone, after-unknown, admits-set_null)

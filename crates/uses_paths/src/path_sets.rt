@@ -57,6 +57,18 @@ pub fn opened_apart(asked: FieldPathSet) -> VortexResult<vec::IntoIter<FieldPath
     asked.into_iter()
 }
 
+/// Returns the set of the paths of a list, which are inserted one by one.
+#[tactic(auto, using(vortex_dtype::proofs::parts::of_push))]
+pub fn listed(alloc: Global, paths: Vec<FieldPath>) -> VortexResult<FieldPathSet>
+    ensures { IfOk result (λ s. s ≡ set_of paths.items) }
+{
+    let mut listed = FieldPathSet::new(alloc);
+    for path in paths {
+        listed.insert(path)?;
+    }
+    Ok(listed)
+}
+
 /// What one of two queries asks, whose scan is shared: the paths of the second are inserted one by one.
 #[tactic(auto, using(vortex_dtype::proofs::parts::collected_paths))]
 pub fn shared_scan(first: FieldPathSet, second: &FieldPathSet) -> VortexResult<FieldPathSet>

@@ -17,7 +17,7 @@ Parts = namedtuple("Parts", "head clauses body")
 Written = namedtuple("Written", "kind name text")
 
 MODULES = {"AllByRecursion": "Rattle.std.specs.List", "IsAmong": "Rattle.vortex_dtype.specs.Names",
-           "after_steps": "Rattle.vortex_dtype.specs.PathPredicates"}
+           "after_steps": "Rattle.vortex_dtype.specs.PathPredicates", "first_place": "Rattle.vortex_dtype.specs.FieldNames"}
 PRELUDE = "Rattle.std.specs.Prelude"
 STATEMENT = re.compile(r"(?:if|match|for|while|loop|unsafe)\b|\{")
 ARM = re.compile(r"\s*=>\s*")
@@ -168,6 +168,35 @@ def split_options(parts, returned):
     body = with_last(parts.body, split)
     if body:
         yield Form("a `match` on the option that a call at the end returns", parts._replace(body=body), (), "")
+
+
+def plain_calls(parts, returned):
+    """A call at the end itself, in place of what takes its result apart and puts it together again."""
+    def plain(it):
+        called = re.fullmatch(r"(?:Ok|Some)\((.*)\?\)", it, re.S)
+        rebuilt = re.fullmatch(r"match (.*)\?\s*\{\s*Some\((\w+)\) => Ok\(Some\(\2\)\),\s*None => Ok\(None\),?\s*\}", it, re.S)
+        found = called or rebuilt
+        return found[1] if found and is_call(found[1]) else None
+    body = with_whole(parts.body, plain) or with_last(parts.body, plain)
+    if body:
+        yield Form("a call at the end as it is", parts._replace(body=body), (), "")
+
+
+def ok_ors(parts, _):
+    """`ok_or` in place of a match that returns an error for `None`."""
+    def changed(it):
+        found = re.fullmatch(r"match ([^{]*?)\s*\{\s*Some\((\w+)\) => Ok\(\2\),\s*None => Err\((.*?)\),?\s*\}", it, re.S)
+        return f"{found[1]}.ok_or({found[3]})" if found else None
+    body = with_whole(parts.body, changed)
+    if body:
+        yield Form("`ok_or` in place of a `match`", parts._replace(body=body), (), "")
+
+
+def with_whole(body, change):
+    """A body in which `change` was made to its last expression, whole, or None if it doesn't change."""
+    last = last_of_block(shape_of(code_of(body)), 0)
+    new = last and change(body[slice(*last)])
+    return body[:last[0]] + new + body[last[1]:] if new else None
 
 
 def named_bindings(parts, _):
@@ -402,6 +431,25 @@ def trees_of_each(parts, _):
         yield Form("`P (tree d)` of each type in place of `P` of each of their trees", changed, (), "")
 
 
+def first_places(parts, _):
+    """The first position of a name as an equation, in place of a record."""
+    def equation(text):
+        for word, count in (("FirstAt", 3), ("IsAbsent", 2)):
+            for it in reversed(list(re.finditer(rf"(?<![\w.]){word} ", text))):
+                at, atoms = it.end(), []
+                while len(atoms) < count and at < len(text) and re.match(r"[\w(]", text[at]):
+                    end = atom_at(text, at)
+                    atoms.append(text[at:end])
+                    at = end + 1
+                if len(atoms) == count:
+                    value = f"Some {atoms[2]}" if count == 3 else "None"
+                    text = f"{text[:it.start()]}first_place {atoms[0]} {atoms[1]} ≡ {value}{text[end:]}"
+        return text
+    if changed := with_clauses(parts, equation):
+        yield Form("an equation of `first_place` in place of `FirstAt` or `IsAbsent`", changed,
+                   ("first_place", "Some", "None", "◌≡◌"), "")
+
+
 def below_a_path(parts, _):
     """What a cursor contains after a path, as an equation in place of a statement about each path."""
     each = (r"\((\w+) : List Field\) → contains_below (\w+(?:\.now)?) \1 ≡ set\.contains (\w+\.now) "
@@ -479,8 +527,10 @@ def outside(text):
 
 
 CODE = (tail_calls, split_options, named_bindings, matched_closures, positions, compared_values, branches)
+# (which undo some of those)
+PLAIN = (plain_calls, ok_ors)
 LOOPS = (loops, zipped_loops)
-CLAUSES = (of_none, of_each, trees_of_each, below_a_path, negations, conjunctions, premises)
+CLAUSES = (of_none, of_each, trees_of_each, first_places, below_a_path, negations, conjunctions, premises)
 
 
 def returned_by(parts):
@@ -491,9 +541,9 @@ def forms_of(text):
     """The forms of a function, each a single edit, and then all edits of its code, and these with those of its clauses
     that ask no more of a caller and promise no less, and at last these with a premise that each caller has to show."""
     parts = parts_of(text)
-    single = [form for make in CODE + LOOPS + CLAUSES for form in make(parts, returned_by(parts))]
+    single = [form for make in CODE + PLAIN + LOOPS + CLAUSES for form in make(parts, returned_by(parts))]
     as_it_is = Form("", parts, (), "")
-    together = [all_of(as_it_is, CODE), all_of(as_it_is, CODE + CLAUSES)]
+    together = [all_of(as_it_is, CODE), all_of(as_it_is, CODE + CLAUSES), all_of(as_it_is, PLAIN + CLAUSES)]
     together += [all_of(it, makers) for it in premises(parts, returned_by(parts)) for makers in (CODE, CODE + CLAUSES)]
     together = [it for it in together if ", " in it.name]
     found, seen = [], {text_of_parts(parts)}

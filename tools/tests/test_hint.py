@@ -215,6 +215,25 @@ class Forms(unittest.TestCase):
         self.assertIn("AllByRecursion (λ t. P (tree t) × Q (tree t).0) a.now",
                       form(text, "`P (tree d)` of each type in place of `P` of each of their trees"))
 
+    def test_a_call_at_the_end_as_it_is(self):
+        name = "a call at the end as it is"
+        whole = "fn f(a: u8) -> VortexResult<Option<u8>>\n{\n    g(a)\n}"
+        self.assertEqual(form(whole.replace("g(a)", "Ok(g(a)?)"), name), whole)
+        rebuilt = "match g(a)? {\n        Some(b) => Ok(Some(b)),\n        None => Ok(None),\n    }"
+        self.assertEqual(form(whole.replace("g(a)", rebuilt), name), whole)
+        self.assertIsNone(form(whole.replace("g(a)", rebuilt.replace("Some(b))", "Some(b + 1))")), name))
+
+    def test_an_error_for_none(self):
+        text = "fn f(a: u8) -> Result<u8, E>\n{\n    match g(a) {\n        Some(b) => Ok(b),\n        None => Err(E::Gone),\n    }\n}"
+        self.assertIn("{\n    g(a).ok_or(E::Gone)\n}", form(text, "`ok_or` in place of a `match`"))
+
+    def test_the_first_position_as_an_equation(self):
+        text = ("fn f(a: &A) -> Result<usize, E>\n    ensures found { IfOk result (λ i. FirstAt (names a) b.now i) }\n"
+                "    ensures none { OnErr result (IsAbsent (names a) b.now) }\n{\n    g(a)\n}")
+        made = form(text, "an equation of `first_place` in place of `FirstAt` or `IsAbsent`")
+        self.assertIn("{ IfOk result (λ i. first_place (names a) b.now ≡ Some i) }", made)
+        self.assertIn("{ OnErr result (first_place (names a) b.now ≡ None) }", made)
+
     def test_what_a_cursor_contains_below_a_path(self):
         text = ("fn f(s: &S, p: &P) -> Option<C>\n    ensures { IfSome result (λ c. (q : List Field) → contains_below c q ≡ "
                 "set.contains s.now (p.now ++ q)) }\n{\n    g(s)\n}")

@@ -7,6 +7,7 @@ fail to compile, and who tries it has to check that it does."""
 import re
 from collections import namedtuple
 
+from imports import PRELUDE, with_word
 from repository import BODY, CLAUSE, HEADER, SIGNATURE_END, WHERE, code_of, end_of, shape_of
 
 # An edit: what it is called, the text of the function with it, the words of std that it imports, what a reader has to know
@@ -18,7 +19,6 @@ Written = namedtuple("Written", "kind name text")
 
 MODULES = {"AllByRecursion": "Rattle.std.specs.List", "IsAmong": "Rattle.vortex_dtype.specs.Names",
            "after_steps": "Rattle.vortex_dtype.specs.PathPredicates", "first_place": "Rattle.vortex_dtype.specs.FieldNames"}
-PRELUDE = "Rattle.std.specs.Prelude"
 STATEMENT = re.compile(r"(?:if|match|for|while|loop|unsafe)\b|\{")
 ARM = re.compile(r"\s*=>\s*")
 
@@ -569,30 +569,9 @@ def module_of_word(word):
     return MODULES.get(word, PRELUDE)
 
 
-def with_imports(text, imports):
-    """A file with these words of std among its imports."""
-    for word in imports:
-        if re.search(rf"ghost use [^;]*[{{, ]{re.escape(word)}[,}}][^;]*;", text):
-            continue
-        module = module_of_word(word)
-        group = re.search(rf"ghost use {re.escape(module)}\.\{{([^}}]*)\}};", text)
-        if group:
-            text = text[:group.end(1)] + f", {word}" + text[group.end(1):]
-            continue
-        last = list(re.finditer(r"(?m)^ghost use [^;]*;\n", text))
-        at = last[-1].end() if last else 0
-        text = f"{text[:at]}ghost use {module}.{{{word}}};\n{text[at:]}"
+def with_imports(text, words):
+    """A file with these words of std and of the library among its imports."""
+    for word in words:
+        if not re.search(rf"ghost use [^;]*[{{, ]{re.escape(word)}[,}}][^;]*;", text):
+            text = with_word(text, word, module_of_word(word), True)
     return text
-
-
-def with_item(text, item):
-    """A file with an import, in the group of its module if there is one."""
-    module, words = re.match(r"ghost use (\S+?)\.\{([^}]*)\};", item).groups()
-    group = re.search(rf"ghost use {re.escape(module)}\.\{{([^}}]*)\}};", text)
-    if group:
-        has = {it.strip() for it in group[1].split(",")}
-        new = "".join(f", {it}" for it in (it.strip() for it in words.split(",")) if it not in has)
-        return text[:group.end(1)] + new + text[group.end(1):]
-    last = list(re.finditer(r"(?m)^ghost use [^;]*;\n", text))
-    at = last[-1].end() if last else 0
-    return f"{text[:at]}{item}\n{text[at:]}"

@@ -9,6 +9,7 @@ import unittest
 from planted import Planted
 
 import forms
+import imports
 import invariants
 import rulesets
 from repository import libraries, text_of
@@ -163,6 +164,20 @@ class Hint(Planted):
         _, said = self.hint(source, ["fn type_at"], extra=extra)
         self.assertIn("src/lib.rt: imports\n    - ghost use Rattle.vortex_dtype.specs.Along.{At};\n", said)
         self.assertIn("    + ghost use Rattle.vortex_dtype.specs.At.{At};\n", said)
+
+    def test_a_word_that_is_not_in_the_module_of_an_invariant_is_mended(self):
+        source = "use Rattle.std.proofs.Common.{◌≡◌}\nuse Rattle.dtype_types.specs.Lists.{with_trees}\nuse Rattle.schemas.proofs.f.Given as goal\n"
+        said = ("./proofs/f/Invariants.antt:2:43: error: module `Rattle.dtype_types.specs.Lists` has no `with_trees` that can be "
+                "named from here: note: ..")
+        self.assertEqual(imports.mended("proofs/f/Invariants.antt", source, *imports.asked_for(said)),
+                         source.replace("use Rattle.dtype_types.specs.Lists.{with_trees}\n", "").replace(
+                             "use Rattle.std.proofs", "use Rattle.vortex_dtype.specs.TreeOf.{with_trees}\nuse Rattle.std.proofs"))
+
+    def test_a_word_of_std_that_is_also_a_variant_is_imported_from_std(self):
+        said = ("src/lib.rt:9:43: error: `ensures-kept`: `List` is not in scope: add "
+                "`ghost use Rattle.dtype_types.specs.declared.dtype.DType.{List};`, or add `List`\n")
+        self.assertEqual(imports.mended("src/lib.rt", "ghost use Rattle.std.specs.Prelude.{IfOk};\n", *imports.asked_for(said)),
+                         "ghost use Rattle.std.specs.Prelude.{IfOk, List};\n")
 
     def test_a_library_that_is_not_built_is_told(self):
         os.rmdir(f"{self.top}/crates/dtype_paths/out/rlib")

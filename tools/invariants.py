@@ -15,6 +15,8 @@ COMMON = "Rattle.std.proofs.Common"
 # A loop: its variable, what a clause calls all that it goes over, what an invariant calls all of it, what of it is done
 # (None if no term tells) and what is left.
 Loop = namedtuple("Loop", "variable all whole done rest")
+# What a loop over a value of the function itself goes over, in no clause.
+NOWHERE = "\0"
 EXTRA = {"take": COMMON, "drop": COMMON, "map": COMMON, "length": COMMON, "with_trees": "Rattle.vortex_dtype.specs.TreeOf",
          "tree": "Rattle.vortex_dtype.specs.TreeOf", "children": "Rattle.vortex_dtype.specs.TreeOf",
          "into_iter_items": "Rattle.std.specs.Vec.Iter", "field_names": "Rattle.vortex_dtype.specs.Lookups",
@@ -61,7 +63,7 @@ def loop_of(text, known):
             ".names().iter()": (f"field_names (children {name}.now)", f"field_names (children {whole})", yielded, rest),
             ".iter()": (f"{name}.now", whole, yielded, rest),
             "": (f"{name}.items", f"{whole}.items", "l.yielded", f"(into_iter_items {rest})")}
-    return Loop(iterator[:-9], *over[method]) if method in over else None
+    return Loop(iterator[:-9], *over.get(method, (NOWHERE, NOWHERE, "l.yielded", rest)))
 
 
 def names_in(text, name, skeleton):
@@ -129,7 +131,7 @@ def statements(text, known):
     equal = [it for clause in said for it in equations(clause, loop, known)]
     # (a count has to be shown to fit)
     found += equal + so_far if any(it.startswith("record") for it in equal) else so_far + equal
-    if loop.whole.endswith("-items") and variable in known:
+    if (loop.all == NOWHERE or loop.whole.endswith("-items")) and variable in known:
         found = copied(ensured, variable, loop) + found
     for clause in ensured:
         found += found_early(clause, loop, known) + walks(clause, loop, parts, known) + changed_in_place(clause, loop, known)
@@ -141,7 +143,8 @@ def copied(ensured, variable, loop):
     """That what is collected is what was gone over, in the form in which the clauses have what is collected."""
     forms_of_it = re.findall(r"map (\w+) \(?\w+\.items", " ".join(ensured))
     left = f"map {forms_of_it[0]} l.{variable}.items" if forms_of_it else f"l.{variable}.items"
-    return [f"{left} ≡ {it}" for it in (loop.done.strip("()"), f"map (λ x. x.now) {loop.done}", f"map tree {loop.done}")]
+    return [f"{left} ≡ {it}" for it in (loop.done.strip("()"), f"map (λ x. x.now) {loop.done}", f"map tree {loop.done}",
+                                        f"map (λ d. tree d.now) {loop.done}")]
 
 
 def changed_in_place(clause, loop, known):

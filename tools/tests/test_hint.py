@@ -68,6 +68,9 @@ for file in sorted(glob.glob("src/*.rt")):
             print(f"note: `invariant-loop-path` of {file_of_loop} is yours to choose")
             print("  | l: .found, .yielded, .path-iterator")
             print("  | l.fn: .paths {.items}")
+        elif "Mistaken" in it[0]:
+            print(f"src/lib.rt:{text.count(chr(10), 0, it.start()) + 5}:9: error: `ensures-1`: `Mistaken` is not in scope")
+            print(f"fn {name}: no proof: antt did not admit its contract or its `statement`: help: fix that first")
         elif any(word in it[0] + (open(file_of_loop, encoding="utf-8").read() if has_file else "") for word in WORDS):
             print(f"fn {name}: no holes")
         else:
@@ -138,6 +141,12 @@ class Hint(Planted):
         self.write(f"{CRATE}/proofs/listed/Invariants.antt", WRONG)
         _, said = self.hint(HEAD + LISTED, ["rulesets::covering"])
         self.assertIn("listed: proved:\n    + #[tactic(auto, using(vortex_dtype::proofs::rulesets::covering))]\n", said)
+
+    def test_a_contract_with_a_mistake_is_not_tried(self):
+        status, said = self.hint(HEAD + TYPE_AT.replace("Valid (tree d.now)", "Mistaken d"), [""])
+        self.assertIn("type_at: not proved, since its contract has a mistake:\n    `ensures-1`: `Mistaken` is not in scope\n", said)
+        self.assertNotIn("trying", said)
+        self.assertEqual((status, said.splitlines()[-1]), (1, "0 proved as written, 0 with an edit, 1 open"))
 
     def test_it_ends_when_the_time_is_over(self):
         status, said = self.hint(HEAD + TYPE_AT, ["nothing proves"], "--minutes", "0")
@@ -348,6 +357,12 @@ class Invariants(unittest.TestCase):
                 "    let mut found = Vec::new(alloc);\n    for id in &known {\n        found.push(g(id)?)?;\n    }\n    Ok(found)\n}")
         self.assertIn("map string_bytes l.found.items ≡ map (λ x. x.now) (take l.id-index l.id-items)",
                       invariants.statements(text, ["id-items", "id-index", "s", "found"]))
+
+    def test_a_loop_over_an_iterator_of_its_own(self):
+        text = ("fn f(s: FieldPathSet, alloc: Global) -> VortexResult<Vec<FieldPath>>\n"
+                "    ensures { IfOk result (λ v. set_of v.items ≡ least s) }\n{\n    let mut found = Vec::new(alloc);\n"
+                "    for p in s.into_iter()? {\n        found.push(p)?;\n    }\n    Ok(found)\n}")
+        self.assertEqual(invariants.statements(text, ["found", "yielded", "p-iterator", "fn.s"])[0], "l.found.items ≡ l.yielded")
 
     def test_a_chain_that_collects_becomes_a_loop_with_its_invariant(self):
         text = ("fn f(alloc: Global, xs: &[A]) -> VortexResult<Vec<B>>\n"

@@ -48,7 +48,10 @@ class Subject:
         self.skeleton = asked.skeletons.get(path) or said.skeletons.get(path)
         self.names = asked.names.get(path) or said.names.get(path, {})
         self.has_loop = self.skeleton is not None and "invariant-loop" in self.skeleton
-        self.invariants = invariants.guesses(self.text, text, self.skeleton, self.names) if self.has_loop else []
+        guesses = lambda it: invariants.guesses(it, text, self.skeleton, self.names) if self.has_loop else []
+        self.invariants = guesses(self.text)
+        # (another form of a clause wants another invariant)
+        self.other_loops = [(form, it) for form in self.forms for it in guesses(form.text)[:2] if it not in self.invariants]
         self.rounds, self.ahead = [self.first, self.second, self.third], []
 
     def take(self, count):
@@ -62,6 +65,7 @@ class Subject:
         """Leaves out the tries with a form that doesn't compile."""
         self.forms = [it for it in self.forms if it != form]
         self.loops = [it for it in self.loops if it[0] != form]
+        self.other_loops = [it for it in self.other_loops if it[0] != form]
         self.ahead = [it for it in self.ahead if it.form != form]
 
     def proofs(self, path):
@@ -87,7 +91,8 @@ class Subject:
             lines = [(), *[(it,) for it in self.ranked[:4] if (it,) != self.own]]
             own = [Try(None, line, None) for line in lines if self.has_own]
             guesses = [Try(None, line, it) for line in [None, *lines] for it in self.invariants[:4]]
-            return [it for pair in zip_longest(guesses, own) for it in pair if it]
+            others = [Try(form, line, it) for line in [None, *lines[:1]] for form, it in self.other_loops[:6]]
+            return [it for each in zip_longest(guesses, own, others) for it in each if it]
         found = [Try(None, (), None)] if self.own else []
         alone = [Try(None, (it,), None) for it in self.ranked[:FIRST] if (it,) != self.own]
         changed = [it for form in self.forms for it in [Try(form, None, None)] + [Try(form, (), None)] * bool(self.own)]

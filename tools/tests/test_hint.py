@@ -148,6 +148,12 @@ class Hint(Planted):
         self.assertNotIn("trying", said)
         self.assertEqual((status, said.splitlines()[-1]), (1, "0 proved as written, 0 with an edit, 1 open"))
 
+    def test_an_invariant_of_another_form_of_a_clause_is_tried(self):
+        source = LISTED.replace("IfOk result (λ s. s ≡ set_of paths.items)", "IfOk result (λ s. All (λ p. P s p) paths.items)")
+        _, said = self.hint(HEAD + source, ["AllByRecursion (λ p. P l.found p) l.yielded"])
+        self.assertIn("listed: proved with `AllByRecursion` in place of `All`:\n", said)
+        self.assertIn("      invariant-loop-path l = AllByRecursion (λ p. P l.found p) l.yielded\n", said)
+
     def test_it_ends_when_the_time_is_over(self):
         status, said = self.hint(HEAD + TYPE_AT, ["nothing proves"], "--minutes", "0")
         self.assertIn("hint: the time is over (--minutes) for type_at\n", said)

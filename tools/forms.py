@@ -17,6 +17,8 @@ Form = namedtuple("Form", "name text imports warning loop", defaults=((),))
 Parts = namedtuple("Parts", "head clauses body")
 Written = namedtuple("Written", "kind name text")
 
+# The form of a contract that names a session, by whether the function takes a boxed plugin.
+MEANING = "a session's `meaning` as this function has to write it"
 MODULES = {"AllByRecursion": "Rattle.std.specs.List", "IsAmong": "Rattle.vortex_dtype.specs.Names",
            "after_steps": "Rattle.vortex_dtype.specs.PathPredicates", "first_place": "Rattle.vortex_dtype.specs.FieldNames"}
 STATEMENT = re.compile(r"(?:if|match|for|while|loop|unsafe)\b|\{")
@@ -450,6 +452,14 @@ def first_places(parts, _):
                    ("first_place", "Some", "None", "◌≡◌"), "")
 
 
+def meanings(parts, _):
+    """What a session does, as it is written in a function that takes a boxed plugin, or in one that takes none."""
+    plain, by_parts = "meaning rewrites", "meaning (λ b. rewrites (b.vtable, b.value))"
+    old, new = (by_parts, plain) if "dyn ExtDTypePlugin" in parts.head else (plain, by_parts)
+    if changed := with_clauses(parts, lambda it: it.replace(old, new), ("requires", "ensures")):
+        yield Form(MEANING, changed, (), "")
+
+
 def below_a_path(parts, _):
     """What a cursor contains after a path, as an equation in place of a statement about each path."""
     each = (r"\((\w+) : List Field\) → contains_below (\w+(?:\.now)?) \1 ≡ set\.contains (\w+\.now) "
@@ -530,7 +540,7 @@ CODE = (tail_calls, split_options, named_bindings, matched_closures, positions, 
 # (which undo some of those)
 PLAIN = (plain_calls, ok_ors)
 LOOPS = (loops, zipped_loops)
-CLAUSES = (of_none, of_each, trees_of_each, first_places, below_a_path, negations, conjunctions, premises)
+CLAUSES = (meanings, of_none, of_each, trees_of_each, first_places, below_a_path, negations, conjunctions, premises)
 
 
 def returned_by(parts):

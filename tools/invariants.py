@@ -9,6 +9,7 @@ import re
 from collections import namedtuple
 
 import forms
+from imports import PRELUDE, modules
 from repository import code_of, shape_of
 
 COMMON = "Rattle.std.proofs.Common"
@@ -17,12 +18,10 @@ COMMON = "Rattle.std.proofs.Common"
 Loop = namedtuple("Loop", "variable all whole done rest")
 # What a loop over a value of the function itself goes over, in no clause.
 NOWHERE = "\0"
-EXTRA = {"take": COMMON, "drop": COMMON, "map": COMMON, "length": COMMON, "with_trees": "Rattle.vortex_dtype.specs.TreeOf",
-         "tree": "Rattle.vortex_dtype.specs.TreeOf", "children": "Rattle.vortex_dtype.specs.TreeOf",
-         "into_iter_items": "Rattle.std.specs.Vec.Iter", "field_names": "Rattle.vortex_dtype.specs.Lookups",
-         "field_types": "Rattle.vortex_dtype.specs.Lookups", "◌++◌": COMMON, "◌+◌": COMMON, "◌<◌": COMMON,
-         "◌^◌": COMMON, "◌≡◌": COMMON, "◌↔◌": COMMON, "zip_first": "Rattle.std.specs.Iterator.Adapters",
-         "zip_second": "Rattle.std.specs.Iterator.Adapters", "contains_below": "Rattle.vortex_dtype.specs.Cursors"}
+EXTRA = {"take": COMMON, "drop": COMMON, "map": COMMON, "length": COMMON, "◌++◌": COMMON, "◌+◌": COMMON, "◌<◌": COMMON,
+         "◌^◌": COMMON, "◌≡◌": COMMON, "◌↔◌": COMMON, "into_iter_items": "Rattle.std.specs.Vec.Iter",
+         "zip_first": "Rattle.std.specs.Iterator.Adapters", "zip_second": "Rattle.std.specs.Iterator.Adapters",
+         "Field": "Rattle.vortex_dtype.specs.Types.Field"}
 # A definition of a skeleton with a hole, or with what the toolchain knows of a loop by itself. In a function that takes a
 # session it has one argument more.
 HOLE = re.compile(r"(?m)^((?:invariant|decreases)-\S+)((?: \w+)* l) =(?: \?|(?:\n {4}.*)+)$")
@@ -255,7 +254,8 @@ def imports(statement, text, skeleton):
         wanted = [it for it in (it.strip() for it in listing.split(",")) if it in words - has]
         has.update(wanted)
         groups.setdefault(module, []).extend(wanted)
-    for word, module in EXTRA.items():
+    # (the prelude's words are in the skeleton or in EXTRA, where proofs have them from another module)
+    for word, module in {**{it: at for it, at in modules().items() if at != PRELUDE}, **EXTRA}.items():
         if word in words - has:
             groups.setdefault(module, []).append(word)
     lines = [f"use {module}.{{{', '.join(wanted)}}}" for module, wanted in groups.items() if wanted]

@@ -253,6 +253,13 @@ class Forms(unittest.TestCase):
         self.assertEqual(form(whole.replace("g(a)", rebuilt), name), whole)
         self.assertIsNone(form(whole.replace("g(a)", rebuilt.replace("Some(b))", "Some(b + 1))")), name))
 
+    def test_a_session_beside_a_boxed_plugin(self):
+        text = ("fn f(s: &mut DTypeSession, p: Box<dyn ExtDTypePlugin>)\n"
+                "    ensures { P (meaning (λ b. rewrites (b.vtable, b.value)) s.new) }\n{\n    g(s, p)\n}")
+        self.assertIn("{ P (meaning rewrites s.new) }", form(text, forms.MEANING))
+        without = text.replace("Box<dyn ExtDTypePlugin>", "u8").replace("(λ b. rewrites (b.vtable, b.value))", "rewrites")
+        self.assertIn("{ P (meaning (λ b. rewrites (b.vtable, b.value)) s.new) }", form(without, forms.MEANING))
+
     def test_an_error_for_none(self):
         text = "fn f(a: u8) -> Result<u8, E>\n{\n    match g(a) {\n        Some(b) => Ok(b),\n        None => Err(E::Gone),\n    }\n}"
         self.assertIn("{\n    g(a).ok_or(E::Gone)\n}", form(text, "`ok_or` in place of a `match`"))

@@ -14,7 +14,7 @@ use Rattle.std.proofs.KnownBytes.{Appends-kept, Appends-trans}
 use Rattle.std.proofs.lemmas.Bool.Decides.{Decides-eqb}
 use Rattle.std.proofs.lemmas.List.{flat_map_more, get_or-map, length-map, nil_from_length, map-append}
 use Rattle.vortex_dtype.specs.Tree.{Tree}
-use Rattle.vortex_dtype.proofs.parts.{of_push}
+use Rattle.dtype_paths.proofs.lemmas.Covering.{of_push}
 use Rattle.vortex_dtype.specs.PathOrder.{PathSet, set_of}
 use Rattle.vortex_dtype.specs.Types.Field.{Field}
 use Rattle.dtype_demo.specs.Lines.{lines_of, parts_of}

@@ -5,7 +5,7 @@ use Rattle.std.proofs.Common.{◌≡◌, ◌∷◌, ◌∙◌, [], Some, None, f
 use Rattle.vortex_dtype.specs.At.{step}
 use Rattle.vortex_dtype.specs.Cursors.{contains_below}
 use Rattle.vortex_dtype.specs.TreeOf.{tree}
-use Rattle.vortex_dtype.proofs.parts.{opened_after, opened_nowhere, opened_uncontained}
+use Rattle.dtype_projection.proofs.lemmas.Descending.{opened_after, opened_nowhere, opened_uncontained}
 use Rattle.uses_paths.specs.Descending.{piece_type}
 use Rattle.uses_paths.proofs.descending.+piece_along.Goals as goal
 

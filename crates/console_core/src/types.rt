@@ -139,7 +139,7 @@ const ROWS: [Row; 44] = [
     Row("nullability_or", "N N", "NonNullable Nullable", "Nullable if one of the two is, otherwise NonNullable", "", Types(TypeCommand::NullabilityOr)),
     Row("nullability_text", "N", "Nullable", "the text of a nullability within a type: ? or nothing", "", Types(TypeCommand::Text(NullabilityText::NullabilityText))),
     Row("nullability_long_text", "N", "Nullable", "the word for a nullability", "", Types(TypeCommand::Text(NullabilityText::NullabilityLongText))),
-    Row("kinds", "T", "fixed_size_list(i32)[3]", "the names of the calls is_.. that return true for the type, without is_ and but for is_nullable. For example, for a fixed-size list the answer is fixed_size_list nested.", "", Types(TypeCommand::Kinds)),
+    Row("kinds", "T", "fixed_size_list(i32)[3]", "the names of the calls is_.. that return true for the type, each without its prefix is_. The call is_nullable isn't among them. For example, for a fixed-size list the answer is fixed_size_list nested.", "", Types(TypeCommand::Kinds)),
     Row("element_size", "T", "fixed_size_list(f64)[20]", "the number of bytes that each value takes, or none if the type has a part of variable width, such as utf8", "WidthOverflow (19)", Types(TypeCommand::Query(TypeQuery::ElementSize))),
     Row("as_decimal_opt", "T", "decimal(10,-2)?", "the decimal of a decimal type, or none", "", Parts(PartCommand::Borrowed(BorrowedPart::AsDecimalOpt))),
     Row("into_decimal_opt", "T", "utf8", "the decimal of a decimal type, which is consumed, or none", "", Parts(PartCommand::Owned(OwnedPart::IntoDecimalOpt))),

@@ -22,3 +22,6 @@ pub mod FieldLists
 pub mod Counted
 pub mod Registered
 pub mod Zipped
+pub mod Smaller
+pub mod Collected
+pub mod Unions

@@ -60,6 +60,7 @@ use Rattle.vortex_dtype.proofs.lemmas.Reading.{reading}
 use Rattle.vortex_dtype.proofs.lemmas.Reads.{copy_accepted, fault_none, fault_refused, normal_again, other_nullability, read_alike, reads_accepted, refused_faulty, same_normal, unread_refused, written_accepted, written_normal, written_read}
 use Rattle.vortex_dtype.proofs.lemmas.Registered.{keeps_nothing, keeps_other, keeps_registered, keeps_unknown, keeps_unless_unknown}
 use Rattle.vortex_dtype.proofs.lemmas.Sessions.{admits-set_null, admits_allow_unknown_in, admits_extension, admits_field, admits_fields_appended, admits_more, admits_one_more, flag_allow_unknown_in, flag_register_in, kept_allow_unknown_in, keeps_again, keeps_outer, others_register_in, registered_allow_unknown_in, registered_before, registered_empty_meaning, registered_register_in, unknown_empty_meaning, unknown_kept_after_allowing, unknown_register_in, unrefused, unregistered_allow_unknown_in}
+use Rattle.vortex_dtype.proofs.lemmas.Unions.{tag_at_one, union_listed}
 use Rattle.vortex_dtype.proofs.lemmas.Widened.{merged_nullable}
 use Rattle.vortex_dtype.proofs.lemmas.Written.{written_is}
 
@@ -85,8 +86,9 @@ pub ruleset presence = (names_present, unplaced_not_among, unnamed_not_among)
 -- gone, and that the others still don't repeat
 pub ruleset distinct_names = (among_before, among_behind, distinct_removed, removed_not_among, unplaced_not_among)
 
--- tags: which are among those of a union, where a name has one; and how many variants a valid union has
-pub ruleset tags = (union_tags, tag_at_is_among, placed_is_among, unplaced_not_among, some_variants, few_variants)
+-- tags: which are among those of a union, where a name has one; how many variants a valid union has; and the variants of a
+-- type that is a union
+pub ruleset tags = (union_tags, tag_at_is_among, tag_at_one, placed_is_among, unplaced_not_among, some_variants, few_variants, union_listed)
 
 -- Lookups of names, fields and variants, by name and by position, and how many names they compare. Each lemma begins with
 -- a position or a number that the call returns, so few of them match at a goal.

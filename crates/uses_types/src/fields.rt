@@ -4,10 +4,11 @@
 // Lookups of fields, by name and by position.
 #![tactic(auto, using(vortex_dtype::proofs::rulesets::joined_fields, vortex_dtype::proofs::rulesets::lookups))]
 
-ghost use Rattle.std.specs.Prelude.{◌≡◌, ◌≢◌, ◌-◌, ◌<◌, ℕ, List, None, Some, Contains, IfNone, IfOk, IfSome, IsSome, length, map, vec_len};
+ghost use Rattle.std.specs.Prelude.{◌≡◌, ◌≢◌, ◌-◌, ◌<◌, ◌≤◌, ℕ, List, None, Some, Contains, IfNone, IfOk, IfSome, IsSome, length, map, vec_len};
 ghost use Rattle.dtype_types.specs.parts.Lookups.{field_names, field_types, first_named};
 ghost use Rattle.dtype_types.specs.tree.TreeOf.{children, shown, tree};
 ghost use Rattle.vortex_dtype.specs.Distinct.{Distinct};
+ghost use Rattle.vortex_dtype.specs.FieldNames.{first_place};
 
 use std::alloc::Global;
 use vortex_dtype::{DType, FieldNames, StructFields, VortexResult};
@@ -86,4 +87,15 @@ pub fn table_of_lists(
     let texts = FieldNames::from_texts(alloc, names)?;
     let table = StructFields::new(alloc, texts, dtypes)?;
     Ok(Some(table))
+}
+
+/// The position of the first field of the name, of at most 1,000 fields, and how many of their names were
+/// compared for it.
+#[tactic(auto, using(vortex_dtype::proofs::rulesets::compared_names))]
+pub fn find_among_a_thousand(fields: &StructFields, name: &str) -> (Option<usize>, u64)
+    requires { length (children fields.now) ≤ 1000 }
+    ensures place { result.0 ≡ first_place (field_names (children fields.now)) name.now }
+    ensures few { result.1 ≤ 11 }
+{
+    fields.find_counted(name)
 }

@@ -11,18 +11,16 @@
 //! projections, messages and sessions.
 //!
 //! - Pages: `orders` is the code of `docs/TUTORIAL.md`, and `guide` that of `docs/GUIDE.md`.
-//! - By user: `arrays` (how wide a row and a decimal are), `appending` (what may be appended), `binder` (column references).
-//! - By topic: `structs`, `fields`, `over_fields`, `loops` (to copy), `lookups` (how many comparisons), `presence`,
-//!   `wanted` (many names), `unions`, `equality`, `nullabilities`, `validity`, `registered` (sessions that a contract names).
+//! - By user: `arrays` (how wide a row and a decimal are), `binder` (column references).
+//! - By topic: `structs`, `fields`, `over_fields`, `loops` (to copy), `presence`, `wanted` (many names), `unions`,
+//!   `equality`, `nullabilities`, `validity`, `registered` (sessions that a contract names).
 #![tactic(auto)]
 
-pub mod appending;
 pub mod arrays;
 pub mod binder;
 pub mod equality;
 pub mod fields;
 pub mod guide;
-pub mod lookups;
 pub mod loops;
 pub mod nullabilities;
 pub mod orders;

@@ -1,14 +1,16 @@
 // SPDX-License-Identifier: Apache-2.0
 // SPDX-FileCopyrightText: Copyright the Vortex contributors
 
-//! Loops to copy, each with its invariant in `proofs/loops`: a search, names that are changed, a struct of which the names
-//! are changed, and columns that are bound. `over_fields` has a count and a test of all.
+//! Loops to copy, each with its invariant in `proofs/loops`: a search, names that are changed, structs of which the names
+//! or the types are changed, columns that are bound, and a walk down a type. `over_fields` has a count and a test of all.
 ghost use Rattle.std.specs.Prelude.{◌≡◌, Any, IfNone, IfOk, IfSome, None, Some, find, map};
-ghost use Rattle.dtype_types.specs.parts.Lookups.{field_types};
+ghost use Rattle.dtype_types.specs.parts.Lookups.{field_names, field_types};
+ghost use Rattle.dtype_types.specs.nullability.Nullable.{set_null};
 ghost use Rattle.dtype_types.specs.tree.Kinds.{is_nested};
 ghost use Rattle.dtype_types.specs.tree.TreeOf.{children, tree};
 ghost use Rattle.vortex_dtype.specs.Along.{along};
-ghost use Rattle.uses_types.specs.Loops.{renamed_fields, renaming};
+ghost use Rattle.vortex_dtype.specs.Types.Nullability.TheVariants.{Nullable};
+ghost use Rattle.uses_types.specs.Loops.{innermost_type, renamed_fields, renaming};
 
 use std::alloc::Global;
 use vortex_dtype::{
@@ -63,6 +65,20 @@ pub fn rename_column(
     Ok(StructFields::from_iter(alloc, fields)?)
 }
 
+/// Returns the table in which each column is nullable. The names and the types are otherwise as before.
+pub fn nullable_columns(alloc: Global, table: &StructFields) -> VortexResult<StructFields>
+    ensures names { IfOk result (λ s. field_names (children s) ≡ field_names (children table.now)) }
+    ensures types { IfOk result (λ s. map (λ t. Some t) (field_types (children s))
+        ≡ map (λ t. set_null t Nullable) (field_types (children table.now))) }
+{
+    let mut fields = Vec::new(alloc);
+    for (name, dtype) in table.pairs() {
+        let column = FieldDType::from(dtype.as_nullable(alloc)?);
+        fields.push((name.try_clone(alloc)?, column))?;
+    }
+    Ok(StructFields::from_iter(alloc, fields)?)
+}
+
 /// The types of some columns, or `None` exactly where the table lacks one.
 pub fn bind_all<'a>(
     alloc: Global,
@@ -81,4 +97,16 @@ pub fn bind_all<'a>(
         }
     }
     Ok(Some(types))
+}
+
+/// Returns the element type of the innermost list, or the type itself if it is no list.
+#[tactic(auto, using(vortex_dtype::proofs::parts::smaller_parts))]
+pub fn innermost(dtype: &DType) -> &DType
+    ensures { tree result.now ≡ innermost_type (tree dtype.now) }
+{
+    let mut here = dtype;
+    while let Some(element) = here.as_any_size_list_element_opt() {
+        here = element;
+    }
+    here
 }

@@ -13,8 +13,9 @@ from repository import text_of
 
 # How many rulesets are tried alone in the first round and in the third, and how many pairs in the second.
 FIRST, LATER, PAIRS = 12, 14, 10
-# The ruleset for a loop over two structs side by side, of which no definition tells that it fits.
-ZIPPED = "vortex_dtype::proofs::parts::zipped"
+# The rulesets for a loop over two structs side by side, and for one that goes down a type, of which no definition tells
+# that they fit.
+ZIPPED, SMALLER = (f"vortex_dtype::proofs::parts::{it}" for it in ("zipped", "smaller_parts"))
 
 # A change of a function: the text with a form in it, the rulesets of the line above it (None: as it is), its invariant.
 Try = namedtuple("Try", "form rulesets invariant")
@@ -39,8 +40,9 @@ class Subject:
         self.loops = [(it, guess) for it in every if it.loop
                       for guess in invariants.guesses_of_form(it, text, crate, path)[:2]]
         self.ranked = rulesets.ranked(self.contract, function.signature + function.body)
-        if ".zip(" in self.text and ZIPPED in self.ranked:
-            self.ranked.sort(key=lambda it: it != ZIPPED)
+        for word, fitting in ((".zip(", ZIPPED), ("while ", SMALLER)):
+            if word in self.text and fitting in self.ranked:
+                self.ranked.sort(key=lambda it: it != fitting)
         self.tried = {AS_WRITTEN: said.open_goals(path)}
         self.goals, self.verdict = said.goals.get(path, {}), said.verdicts.get(path, "")
         # (of a loop that has an invariant the skeleton is what a check says without it)
@@ -89,7 +91,7 @@ class Subject:
         """The first tries: each ruleset alone that fits best, and each form."""
         if self.has_loop:
             lines = [(), *[(it,) for it in self.ranked[:4] if (it,) != self.own]]
-            own = [Try(None, line, None) for line in lines if self.has_own]
+            own = [Try(None, line, None) for line in [*lines, *self.more_lines(self.ranked[:3])] if self.has_own]
             guesses = [Try(None, line, it) for line in [None, *lines] for it in self.invariants[:4]]
             others = [Try(form, line, it) for line in [None, *lines[:1]] for form, it in self.other_loops[:6]]
             return [it for each in zip_longest(guesses, own, others) for it in each if it]
@@ -103,11 +105,22 @@ class Subject:
         """The lines above a loop that is tried in place of a chain."""
         return list(dict.fromkeys([None, (), *[(it,) for it in self.ranked[:1] if it == ZIPPED]]))
 
+    def more_lines(self, names):
+        """Lines for a loop with one ruleset more: beside the function's own, or pairs of those that fit best."""
+        if self.own:
+            return [(*self.own, it) for it in names if it not in self.own]
+        return [(one, other) for n, other in enumerate(names[:4]) for one in names[:n]]
+
     def second(self):
         """Pairs, by the goals that each of two rulesets leaves open, and forms with rulesets."""
         if self.has_loop:
             files = [None] * self.has_own + self.invariants[:2]
-            return [Try(None, (it,), file) for it in self.ranked[4:9] for file in files]
+            # (a form that leaves the loop as it is keeps its invariant)
+            ends = [it for it in self.forms if forms.loop_of(self.text) in it.text] if self.has_own else []
+            found = [[Try(None, (it,), file) for it in self.ranked[4:9] for file in files],
+                     [Try(None, line, file) for line in self.more_lines(self.ranked[:6]) for file in files],
+                     [Try(form, line, None) for form in ends for line in [None, *[(it,) for it in self.ranked[:2]]]]]
+            return [it for each in zip_longest(*found) for it in each if it]
         found = []
         for form in [None, *self.forms]:
             alone = {it.rulesets: goals for it, goals in self.tried.items() if it.form == form and it.invariant is None}

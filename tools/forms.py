@@ -45,6 +45,13 @@ def text_of_parts(parts):
     return f"{parts.head}{clauses}\n{parts.body}"
 
 
+def loop_of(text):
+    """The first loop of a function, from its word to the end of its block, or all of the text if it has none."""
+    shape = shape_of(code_of(text))
+    found = re.search(r"\b(?:for \S[^{;]* in|while|loop)\b[^{;]*\{", shape)
+    return text[found.start():end_of(shape, found.end() - 1)] if found else text
+
+
 # ---- the last expressions of a body
 
 def end_of_statement(shape, at, end):

@@ -13,19 +13,24 @@ ASKED = re.compile(r"^(src/\S+?\.rt):(\d+):\d+: (?:error|note): .*?`([^`]+)` .*?
 MISPLACED = re.compile(r"^(src/\S+?\.rt):(\d+):\d+: note: `([^`]+)` is in .*help: take it out of this line", re.M)
 NOT_THERE = re.compile(r"^(?:\./)?((?:src|proofs)/\S+?\.(?:rt|antt)):(\d+):\d+: error: module `[^`]+` has no `([^`]+)` that can be "
                        r"named from here", re.M)
+UNKNOWN = re.compile(r"^(?:\./)?(proofs/\S+?\.antt):\d+:\d+: error: (?:`[^`]+`: )?`([^`]+)` is not in scope", re.M)
 ROW = re.compile(r"(?m)^\| (.*?) \|.*`(Rattle\.[\w.]+)` \|$")
 
 
 @lru_cache(maxsize=1)
 def modules():
-    """The module of each word: of the words of the library as the glossary has it, and of the words of std that the
-    libraries import from the prelude."""
+    """The module of each word: of the words of the library as the glossary has it, of the words of std that the libraries
+    import from the prelude, and of what the invariants of the callers import besides."""
     found = {}
     for words, module in ROW.findall(text_of("docs/GLOSSARY.md")):
         found.update((word, module) for word in re.findall(r"`([\w.-]+)[^`]*`", words))
     for file in glob("crates/*/src/**/*.rt", recursive=True):
         for listing in re.findall(rf"ghost use {re.escape(PRELUDE)}\.\{{([^}}]*)\}}", text_of(file)):
             found.update((word.strip(), PRELUDE) for word in listing.split(","))
+    for file in glob("crates/uses_*/proofs/**/Invariants.antt", recursive=True):
+        for module, listing in re.findall(r"(?m)^use (Rattle\.(?:std\.specs|\w+\.proofs\.lemmas)\.\S+)\.\{([^}]*)\}", text_of(file)):
+            for word in listing.split(","):
+                found.setdefault(word.strip(), module)
     return found
 
 
@@ -40,6 +45,7 @@ def asked_for(said):
         if word in modules() and not any(it[::2] == (file, word) for it in wrong):
             wrong.add((file, int(line), word))
             lacking.add((file, word, modules()[word]))
+    lacking |= {(file, word, modules()[word]) for file, word in UNKNOWN.findall(said) if word in modules()}
     return wrong, lacking
 
 

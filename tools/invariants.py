@@ -21,7 +21,8 @@ NOWHERE = "\0"
 EXTRA = {"take": COMMON, "drop": COMMON, "map": COMMON, "length": COMMON, "◌++◌": COMMON, "◌+◌": COMMON, "◌<◌": COMMON,
          "◌^◌": COMMON, "◌≡◌": COMMON, "◌↔◌": COMMON, "into_iter_items": "Rattle.std.specs.Vec.Iter",
          "zip_first": "Rattle.std.specs.Iterator.Adapters", "zip_second": "Rattle.std.specs.Iterator.Adapters",
-         "Field": "Rattle.vortex_dtype.specs.Types.Field"}
+         "Field": "Rattle.vortex_dtype.specs.Types.Field", "field_tree": "Rattle.vortex_dtype.specs.FieldTypes",
+         "weight": "Rattle.dtype_types.proofs.lemmas.TypesBelow"}
 # A definition of a skeleton with a hole, or with what the toolchain knows of a loop by itself. In a function that takes a
 # session it has one argument more.
 HOLE = re.compile(r"(?m)^((?:invariant|decreases)-\S+)((?: \w+)* l) =(?: \?|(?:\n {4}.*)+)$")
@@ -186,25 +187,36 @@ def walks(clause, loop, parts, known):
 
 
 def of_what_is_made(parts, ensured, loop, known):
-    """What is said of the types of a struct that is made of a list, said of the list that the loop collects."""
-    made = re.search(r"StructFields::new\(\w+, (\w+)(?:\.\w+\(\w*\)\??)?, (\w+)\)\??\)?\s*\}\s*\Z", parts.body)
-    if not made or made[2] not in known:
-        return []
+    """What is said of a struct that is made of a list, said of the list that the loop collects."""
+    made = re.search(r"StructFields::(?:new|from_fields)\(\w+, (\w+)(?:\.\w+\(\w*\)\??)?, (\w+)\)\??\)?\s*\}\s*\Z", parts.body)
+    pairs = re.search(r"StructFields::from_iter\(\w+, (\w+)\)\??\)?\s*\}\s*\Z", parts.body)
     found = []
     for clause in ensured:
         about = re.fullmatch(r"IfOk result \(λ (\w+)\. (.*)\)", clause)
-        if not about or f"field_types (children {about[1]})" not in about[2]:
+        if about and made and made[2] in known:
+            said = replaced(about[2], f"field_types (children {about[1]})", f"map tree l.{made[2]}.items")
+        elif about and pairs and pairs[1] in known:
+            said = replaced(about[2], f"children {about[1]}", f"map (λ p. (p.0, field_tree p.1)) l.{pairs[1]}.items")
+        else:
             continue
-        said = about[2].replace(f"(field_types (children {about[1]}))", f"field_types (children {about[1]})")
-        list_of = f"map tree l.{made[2]}.items"
-        said = re.sub(rf"(?<=[\w)] )field_types \(children {about[1]}\)", f"({list_of})", said)
-        said = said.replace(f"field_types (children {about[1]})", list_of)
-        if re.search(rf"(?<![\w.]){about[1]}(?![\w'])", said):
+        if said == about[2] or re.search(rf"(?<![\w.]){about[1]}(?![\w'])", said):
             continue
-        found += equations(said, loop, known)
-        if " ≡ " not in said:
-            found.append(in_invariant(said, known))
-    return found
+        equal = equations(said, loop, known)
+        found += equal or [in_invariant(said, known)]
+    # (several clauses need an invariant that says all of them)
+    return found + [all_of(found)] * (len(found) > 1)
+
+
+def replaced(text, old, new):
+    """A statement with another term in place of one, which has its parentheses wherever it is an argument."""
+    text = text.replace(f"({old})", f"({new})")
+    text = re.sub(rf"(?<=[\w)] ){re.escape(old)}(?![\w'])", f"({new})", text)
+    return re.sub(rf"(?<![\w(.]){re.escape(old)}(?![\w'])", new, text)
+
+
+def all_of(statements):
+    """One invariant that says several things."""
+    return "record {\n" + "".join(f"  part{n} : {it};\n" for n, it in enumerate(statements, 1)) + "}"
 
 
 def equations(clause, loop, known):
@@ -266,6 +278,8 @@ def imports(statement, text, skeleton):
 def guesses(text, file_text, skeleton, names):
     """The files of invariants to try."""
     holes = list(HOLE.finditer(skeleton))
+    if [it[1].rpartition("-")[0] for it in holes] == ["invariant-loop", "decreases-loop"]:
+        return down_a_type(text, file_text, skeleton, holes)
     if len(holes) != 1 or not holes[0][1].startswith("invariant-loop-"):
         return []
     name, arguments, found = holes[0][1], holes[0][2], []
@@ -276,6 +290,25 @@ def guesses(text, file_text, skeleton, names):
         last = next((n for n, line in enumerate(head.split("\n")) if line.endswith(" as goal")), 0)
         head = "\n".join([*head.split("\n")[:last], *lines, *head.split("\n")[last:]])
         found.append(f"{head}\n\n{rest.replace(' l = ?', ' l = ' + it)}")
+    return found
+
+
+def down_a_type(text, file_text, skeleton, holes):
+    """The files to try for a `while` loop whose variable goes from a type to a part of it: what a clause says of the first
+    type is the same of the type so far, which contains fewer and fewer types."""
+    parts, found = forms.parts_of(text), []
+    for here, first in re.findall(r"let mut (\w+) = (\w+);", parts.body):
+        for clause in [" ".join(it.text.split()) for it in parts.clauses if it.kind == "ensures"]:
+            for sign in (" ≡ ", " ↔ "):
+                sides = [it for it in forms.split_at(clause, sign) if re.search(rf"\btree {first}\.now", it)]
+                if len(sides) != 1 or "result" in sides[0]:
+                    continue
+                said = sign.join(re.sub(rf"(?<![\w.]){first}\.now", f"l.{it}", sides[0]) for it in (here, first))
+                said = re.sub(r"(?<![\w.])(\w+)\.now\b", r"l.\1", said)
+                measure = f"weight (tree l.{here})"
+                file = skeleton[:holes[0].start(2)] + f" l = {said}" + skeleton[holes[0].end():holes[1].start(2)] + f" l = {measure}\n"
+                lines = imports(f"{said} {measure}", file_text, skeleton)
+                found.append(re.sub(r"(?m)^(use \S+ as goal)$", "\n".join([*lines, r"\1"]), file, count=1))
     return found
 
 

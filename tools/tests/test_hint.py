@@ -142,6 +142,18 @@ class Hint(Planted):
         _, said = self.hint(HEAD + LISTED, ["rulesets::covering"])
         self.assertIn("listed: proved:\n    + #[tactic(auto, using(vortex_dtype::proofs::rulesets::covering))]\n", said)
 
+    def test_an_invariant_of_ones_own_that_wants_one_ruleset_more_is_kept(self):
+        self.write(f"{CRATE}/proofs/listed/Invariants.antt", WRONG)
+        source = LISTED.replace("pub fn", "#[tactic(auto, using(vortex_dtype::proofs::rulesets::members))]\npub fn")
+        both = "using(vortex_dtype::proofs::rulesets::members, vortex_dtype::proofs::"
+        _, said = self.hint(HEAD + source, [both])
+        self.assertIn(f"    + #[tactic(auto, {both}", said)
+
+    def test_an_invariant_of_ones_own_is_kept_with_another_form_of_the_end(self):
+        self.write(f"{CRATE}/proofs/listed/Invariants.antt", WRONG)
+        _, said = self.hint(HEAD + LISTED.replace("Ok(found)", "made(found)"), ["Ok(made(found)?)"])
+        self.assertIn("listed: proved with `Ok(call(..)?)` in place of a call at the end:\n    -     made(found)\n", said)
+
     def test_a_contract_with_a_mistake_is_not_tried(self):
         status, said = self.hint(HEAD + TYPE_AT.replace("Valid (tree d.now)", "Mistaken d"), [""])
         self.assertIn("type_at: not proved, since its contract has a mistake:\n    `ensures-1`: `Mistaken` is not in scope\n", said)
@@ -187,6 +199,12 @@ class Hint(Planted):
         self.assertEqual(imports.mended("proofs/f/Invariants.antt", source, *imports.asked_for(said)),
                          source.replace("use Rattle.dtype_types.specs.Lists.{with_trees}\n", "").replace(
                              "use Rattle.std.proofs", "use Rattle.vortex_dtype.specs.TreeOf.{with_trees}\nuse Rattle.std.proofs"))
+
+    def test_a_word_that_an_invariant_lacks_is_imported(self):
+        said = "./proofs/f/Invariants.antt:3:9: error: `invariant-loop-a`: `zip_first` is not in scope\n"
+        source = "use Rattle.shop.proofs.f.Given as goal\n\ninvariant-loop-a l = P (zip_first l.a-iterator)\n"
+        self.assertEqual(imports.mended("proofs/f/Invariants.antt", source, *imports.asked_for(said)),
+                         f"use Rattle.std.specs.Iterator.Adapters.{{zip_first}}\n{source}")
 
     def test_a_word_of_std_that_is_also_a_variant_is_imported_from_std(self):
         said = ("src/lib.rt:9:43: error: `ensures-kept`: `List` is not in scope: add "
@@ -339,6 +357,27 @@ class Invariants(unittest.TestCase):
                 "    for d in t.fields() {\n        dtypes.push(g(d)?)?;\n    }\n    StructFields::new(alloc, names, dtypes)\n}")
         self.assertEqual(invariants.statements(text, ["t", "names", "dtypes", "d-iterator"]),
                          ["All IsNullable (map tree l.dtypes.items)"])
+
+    def test_a_struct_that_is_made_of_pairs(self):
+        text = ("fn f(alloc: Global, t: &StructFields) -> VortexResult<StructFields>\n"
+                "    ensures names { IfOk result (λ s. field_names (children s) ≡ field_names (children t.now)) }\n"
+                "    ensures types { IfOk result (λ s. All P (field_types (children s))) }\n{\n    let mut fields = Vec::new(alloc);\n"
+                "    for (n, d) in t.pairs() {\n        fields.push(g(n, d)?)?;\n    }\n    Ok(StructFields::from_iter(alloc, fields)?)\n}")
+        made = "(map (λ p. (p.0, field_tree p.1)) l.fields.items)"
+        names = f"field_names {made} ++ field_names (with_trees l.n-iterator) ≡ field_names (children l.t)"
+        types = f"All P (field_types {made})"
+        self.assertEqual(invariants.statements(text, ["t", "fields", "n-iterator"]),
+                         [names, types, f"record {{\n  part1 : {names};\n  part2 : {types};\n}}"])
+
+    def test_a_loop_down_a_type_has_a_measure(self):
+        text = ("fn f(d: &DType, n: &u8) -> &DType\n    ensures { tree result.now ≡ inner n.now (tree d.now) }\n{\n"
+                "    let mut here = d;\n    while let Some(e) = here.g(n) {\n        here = e;\n    }\n    here\n}")
+        skeleton = ("use Rattle.shop.proofs.f.Given as goal\n\nabbrev pub invariant-loop-e : goal.invariant-loop-e\n"
+                    "invariant-loop-e l = ?\n\nabbrev pub decreases-loop-e : goal.decreases-loop-e\ndecreases-loop-e l = ?\n")
+        file, = invariants.guesses(text, "", skeleton, {})
+        self.assertIn("use Rattle.dtype_types.proofs.lemmas.TypesBelow.{weight}\n", file)
+        self.assertIn("invariant-loop-e l = inner l.n (tree l.here) ≡ inner l.n (tree l.d)\n", file)
+        self.assertIn("decreases-loop-e l = weight (tree l.here)\n", file)
 
     def test_an_invariant_beside_a_session_has_an_argument_more(self):
         text = ("fn f(s: &DTypeSession, xs: &[A]) -> VortexResult<Vec<B>>\n    ensures { IfOk result (λ v. map Some v.items ≡ map g xs.now) }\n"

@@ -3,9 +3,12 @@
 
 /* The logical types of columnar data, and paths into them: the C interface of a library that is proved. Each function
  * below that the library exports has a contract in crates/vortex_logical_types. The contract says what the function
- * returns and what its slots contain afterwards, and it is proved. For vlt_answer and for the functions whose names end
- * in _text the contract leaves open which value a text stands for, and which text is written. The inline functions at
- * the end of this header aren't proved.
+ * returns and what its slots contain afterwards, and it is proved. The contracts of 17 functions leave something open,
+ * which is only tested. For vlt_answer and for the functions whose names end in _text it is open which value a text
+ * stands for, which text is written, how long it is, and which error is returned. For vlt_message_from_nodes and
+ * vlt_message_to_nodes it is open in which cases they return each error. For vlt_dtype_struct, vlt_dtype_union,
+ * vlt_dtype_union_consecutive, vlt_struct_project, vlt_path_from_steps and vlt_path_from_message it is open which of
+ * several faults is reported. The inline functions at the end of this header aren't proved.
  *
  * Slots. A slot is a place for one object (a type, a path, a set of paths and so on), and it owns the object.
  * Initialise a slot with {0}, which makes it empty. When you no longer need its object, call vlt_free, which drops the
@@ -292,7 +295,8 @@ uint32_t vlt_dtype_keys_sorted(vlt_slot *dtype);
  * byte at which reading failed, counted from 1, to `position`. At an unknown word this is its first byte. */
 uint32_t vlt_dtype_from_text(const uint8_t *text, size_t text_len, vlt_slot *out, size_t *position);
 
-/* Writes the type to `buffer` in the form of the console. `vlt_dtype_from_text` reads the same type from this text. */
+/* Writes the type to `buffer` in the form of the console. `vlt_dtype_from_text` reads the same type from this text,
+ * which is tested and not proved. */
 uint32_t vlt_dtype_to_text(vlt_slot *dtype, uint8_t *buffer, size_t buffer_len, size_t *length);
 
 /* Writes the type to `buffer` as the library displays it, for example `{a=i32, b=list(utf8)?}`. */
@@ -461,7 +465,7 @@ uint32_t vlt_path_from_message_text(const uint8_t *text, size_t text_len, vlt_sl
 uint32_t vlt_path_from_text(const uint8_t *text, size_t text_len, vlt_slot *out, size_t *position);
 
 /* Writes the path to `buffer` in the form of the console, for example `a.[].b`. `vlt_path_from_text` reads the same
- * path from this text. */
+ * path from this text, which is tested and not proved. */
 uint32_t vlt_path_to_text(vlt_slot *path, uint8_t *buffer, size_t buffer_len, size_t *length);
 
 /* Stores in `out` the root, which is the path without steps. */
@@ -638,7 +642,7 @@ uint32_t vlt_mask_eq(vlt_slot *one, vlt_slot *other);
 uint32_t vlt_message_from_text(const uint8_t *text, size_t text_len, vlt_slot *out, size_t *position);
 
 /* Writes the message to `buffer` in the form of the console. `vlt_message_from_text` reads the same message from this
- * text. */
+ * text, which is tested and not proved. */
 uint32_t vlt_message_to_text(vlt_slot *message, uint8_t *buffer, size_t buffer_len, size_t *length);
 
 /* Stores in `out` a copy of the message. */

@@ -672,7 +672,8 @@ pub(crate) fn dtype_from_text(text: &[u8], out: &mut Slot, position: &mut usize)
     unsafe { vlt_dtype_from_text(text.as_ptr(), text.len(), out, position) }
 }
 
-/// Writes the type to `buffer` in the form of the console. `vlt_dtype_from_text` reads the same type from this text.
+/// Writes the type to `buffer` in the form of the console. `vlt_dtype_from_text` reads the same type from this text,
+/// which is tested and not proved.
 pub(crate) fn dtype_to_text(dtype: &Slot, buffer: &mut [u8], length: &mut usize) -> u32 {
     let mut lent_dtype = dtype.lent();
     // SAFETY: see the head of this file.
@@ -1078,7 +1079,7 @@ pub(crate) fn path_from_text(text: &[u8], out: &mut Slot, position: &mut usize) 
 }
 
 /// Writes the path to `buffer` in the form of the console, for example `a.[].b`. `vlt_path_from_text` reads the same
-/// path from this text.
+/// path from this text, which is tested and not proved.
 pub(crate) fn path_to_text(path: &Slot, buffer: &mut [u8], length: &mut usize) -> u32 {
     let mut lent_path = path.lent();
     // SAFETY: see the head of this file.
@@ -1548,7 +1549,7 @@ pub(crate) fn message_from_text(text: &[u8], out: &mut Slot, position: &mut usiz
 }
 
 /// Writes the message to `buffer` in the form of the console. `vlt_message_from_text` reads the same message from this
-/// text.
+/// text, which is tested and not proved.
 pub(crate) fn message_to_text(message: &Slot, buffer: &mut [u8], length: &mut usize) -> u32 {
     let mut lent_message = message.lent();
     // SAFETY: see the head of this file.

@@ -11,8 +11,11 @@
 //!
 //! What is proved:
 //! - [`Slot::take`] returns the object that the slot contained, and leaves the slot empty.
-//! - [`Slot::put`] drops the object that the slot contained, if there was one, and leaves the new object in the slot.
-//! - If a slot that contains an object goes out of scope, the object is dropped once.
+//! - [`Slot::put`] leaves the new object in the slot.
+//! - No object is dropped twice, and none is used after it was dropped.
+//!
+//! That [`Slot::put`] drops the object that the slot contained before, and that a slot which goes out of scope drops its
+//! object, is tested and not proved, because a body that forgets the object would meet every contract.
 #![tactic(auto)]
 
 pub use object::Object;

@@ -57,7 +57,7 @@ fn read_message(alloc: Global, text: &str) -> ConsoleResult<pb::DType> {
 }
 
 /// Writes the message to `buffer` in the form of the console. `vlt_message_from_text` reads the same message from this
-/// text.
+/// text, which is tested and not proved.
 #[unsafe(no_mangle)]
 pub extern "C" fn vlt_message_to_text(
     alloc: Global,

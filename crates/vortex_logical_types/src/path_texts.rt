@@ -72,7 +72,7 @@ fn read_step(alloc: Global, line: &mut Line<'_>) -> ConsoleResult<Field> {
 }
 
 /// Writes the path to `buffer` in the form of the console, for example `a.[].b`. `vlt_path_from_text` reads the same
-/// path from this text.
+/// path from this text, which is tested and not proved.
 #[unsafe(no_mangle)]
 pub extern "C" fn vlt_path_to_text(
     alloc: Global,

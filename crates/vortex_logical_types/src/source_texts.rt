@@ -53,7 +53,8 @@ fn read_dtype(alloc: Global, text: &str) -> ConsoleResult<DType> {
     line.then_end(dtype)
 }
 
-/// Writes the type to `buffer` in the form of the console. `vlt_dtype_from_text` reads the same type from this text.
+/// Writes the type to `buffer` in the form of the console. `vlt_dtype_from_text` reads the same type from this text,
+/// which is tested and not proved.
 #[unsafe(no_mangle)]
 pub extern "C" fn vlt_dtype_to_text(
     alloc: Global,

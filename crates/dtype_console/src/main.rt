@@ -185,7 +185,8 @@ impl Run {
         Ok(())
     }
 
-    // Writes a line to standard error, by which `tools/refuse_allocation.c` knows which answer an allocation belongs to.
+    // Writes a line to standard error, by which `tools/gate/refuse_allocation.c` knows which answer an allocation
+    // belongs to.
     fn mark<P: Eprint>(&self, rt: &P, text: &str) {
         if self.is_marking {
             let _ = eprintln!(rt; "{text}");

@@ -16,7 +16,7 @@
 //!
 //! The clauses of `run` speak of what a reader has left to read and of what a writer has taken. Slices and vectors state
 //! both, and the standard streams state neither. So for the program as it runs only the clause `unwritten` says
-//! something, and the rest is tested (`tools/faults`).
+//! something, and the rest is tested (`tools/gate/faults`).
 #![tactic(auto)]
 
 ghost use Rattle.std.specs.Prelude.{◌≡◌, ◌+◌, ◌<◌, ◌≤◌, length, IsUtf8, IfErr, IfSome, IsErrOf, OnOk};

@@ -5,14 +5,14 @@
 //! made to fail.
 //!
 //! It has no input. Without arguments it makes all calls. For each it prints a line: the call, `: `, and the outcome. Before the call it writes the line
-//! `begin` to standard error, and after it the line `end`: between them `tools/refuse_allocation.c` counts allocations
-//! and makes them fail. The arguments of a call are built before `begin`, and its effect is read after `end`. After an
+//! `begin` to standard error, and after it the line `end`: between them `tools/gate/refuse_allocation.c` counts
+//! allocations and makes them fail. The arguments of a call are built before `begin`, and its effect is read after `end`. After an
 //! insertion the set must hold a prefix of the list of inserted paths, and after another call that fails all must be as
 //! before; anything else is a fault.
 //!
 //! With four arguments it makes one call (`shifted.rt`).
 //!
-//! Begin with `changes.rt`. `tools/refused_memory` runs the program, and says what is asked of its lines.
+//! Begin with `changes.rt`. `tools/gate/refused_memory` runs the program, and says what is asked of its lines.
 #![tactic(auto)]
 
 use anyhow::Result;

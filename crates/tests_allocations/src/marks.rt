@@ -1,7 +1,7 @@
 // SPDX-License-Identifier: Apache-2.0
 // SPDX-FileCopyrightText: Copyright the Vortex contributors
 
-// The lines on standard error before and after a call. Where one can't be written, `tools/refused_memory` misses the
+// The lines on standard error before and after a call. Where one can't be written, `tools/gate/refused_memory` misses the
 // call's count.
 
 pub fn begin(rt: &impl Eprint) {

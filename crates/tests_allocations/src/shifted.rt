@@ -3,7 +3,7 @@
 
 // One `extend`, or the insertion of one of its paths alone, after as many other allocations as an argument says. Under
 // `rt try --fail-alloc N` always the same allocation of the program fails. The others come before it, so that each
-// allocation of the call can be the one that fails. `tools/test_mutations` runs the program so.
+// allocation of the call can be the one that fails. `tools/mutations/test_mutations` runs the program so.
 use crate::changes;
 use anyhow::Result;
 use std::alloc::Global;

@@ -1,0 +1,164 @@
+# SPDX-License-Identifier: Apache-2.0
+# SPDX-FileCopyrightText: Copyright the Vortex contributors
+
+"""tools/mutations/mutations, over a `rattle` that says of a check what it is told."""
+import os
+import re
+
+from planted import Planted
+
+CRATE = "crates/fixtures_values"
+# Two functions, and mutations of each.
+SOURCE = "pub fn one() -> u8 {\n    1\n}\n\npub fn two() -> u8 {\n    2\n}\n"
+ONE, TWO = "file: src/two.rt\nold:     1\nnew:     3\n", "file: src/two.rt\nold:     2\nnew:     4\n"
+# What a check says of the function `one`, and after it of `two`.
+BY_SEARCH = "no proof: expected answers in ./proofs/two/one/Answers.antt; `search` did not prove `returns-clause-is`"
+BY_HAND = "not proved; it stands on `Rattle.fixtures_values.proofs.two.two.Answers.returns`, which antt refuses"
+WRONG_GOAL = "./proofs/two/two/Answers.antt:7:1: error: `returns`: computed as far as they go, the two types differ"
+NO_FIELD = "./proofs/two/two/Answers.antt:7:1: error: `c.two` has no field `three`"
+# The impl of a trait with a law, and what a check says of it.
+IMPL = "\npub trait Wide {\n    const X: u8;\n}\n\nimpl Wide for u8 {\n    const X: u8 = 5;\n}\n"
+WIDER = "file: src/two.rt\nold:     const X: u8 = 5;\nnew:     const X: u8 = 6;\n"
+LAWS = "Rattle.fixtures_values.specs.contracts.two.U8Wide.TheImpl.Laws"
+BY_LAW = f"not proved; antt refuses `wide_law-value` in `{LAWS}`: help: mend the term at the error above"
+UNFINISHED = f"not proved; antt did not finish `{LAWS}`, for what it cites"
+BY_CALL = "no proof: it calls `fixtures_values::two::one`, which is not proved"
+
+
+class Mutations(Planted):
+    def setUp(self):
+        super().setUp()
+        self.write(f"{CRATE}/src/two.rt", SOURCE)
+
+    def tried(self, mutations, *said):
+        """What the tool prints of these mutations, and its status, where a check says this; each check is counted."""
+        for name, text in mutations.items():
+            self.write(f"{CRATE}/wrong/{name}.edit", text)
+        lines = "\n".join([*said, "only=1 holes=0"])
+        self.write("said", f"{lines}\n")
+        self.script("rt", "[ \"$1\" != version ] || echo kit")
+        self.script("rattle", f"echo $@ >>{self.top}/checks; cat {self.top}/said")
+        status, said = self.run_tool("mutations", "fixtures_values")
+        return status, re.sub(r"(?m)^fixtures_values: (\d) checks?, .* processor time\n", "", said)
+
+    def test_what_a_clause_refuses_passes(self):
+        said = f"fn fixtures_values::two::one: {BY_SEARCH}"
+        self.assertEqual(self.tried({"a": ONE}, said), (
+            0, "fixtures_values: a: refused by returns-clause-is\n"
+               "1 of 1 mutations are refused: 1 by a clause\n1 passed, 0 failed\n"))
+
+    def test_what_was_refused_is_kept(self):
+        said = f"fn fixtures_values::two::one: {BY_SEARCH}"
+        self.tried({"a": ONE}, said)
+        self.assertEqual(self.tried({"a": ONE}, "fn fixtures_values::two::one: proved"), (
+            0, "fixtures_values: a: refused by returns-clause-is (kept)\n"
+               "1 of 1 mutations are refused: 1 by a clause\n1 passed, 0 failed\n"))
+        self.write(f"{CRATE}/src/two.rt", f"{SOURCE}\n")
+        self.assertEqual(self.tried({"a": ONE}, "fn fixtures_values::two::one: proved")[0], 1)
+
+    def test_what_is_still_proved_fails(self):
+        self.assertEqual(self.tried({"a": ONE}, "fn fixtures_values::two::one: proved"), (
+            1, "fixtures_values: a: NOT REFUSED\n0 of 1 mutations are refused\n0 passed, 1 failed\n"))
+
+    def test_mutations_of_two_functions_are_tried_in_one_check(self):
+        said = [f"fn fixtures_values::two::one: {BY_SEARCH}", f"fn fixtures_values::two::two: {BY_HAND}", WRONG_GOAL]
+        self.assertEqual(self.tried({"a": ONE, "b": TWO}, *said), (
+            0, "fixtures_values: a: refused by returns-clause-is\n"
+               "fixtures_values: b: refused at its proof of returns\n"
+               "2 of 2 mutations are refused: 1 at a proof by hand, 1 by a clause\n2 passed, 0 failed\n"))
+        checks = self.read("checks")
+        self.assertEqual(checks.count("\n"), 1)
+        self.assertIn("--only fixtures_values::two::one --only fixtures_values::two::two", checks)
+
+    def test_a_method_is_named_by_its_type(self):
+        self.write(f"{CRATE}/src/two.rt", f"{SOURCE}\nimpl Three {{\n    pub fn three() -> u8 {{\n        5\n    }}\n}}\n")
+        said = f"fn fixtures_values::three::Three::three: {BY_SEARCH}"
+        self.assertEqual(self.tried({"a": "file: src/two.rt\nold:         5\nnew:         6\n"}, said)[0], 0)
+        self.assertIn("--only Three::three", self.read("checks"))
+
+    def test_mutations_of_one_cycle_are_tried_apart(self):
+        self.write(f"{CRATE}/src/two.rt", SOURCE.replace("pub fn", "#[cycle(both)]\npub fn"))
+        said = [f"fn fixtures_values::two::one: {BY_SEARCH}", f"fn fixtures_values::two::two: {BY_SEARCH}"]
+        self.assertEqual(self.tried({"a": ONE, "b": TWO}, *said)[0], 0)
+        self.assertEqual(self.read("checks").count("\n"), 2)
+
+    def test_a_lemma_of_a_proof_that_fails_refuses_alone(self):
+        said = ["fn fixtures_values::two::one: not proved; it stands on `Rattle.fixtures_values.proofs.Sides.pairs`, which "
+                "antt refuses", "./proofs/Sides.antt:7:1: error: `pairs`: `search`: no proof"]
+        self.assertEqual(self.tried({"a": ONE}, *said)[1].splitlines()[0],
+                         "fixtures_values: a: refused at its proof, at the lemma pairs")
+
+    def test_a_lemma_that_is_missing_in_a_ruleset_is_tried_alone(self):
+        said = ["fn fixtures_values::two::one: no proof: expected answers in ./proofs/two/one/Answers.antt",
+                f"fn fixtures_values::two::two: {BY_SEARCH}",
+                "./proofs/Sides.antt:7:1: error: `pairs`: as printed, the two sides first differ",
+                "./proofs/Sides.antt:9:1: error: `sides` is not admitted: rejected",
+                "./proofs/two/one/Answers.antt:9:1: error: 1 declaration that depends on `pairs`, which was rejected"]
+        self.assertEqual(self.tried({"a": ONE, "b": TWO}, *said), (
+            0, "fixtures_values: b: refused by returns-clause-is\n"
+               "fixtures_values: a: refused at its proof, at the lemma pairs\n"
+               "2 of 2 mutations are refused: 1 at a proof by hand, 1 by a clause\n2 passed, 0 failed\n"))
+        self.assertEqual(self.read("checks").count("\n"), 2)
+
+    def test_a_proof_that_names_what_is_gone_fails(self):
+        said = [f"fn fixtures_values::two::two: {BY_HAND}", NO_FIELD]
+        self.assertEqual(self.tried({"b": TWO}, *said), (
+            1, "fixtures_values: b: proof doesn't fit\n0 of 1 mutations are refused\n0 passed, 1 failed\n"))
+
+    def test_a_function_that_hangs_on_another_is_tried_alone(self):
+        said = [f"fn fixtures_values::two::one: {BY_SEARCH}", f"fn fixtures_values::two::two: {BY_CALL}"]
+        self.assertEqual(self.tried({"a": ONE, "b": TWO}, *said), (
+            1, "fixtures_values: a: refused by returns-clause-is\n"
+               "fixtures_values: b: only what it calls is refused\n"
+               "1 of 2 mutations are refused: 1 by a clause\n1 passed, 1 failed\n"))
+        self.assertEqual(self.read("checks").count("\n"), 2)
+
+    def test_mutations_that_do_not_compile_are_told_apart(self):
+        self.tried({"a": ONE, "b": TWO})
+        self.script("rattle", "echo 'error[unexpected-token]: expected `;`'")
+        status, said = self.run_tool("mutations", "--anew", "fixtures_values")
+        self.assertEqual(status, 1)
+        self.assertIn("fixtures_values: a: doesn't compile\nfixtures_values: b: doesn't compile\n", said)
+        self.assertIn("fixtures_values: 3 checks, ", said)
+
+    def test_libraries_are_built_unless_the_gate_has_just_built_them(self):
+        self.tried({"a": ONE}, f"fn fixtures_values::two::one: {BY_SEARCH}")
+        self.script("rt", "[ \"$1\" = lib ] && exit 1; echo kit")
+        for arguments, status in ((["--anew"], 1), (["--anew", "--after-ci"], 1), (["--after-ci"], 0)):
+            if status == 0:
+                for crate in ("dtype_base", "dtype_types"):
+                    os.makedirs(f"{self.top}/crates/{crate}/out/rlib/{crate}.rlib")
+            found, said = self.run_tool("mutations", *arguments, "fixtures_values")
+            self.assertEqual((found, "a library below isn't proved" in said), (status, status == 1), said)
+
+    def test_a_text_that_is_not_there_fails(self):
+        status, said = self.tried({"a": "file: src/two.rt\nold:     7\nnew:     3\n"})
+        self.assertEqual(status, 1)
+        self.assertIn("'    7' doesn't stand in crates/fixtures_values/src/two.rt exactly once", said)
+
+    def test_a_text_in_no_function_needs_the_name_of_one(self):
+        constant = f"{SOURCE}\npub const X: u8 = 5;\n"
+        self.write(f"{CRATE}/src/two.rt", constant)
+        edit = "file: src/two.rt\nold: pub const X: u8 = 5;\nnew: pub const X: u8 = 6;\n"
+        self.assertIn("it needs a line `fails: FUNCTION`", self.tried({"a": edit})[1])
+        said = f"fn fixtures_values::two::one: {BY_SEARCH}"
+        self.assertEqual(self.tried({"a": f"fails: one\n{edit}"}, said)[0], 0)
+
+    def test_an_impl_is_checked_with_the_whole_crate_for_its_laws(self):
+        self.write(f"{CRATE}/src/two.rt", SOURCE + IMPL)
+        said = [f"fn fixtures_values::two::one: {BY_SEARCH}", f"impl fixtures_values::two::U8Wide: {BY_LAW}"]
+        self.assertEqual(self.tried({"a": ONE, "b": WIDER}, *said), (
+            0, "fixtures_values: a: refused by returns-clause-is\n"
+               "fixtures_values: b: refused by the law wide_law\n"
+               "2 of 2 mutations are refused: 1 by a clause, 1 by a law\n2 passed, 0 failed\n"))
+        self.assertEqual([it.count("--only") for it in self.read("checks").splitlines()], [1, 0])
+
+    def test_an_impl_whose_laws_were_not_tried_fails(self):
+        self.write(f"{CRATE}/src/two.rt", SOURCE + IMPL)
+        for said, found in ((UNFINISHED, "only what it calls is refused"), ("no holes", "NOT REFUSED")):
+            status, text = self.tried({"b": WIDER}, f"impl fixtures_values::two::U8Wide: {said}")
+            self.assertEqual((status, text.splitlines()[0]), (1, f"fixtures_values: b: {found}"))
+
+    def test_a_crate_without_mutations_is_told(self):
+        status, said = self.run_tool("mutations", "tests_types")
+        self.assertEqual((status, said), (2, "mutations: there is no crates/tests_types/wrong\n"))

@@ -1,0 +1,59 @@
+# SPDX-License-Identifier: Apache-2.0
+# SPDX-FileCopyrightText: Copyright the Vortex contributors
+
+"""tools/pages/reference, over faults in what stands behind the calls."""
+import os
+
+from planted import Planted
+
+LAWS = "crates/dtype_paths/src/laws.rt"
+PTYPE = "crates/dtype_base/src/ptype.rt"
+
+
+class Reference(Planted):
+    def assert_fails(self, text):
+        status, said = self.run_tool("reference", "--check")
+        self.assertEqual(status, 1)
+        self.assertIn(text, said)
+
+    def test_a_law_that_names_no_call_fails(self):
+        text = self.read(LAWS)
+        self.write(LAWS, text.replace("/// About [`FieldPath::exists_in`].\n", "", 1))
+        self.assert_fails("the law laws::beginnings_exist names no call")
+
+    def test_a_law_about_what_is_not_there_fails(self):
+        text = self.read(LAWS)
+        self.write(LAWS, text.replace("/// About [`FieldPath::exists_in`].\n", "/// About [`FieldPath::exists`].\n", 1))
+        self.assert_fails("is about FieldPath::exists, which isn't there")
+
+    def test_a_mutation_of_no_item_fails(self):
+        self.change("crates/dtype_paths/wrong/open_counts_no_visit.edit", "of: FieldPathSet::into_iter_counted\n", "")
+        self.assert_fails("open_counts_no_visit.edit: is of no public item")
+
+    def test_a_mutation_of_a_call_that_does_not_reach_it_fails(self):
+        self.change("crates/dtype_paths/wrong/open_counts_no_visit.edit", "of: FieldPathSet::into_iter_counted",
+                    "of: FieldPath::parts")
+        self.assert_fails("changes Node::open, which FieldPath::parts doesn't reach")
+
+    def test_a_call_without_a_clause_fails(self):
+        self.change(PTYPE, "impl PType {", "impl PType {\n    pub fn digits(self) -> u8 {\n        0\n    }\n")
+        self.assert_fails("PType::digits has no clause")
+
+    def test_an_impl_without_a_clause_fails(self):
+        self.change("crates/dtype_base/src/vortex_error.rt", "    ghost from_gives = { λ _ e. e ≡ OutOfMemory };\n\n"
+                    "    fn from(_error: AllocError)", "    fn from(_error: AllocError)")
+        self.assert_fails("VortexError::from has no clause")
+
+    def test_a_call_that_nothing_shows_fails(self):
+        self.change(PTYPE, "impl PType {", "impl PType {\n    pub fn digits(self) -> u8\n        ensures { result ≡ 0 }\n"
+                    "    {\n        0\n    }\n")
+        self.assert_fails("PType::digits has neither a mutation nor an expected answer nor a test")
+
+    def test_a_mutation_that_is_gone_shows_in_the_reference(self):
+        os.remove(f"{self.top}/crates/dtype_paths/wrong/open_counts_no_visit.edit")
+        self.assert_fails("docs/reference/dtype_paths.md isn't of these sources")
+
+    def test_a_clause_that_is_gone_shows_in_the_reference(self):
+        file = "crates/dtype_paths/src/field_path_set.rt"
+        self.change(file, "        ensures err { OnErr result (self.new ≡ self.old) }\n", "")
+        self.assert_fails("docs/reference/dtype_paths.md isn't of these sources")

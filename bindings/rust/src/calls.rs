@@ -83,6 +83,13 @@ pub(crate) fn room<T: Clone + Default>(length: usize) -> Result<Vec<T>, Error> {
     Ok(room)
 }
 
+/// Puts an item behind the others of a vector.
+pub(crate) fn pushed<T>(items: &mut Vec<T>, item: T) -> Result<(), Error> {
+    items.try_reserve(1).map_err(|_| Error::OutOfMemory)?;
+    items.push(item);
+    Ok(())
+}
+
 fn copied(bytes: &[u8]) -> Result<Vec<u8>, Error> {
     let mut copy = Vec::new();
     copy.try_reserve_exact(bytes.len()).map_err(|_| Error::OutOfMemory)?;
@@ -146,8 +153,6 @@ impl Names {
     }
 
     fn push_length(&mut self, length: usize) -> Result<(), Error> {
-        self.lengths.try_reserve(1).map_err(|_| Error::OutOfMemory)?;
-        self.lengths.push(length);
-        Ok(())
+        pushed(&mut self.lengths, length)
     }
 }

@@ -25,5 +25,6 @@ use crate::ffi;
 /// [`Error::OutOfMemory`]. If memory runs out in the call of the library that the command makes, the answer may be
 /// `refused 0: out of memory` instead.
 pub fn answer(line: impl AsRef<[u8]>) -> Result<Option<String>, Error> {
-    calls::text_found(|buffer, length| ffi::answer(line.as_ref(), buffer, length))
+    let line = line.as_ref();
+    calls::text_found(|buffer, length| ffi::answer(line, buffer, length))
 }

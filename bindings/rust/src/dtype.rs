@@ -2,7 +2,7 @@
 // SPDX-FileCopyrightText: Copyright the Vortex contributors
 
 //! Types.
-use crate::calls::{self, Names, found, holds, made, or_abort, plain, read, value};
+use crate::calls::{self, Names, found, holds, made, or_abort, plain, pushed, read, value};
 use crate::error::Error;
 use crate::ffi::{self, Slot};
 use crate::parts::{ExtDTypeRef, MapDType, StructFields, UnionVariants};
@@ -170,11 +170,12 @@ impl DType {
         variants: impl IntoIterator<Item = (N, u8, DType)>,
         nullability: Nullability,
     ) -> Result<DType, Error> {
-        let mut tags = Vec::new();
-        let (names, mut dtypes) = taken_apart(variants.into_iter().map(|(name, tag, dtype)| {
-            tags.push(tag);
-            (name, dtype)
-        }))?;
+        let (mut names, mut dtypes, mut tags) = (Names::default(), Vec::new(), Vec::new());
+        for (name, tag, dtype) in variants {
+            names.push(name.as_ref())?;
+            pushed(&mut dtypes, dtype.slot)?;
+            pushed(&mut tags, tag)?;
+        }
         made(|out| ffi::dtype_union(&names.text, &names.lengths, &mut dtypes, &tags, nullability.into(), out))
             .map(DType::of)
     }
@@ -272,8 +273,9 @@ impl DType {
         ptr::eq(self, other) || holds(ffi::dtype_nullability_superset(&self.slot, &other.slot))
     }
 
-    /// Returns the least type that has the values of both types, or `None` if the two differ in more than nullability. It
-    /// is nullable wherever at least one of the two is.
+    /// Returns the least type of which both types are subsets, as [`DType::eq_with_nullability_subset`] defines it, or `None`
+    /// if the two differ in more than nullability. It is nullable wherever at least one of the two is. For example, it is
+    /// `i32?` for `i32` and `i32?`.
     ///
     /// ```
     /// # use vortex_logical_types::DType;
@@ -293,8 +295,9 @@ impl DType {
         self.with_other(other, ffi::dtype_merge_nullability)
     }
 
-    /// Returns the greatest type whose values are values of both types, or `None` if the two differ in more than
-    /// nullability. It is nullable only where both are.
+    /// Returns the greatest type that is a subset of both types, as [`DType::eq_with_nullability_subset`] defines it, or
+    /// `None` if the two differ in more than nullability. It is nullable only where both are. For example, it is `i32` for
+    /// `i32` and `i32?`.
     pub fn intersect_nullability(&self, other: &DType) -> Option<DType> {
         or_abort(self.try_intersect_nullability(other))
     }
@@ -497,8 +500,7 @@ fn taken_apart<N: AsRef<str>>(fields: impl IntoIterator<Item = (N, DType)>) -> R
     let (mut names, mut dtypes) = (Names::default(), Vec::new());
     for (name, dtype) in fields {
         names.push(name.as_ref())?;
-        dtypes.try_reserve(1).map_err(|_| Error::OutOfMemory)?;
-        dtypes.push(dtype.slot);
+        pushed(&mut dtypes, dtype.slot)?;
     }
     Ok((names, dtypes))
 }

@@ -1,11 +1,12 @@
 // SPDX-License-Identifier: Apache-2.0
 // SPDX-FileCopyrightText: Copyright the Vortex contributors
 
-//! Tests of what calls do when memory runs out: each allocation of the library is refused in turn.
+//! Tests of what calls do when memory runs out: each allocation of the library and of the package is refused in turn.
 use crate::ffi::heap::refusing::BEFORE;
 use crate::{
-    DType, Error, FieldMask, FieldPath, FieldPathSet, Message, Nullability::Nullable, PType, UnknownIds, answer,
+    DType, Error, Field, FieldMask, FieldPath, FieldPathSet, Message, Nullability::Nullable, PType, UnknownIds, answer,
 };
+use std::fmt::{self, Write};
 
 /// What a call returns, which if it says that memory ran out is made once more.
 fn again<T>(lacked: &mut usize, call: impl Fn() -> Result<T, Error>) -> T {
@@ -19,6 +20,52 @@ fn again<T>(lacked: &mut usize, call: impl Fn() -> Result<T, Error>) -> T {
     result.expect("a call that memory alone can stop")
 }
 
+/// A writer that allocates nothing.
+struct Length(usize);
+
+impl Write for Length {
+    fn write_str(&mut self, text: &str) -> fmt::Result {
+        self.0 += text.len();
+        Ok(())
+    }
+}
+
+/// Formats a value, and once more if the first time fails, as it does when memory runs out.
+fn shown(lacked: &mut usize, value: fmt::Arguments<'_>) {
+    let mut length = Length(0);
+    if length.write_fmt(value).is_err() {
+        *lacked += 1;
+        length = Length(0);
+        length.write_fmt(value).expect("a text that memory alone can stop");
+    }
+    assert!(length.0 > 0);
+}
+
+/// Formats values of every public type that has `Debug` or `Display`. None of them aborts.
+fn texts(n: &mut usize, whole: &DType, path: &FieldPath, set: &FieldPathSet, message: &Message) {
+    shown(n, format_args!("{whole} {whole:?}"));
+    shown(n, format_args!("{path} {path:?}"));
+    shown(n, format_args!("{set:?}"));
+    let (paths, flat) = (again(n, || set.try_iter()), again(n, || message.to_flat()));
+    shown(n, format_args!("{paths:?} {flat:?} {:?}", set.below(path)));
+    shown(n, format_args!("{message:?}"));
+    let masks = (again(n, || FieldMask::try_prefix(path)), again(n, FieldMask::try_all));
+    shown(n, format_args!("{masks:?}"));
+    shown(n, format_args!("{:?}", whole.as_struct_fields_opt()));
+    for part in ["union(a=i8)", "map(utf8, i8, keys_sorted=true)", "x.tag[0x00](utf8)"] {
+        let part = again(n, || part.parse::<DType>());
+        shown(n, format_args!("{:?} {:?}", part.as_union_variants_opt(), part.as_map_opt()));
+        shown(n, format_args!("{:?}", part.as_extension_opt()));
+    }
+    shown(n, format_args!("{:?} {:?} {:?}", whole.kind(), whole.nullability(), UnknownIds::Allow));
+    shown(n, format_args!("{:?} {} {:?}", PType::U8, PType::U8, Field::ElementType));
+    let decimal = again(n, || DType::decimal(10, 2, Nullable));
+    shown(n, format_args!("{0:?} {0:?}", decimal.as_decimal_opt()));
+    // (Without memory, an error of the library is shown by its number.)
+    let errors = [Error::TooDeep, DType::decimal(0, 0, Nullable).expect_err("no digits")];
+    errors.iter().for_each(|error| shown(n, format_args!("{error} {error:?}")));
+}
+
 /// Calls of each form, and how many of them said that memory ran out.
 fn calls() -> usize {
     let mut lacked = 0;
@@ -30,7 +77,12 @@ fn calls() -> usize {
     again(n, || DType::try_primitive(PType::U8, Nullable));
     again(n, || DType::list(&whole, Nullable));
     again(n, || DType::struct_([("x", whole.try_clone()?), ("y", other.try_clone()?)], Nullable));
+    again(n, || DType::union_with_tags([("x", 3, whole.try_clone()?), ("y", 1, other.try_clone()?)], Nullable));
+    let fields = whole.as_struct_fields_opt().expect("a struct");
+    assert_eq!(again(n, || fields.project(["d"])).kind(), crate::Kind::Struct);
+    assert_eq!(again(n, || fields.try_field_name(0)).as_deref(), Some("a"));
     let path = again(n, || "a.[].b".parse::<FieldPath>());
+    assert_eq!(again(n, || path.try_parts()).len(), 3);
     assert_eq!(again(n, || path.try_resolve(&whole)).map(|it| it.kind()), Some(crate::Kind::Primitive));
     again(n, || path.try_push("x"));
     again(n, || path.try_step_into());
@@ -64,6 +116,7 @@ fn calls() -> usize {
     assert_eq!(again(n, || message.try_to_source()?.parse::<Message>()), message);
     assert_eq!(again(n, || message.normal(UnknownIds::Refuse)), message);
     assert_eq!(again(n, || FieldPath::from_proto([Some("a"), Some("b")])).len(), 2);
+    texts(n, &whole, &path, &longer, &message);
     let mut said = again(n, || answer("overlap a a.b"));
     if said.as_deref() == Some("refused 0: out of memory") {
         // (that memory ran out is an answer of the console, too)

@@ -25,7 +25,7 @@ pub struct StructFields<'a> {
     pub(crate) dtype: &'a DType,
 }
 
-impl StructFields<'_> {
+impl<'a> StructFields<'a> {
     /// Returns the number of fields.
     pub fn nfields(&self) -> usize {
         plain(|count| ffi::struct_nfields(&self.dtype.slot, count))
@@ -42,8 +42,8 @@ impl StructFields<'_> {
     }
 
     /// Returns the names of the fields, in their order.
-    pub fn names(&self) -> impl ExactSizeIterator<Item = String> {
-        (0..self.nfields()).map(|index| self.field_name(index).unwrap_or_default())
+    pub fn names(self) -> impl ExactSizeIterator<Item = String> + DoubleEndedIterator + use<'a> {
+        (0..self.nfields()).map(move |index| self.field_name(index).unwrap_or_default())
     }
 
     /// Returns the position of the first field of the name.
@@ -72,9 +72,9 @@ impl StructFields<'_> {
     }
 
     /// Returns the types of the fields, in their order.
-    pub fn fields(&self) -> impl ExactSizeIterator<Item = DType> {
+    pub fn fields(self) -> impl ExactSizeIterator<Item = DType> + DoubleEndedIterator + use<'a> {
         (0..self.nfields())
-            .map(|index| self.field_by_index(index).unwrap_or_else(|| unreachable!("{index} is a position")))
+            .map(move |index| self.field_by_index(index).unwrap_or_else(|| unreachable!("{index} is a position")))
     }
 
     /// Returns the struct of the fields with these names, in the order of the names, with the nullability of the type. All
@@ -137,7 +137,7 @@ pub struct UnionVariants<'a> {
     pub(crate) dtype: &'a DType,
 }
 
-impl UnionVariants<'_> {
+impl<'a> UnionVariants<'a> {
     /// Returns the number of variants, which isn't 0.
     #[allow(clippy::len_without_is_empty)]
     pub fn len(&self) -> usize {
@@ -155,8 +155,8 @@ impl UnionVariants<'_> {
     }
 
     /// Returns the names of the variants, in their order.
-    pub fn names(&self) -> impl ExactSizeIterator<Item = String> {
-        (0..self.len()).map(|index| self.variant_name(index).unwrap_or_default())
+    pub fn names(self) -> impl ExactSizeIterator<Item = String> + DoubleEndedIterator + use<'a> {
+        (0..self.len()).map(move |index| self.variant_name(index).unwrap_or_default())
     }
 
     /// Returns the tags of the variants, in their order.
@@ -190,9 +190,9 @@ impl UnionVariants<'_> {
     }
 
     /// Returns the types of the variants, in their order.
-    pub fn variants(&self) -> impl ExactSizeIterator<Item = DType> {
+    pub fn variants(self) -> impl ExactSizeIterator<Item = DType> + DoubleEndedIterator + use<'a> {
         (0..self.len())
-            .map(|index| self.variant_by_index(index).unwrap_or_else(|| unreachable!("{index} is a position")))
+            .map(move |index| self.variant_by_index(index).unwrap_or_else(|| unreachable!("{index} is a position")))
     }
 
     /// Returns the position of the variant that has the tag.

@@ -2,7 +2,7 @@
 // SPDX-FileCopyrightText: Copyright the Vortex contributors
 
 //! Sets of paths.
-use crate::calls::{done, found, holds, made, or_abort, plain, value};
+use crate::calls::{done, found, holds, made, or_abort, plain, pushed, value};
 use crate::dtype::DType;
 use crate::error::Error;
 use crate::ffi::{self, Slot};
@@ -76,8 +76,7 @@ impl FieldPathSet {
     pub fn try_extend(&mut self, paths: impl IntoIterator<Item = impl Borrow<FieldPath>>) -> Result<(), Error> {
         let mut given = Vec::new();
         for path in paths {
-            given.try_reserve(1).map_err(|_| Error::OutOfMemory)?;
-            given.push(path);
+            pushed(&mut given, path)?;
         }
         given.iter().try_for_each(|path| inserted(ffi::set_insert(&self.slot, &path.borrow().slot)))
     }
@@ -191,7 +190,12 @@ impl Default for FieldPathSet {
 
 impl fmt::Debug for FieldPathSet {
     fn fmt(&self, f: &mut fmt::Formatter<'_>) -> fmt::Result {
-        f.debug_set().entries(self.try_iter().map_err(|_| fmt::Error)?).finish()
+        let mut paths = self.try_iter().map_err(|_| fmt::Error)?;
+        let mut set = f.debug_set();
+        while let Some(path) = paths.try_next().map_err(|_| fmt::Error)? {
+            set.entry(&path);
+        }
+        set.finish()
     }
 }
 

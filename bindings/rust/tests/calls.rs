@@ -2,6 +2,7 @@
 // SPDX-FileCopyrightText: Copyright the Vortex contributors
 
 //! The calls of the package, each on a value or two: what they return, and what they leave.
+use std::cell::Cell;
 use std::collections::HashSet;
 use std::collections::hash_map::DefaultHasher;
 use std::error::Error as _;
@@ -101,6 +102,15 @@ fn kinds_and_parts() {
     assert_eq!((variants.variant_by_index(2), variants.variant_name(2), variants.find("c")), (None, None, None));
 }
 
+fn names_and_types(dtype: &DType) -> Option<impl Iterator<Item = (String, DType)>> {
+    let fields = dtype.as_struct_fields_opt()?;
+    Some(fields.names().zip(fields.fields()))
+}
+
+fn variant_names(dtype: &DType) -> Option<impl ExactSizeIterator<Item = String>> {
+    Some(dtype.as_union_variants_opt()?.names())
+}
+
 #[test]
 fn structs() {
     let whole = dtype("{a=i32, b=utf8?, a=f64}?");
@@ -121,6 +131,12 @@ fn structs() {
             .unwrap(),
         dtype("{c=i8, d=i16}")
     );
+    // (An iterator lives as long as the type, and not only as long as the view.)
+    let names = whole.as_struct_fields_opt().unwrap().names();
+    let types = whole.as_struct_fields_opt().unwrap().fields();
+    assert_eq!((names.rev().collect::<Vec<_>>(), types.len()), (vec!["a".into(), "b".into(), "a".to_owned()], 3));
+    assert_eq!(names_and_types(&whole).unwrap().nth(1), Some(("b".into(), dtype("utf8?"))));
+    assert_eq!(variant_names(&dtype("union(a=i8, b=i16)")).unwrap().collect::<Vec<_>>(), ["a", "b"]);
     let long = "x".repeat(1000);
     let named = DType::struct_([(&long, dtype("i8"))], NonNullable).unwrap();
     assert_eq!(named.as_struct_fields_opt().unwrap().field_name(0), Some(long.clone()));
@@ -290,6 +306,17 @@ fn answers() {
     assert_eq!(answer(b"find c {a=i32}"), Ok(Some("none".into())));
     assert_eq!((answer(""), answer("exit")), (Ok(None), Ok(None)));
     assert!(answer([0xff]).unwrap().is_some_and(|it| it.starts_with("unreadable")));
+    // (A line that is another one whenever it is asked for is asked for once.)
+    struct Growing(Cell<usize>, [String; 2]);
+    impl AsRef<[u8]> for Growing {
+        fn as_ref(&self) -> &[u8] {
+            let at = self.0.replace(1);
+            self.1[at].as_bytes()
+        }
+    }
+    let lines = [300, 3000].map(|length| format!("type {{{}=i8}}", "x".repeat(length)));
+    let first = lines[0].strip_prefix("type ").map(str::to_owned);
+    assert_eq!(answer(Growing(Cell::new(0), lines)), Ok(first));
     let long = format!("{{{}=i8}}", "x".repeat(1000));
     assert_eq!(answer(format!("type {long}")), Ok(Some(long)));
 }

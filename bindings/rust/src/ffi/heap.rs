@@ -71,9 +71,10 @@ unsafe extern "C" fn rattle_dealloc(at: *mut c_void) {
     unsafe { free(at) }
 }
 
-/// In tests one allocation of a thread is refused.
+/// In tests one allocation of a thread is refused, whether the library asks for it or the package.
 #[cfg(test)]
 pub(crate) mod refusing {
+    use std::alloc::{GlobalAlloc, Layout, System};
     use std::cell::Cell;
 
     thread_local! {
@@ -85,5 +86,29 @@ pub(crate) mod refusing {
         let left = BEFORE.get();
         BEFORE.set(left.wrapping_sub(1));
         left == 0
+    }
+
+    struct Refusing;
+
+    #[global_allocator]
+    static ALLOCATOR: Refusing = Refusing;
+
+    // SAFETY: each call is that of the system's allocator, or returns null, which is how an allocator says that there is
+    // no memory. A refused `realloc` leaves the block as it is.
+    unsafe impl GlobalAlloc for Refusing {
+        unsafe fn alloc(&self, layout: Layout) -> *mut u8 {
+            // SAFETY: the caller keeps to the contract of this function, which is that of the system's.
+            if is_refused() { std::ptr::null_mut() } else { unsafe { System.alloc(layout) } }
+        }
+
+        unsafe fn realloc(&self, at: *mut u8, layout: Layout, size: usize) -> *mut u8 {
+            // SAFETY: as above.
+            if is_refused() { std::ptr::null_mut() } else { unsafe { System.realloc(at, layout, size) } }
+        }
+
+        unsafe fn dealloc(&self, at: *mut u8, layout: Layout) {
+            // SAFETY: as above.
+            unsafe { System.dealloc(at, layout) }
+        }
     }
 }

@@ -27,7 +27,10 @@
  *     100 (VLT_LIBRARY)    Memory ran out.
  *     100 + n              The library returned its error number n.
  *
- * vlt_error_text writes what a number means.
+ * vlt_error_text writes what a number means. The comment of a function lists the numbers from 1 that it returns, except
+ * for these, which have the same meaning everywhere: 2 if a slot is empty or its object isn't of the kind that the
+ * function takes; 7 if a buffer is too small; 8 if two of the slots are the same; 9 if a pointer is null and its length
+ * isn't 0; and 100 if memory runs out, which a call can return if it stores an object or writes bytes.
  *
  * Texts and bytes that are passed in. A call takes a pointer and a length, and copies the bytes. They may contain zero
  * bytes. The pointer may be null if the length is 0. Several names are passed as two arrays: `names` contains the bytes
@@ -212,8 +215,8 @@ uint32_t vlt_dtype_fixed_size_list(vlt_slot *element, uint32_t size, bool nullab
  * `names` contains the bytes of all names, one name directly after the other, and `name_lengths` contains the number
  * of bytes of each name. For example, the names `id` and `city` are the bytes `idcity` with the lengths 2 and 4.
  *
- * Returns 3 if a name isn't UTF-8, 6 if one of the types has 128 levels, and 9 if the lengths don't add up to the
- * number of bytes or if there are more or fewer names than types. */
+ * Returns 2 if one of the slots in `dtypes` contains no type, 3 if a name isn't UTF-8, 6 if one of the types has 128
+ * levels, and 9 if the lengths don't add up to the number of bytes or if there are more or fewer names than types. */
 uint32_t vlt_dtype_struct(
         const uint8_t *names, size_t names_len, const size_t *name_lengths, size_t name_lengths_len, vlt_slot *dtypes,
         size_t dtypes_len, bool nullable, vlt_slot *out);
@@ -221,10 +224,10 @@ uint32_t vlt_dtype_struct(
 /* Stores in `out` the union type of these names, types and tags, in order. The names are passed in the same way as to
  * `vlt_dtype_struct`. The union type is nullable if `nullable` is true.
  *
- * Returns 3 if a name isn't UTF-8, 6 if one of the types has 128 levels, and 9 if the lengths don't add up to the
- * number of bytes. Otherwise it returns the first of these numbers that applies: 110 if there are more or fewer types
- * than names, 111 if there are more or fewer tags than names, 112 if there are no names, 113 if a tag occurs twice,
- * and 115 if a name occurs twice. */
+ * Returns 2 if one of the slots in `dtypes` contains no type, 3 if a name isn't UTF-8, 6 if one of the types has 128
+ * levels, and 9 if the lengths don't add up to the number of bytes. Otherwise it returns the first of these numbers
+ * that applies: 110 if there are more or fewer types than names, 111 if there are more or fewer tags than names, 112 if
+ * there are no names, 113 if a tag occurs twice, and 115 if a name occurs twice. */
 uint32_t vlt_dtype_union(
         const uint8_t *names, size_t names_len, const size_t *name_lengths, size_t name_lengths_len, vlt_slot *dtypes,
         size_t dtypes_len, const uint8_t *tags, size_t tags_len, bool nullable, vlt_slot *out);
@@ -232,9 +235,10 @@ uint32_t vlt_dtype_union(
 /* Stores in `out` the union type of these names and types with the tags 0, 1, 2 and so on. The names are passed in the
  * same way as to `vlt_dtype_struct`. The union type is nullable if `nullable` is true.
  *
- * Returns 3 if a name isn't UTF-8, 6 if one of the types has 128 levels, and 9 if the lengths don't add up to the
- * number of bytes. Otherwise it returns the first of these numbers that applies: 114 if there are more than 256 names,
- * 110 if there are more or fewer types than names, 112 if there are no names, and 115 if a name occurs twice. */
+ * Returns 2 if one of the slots in `dtypes` contains no type, 3 if a name isn't UTF-8, 6 if one of the types has 128
+ * levels, and 9 if the lengths don't add up to the number of bytes. Otherwise it returns the first of these numbers
+ * that applies: 114 if there are more than 256 names, 110 if there are more or fewer types than names, 112 if there are
+ * no names, and 115 if a name occurs twice. */
 uint32_t vlt_dtype_union_consecutive(
         const uint8_t *names, size_t names_len, const size_t *name_lengths, size_t name_lengths_len, vlt_slot *dtypes,
         size_t dtypes_len, bool nullable, vlt_slot *out);
@@ -292,7 +296,13 @@ uint32_t vlt_dtype_keys_sorted(vlt_slot *dtype);
 /* Reads a type from its text in the form of the console, for example `{a=i32, b=list(utf8)?}`, and stores it in `out`.
  *
  * Returns 3 if the text isn't UTF-8. If the text can't be read, the call returns 4 and writes the position of the
- * byte at which reading failed, counted from 1, to `position`. At an unknown word this is its first byte. */
+ * byte at which reading failed, counted from 1, to `position`. At an unknown word this is its first byte. A text that is
+ * nested more than 128 levels deep can't be read.
+ *
+ * A text can also be read and contain a type that can't be made. Then the call returns the number of the fault: for a
+ * decimal 101 to 104, as `vlt_dtype_decimal` returns them; for a map 109 if its key type is nullable; and for a union
+ * 112 if it has no variants, 113 if a tag occurs twice, 114 if it has more than 256 variants without tags, and 115 if a
+ * name occurs twice. For example, it returns 101 for `{a=decimal(0,0)}`. */
 uint32_t vlt_dtype_from_text(const uint8_t *text, size_t text_len, vlt_slot *out, size_t *position);
 
 /* Writes the type to `buffer` in the form of the console. `vlt_dtype_from_text` reads the same type from this text,
@@ -342,7 +352,7 @@ uint32_t vlt_dtype_is_nullable(vlt_slot *dtype);
 uint32_t vlt_dtype_can_be_nonnullable(vlt_slot *dtype);
 
 /* Writes the number of bytes that each value of the type takes to `size`. Returns 1 if the type is of variable width,
- * and 119 if it is of fixed width and its width, or the width of a part of it, is above the greatest `usize`. */
+ * and 119 if it is of fixed width and its width, or the width of a part of it, is above 2^64 - 1. */
 uint32_t vlt_dtype_element_size(vlt_slot *dtype, size_t *size);
 
 /* Stores in `out` the type of the entries of a map: the non-nullable struct with the fields `key` and `value`. Returns
@@ -443,9 +453,9 @@ uint32_t vlt_union_is_consecutive(vlt_slot *dtype);
 /* == Paths == */
 
 /* Stores in `out` the path that the message of a path describes. The names of the parts of the message are passed in
- * the same way as to `vlt_path_from_steps`. The length `ELEMENT` (the greatest `usize`) stands for a part without a
- * kind. A message that has such a part describes no path, and the call returns 136. Returns 3 if a name isn't UTF-8,
- * and 9 if the lengths don't add up to the number of bytes. */
+ * the same way as to `vlt_path_from_steps`. The length 2^64 - 1 (`VLT_ELEMENT` in C) stands for a part without a kind. A
+ * message that has such a part describes no path, and the call returns 136. Returns 3 if a name isn't UTF-8, and 9 if
+ * the lengths don't add up to the number of bytes. */
 uint32_t vlt_path_from_message(
         const uint8_t *names, size_t names_len, const size_t *name_lengths, size_t name_lengths_len, vlt_slot *out);
 
@@ -475,7 +485,7 @@ uint32_t vlt_path_root(vlt_slot *out);
 uint32_t vlt_path_len(vlt_slot *path, size_t *count);
 
 /* Writes the step at the position `index`. For a step to a field, it writes the bytes of the name to `buffer` and
- * their number to `length`. For the step to the element, it writes only the length `ELEMENT` (the greatest `usize`).
+ * their number to `length`. For the step to the element, it writes only a length, which is 2^64 - 1 (`VLT_ELEMENT` in C).
  * Returns 1 if the position isn't below the number of steps. */
 uint32_t vlt_path_step(vlt_slot *path, size_t index, uint8_t *buffer, size_t buffer_len, size_t *length);
 
@@ -518,9 +528,9 @@ uint32_t vlt_path_starts_with_name(vlt_slot *path, const uint8_t *name, size_t n
 uint32_t vlt_path_hash(vlt_slot *path, uint64_t *hash);
 
 /* Stores in `out` the path of these steps. `names` contains the bytes of all names, one name directly after the other,
- * and `name_lengths` contains the number of bytes of the name of each step. The length `ELEMENT` (the greatest
- * `usize`) stands for the step to the element, which has no bytes in `names`. Returns 3 if a name isn't UTF-8, and 9
- * if the lengths don't add up to the number of bytes. */
+ * and `name_lengths` contains the number of bytes of the name of each step. The length 2^64 - 1 (`VLT_ELEMENT` in C)
+ * stands for the step to the element, which has no bytes in `names`. Returns 3 if a name isn't UTF-8, and 9 if the
+ * lengths don't add up to the number of bytes. */
 uint32_t vlt_path_from_steps(
         const uint8_t *names, size_t names_len, const size_t *name_lengths, size_t name_lengths_len, vlt_slot *out);
 
@@ -566,11 +576,12 @@ uint32_t vlt_set_unresolved(vlt_slot *paths, vlt_slot *dtype, vlt_slot *out);
 uint32_t vlt_set_len(vlt_slot *paths, size_t *count);
 
 /* Inserts copies of the paths in these slots into the set, in order, and writes to `inserted` how many were inserted.
- * If a slot contains no path, or an allocation fails, the call stops there. The paths before it stay inserted. */
+ * If a slot contains no path, the call stops there and returns 2. If memory runs out, it stops there and returns 100. The
+ * paths before it stay inserted. */
 uint32_t vlt_set_extend(vlt_slot *set, vlt_slot *paths, size_t paths_len, size_t *inserted);
 
-/* Inserts copies of the paths of the list into the set, in order. If an allocation fails, the call stops there. The
- * paths that it inserted before stay in the set. */
+/* Inserts copies of the paths of the list into the set, in order. If memory runs out, the call stops there and returns
+ * 100. The paths that it inserted before stay in the set. */
 uint32_t vlt_set_extend_from_list(vlt_slot *paths, vlt_slot *list);
 
 
@@ -638,7 +649,8 @@ uint32_t vlt_mask_eq(vlt_slot *one, vlt_slot *other);
  * protobuf's text format, for example `list { element_type { primitive { type: I32 } } }`.
  *
  * Returns 3 if the text isn't UTF-8. If the text can't be read, the call returns 4 and writes the position of the
- * byte at which reading failed, counted from 1, to `position`. At an unknown word this is its first byte. */
+ * byte at which reading failed, counted from 1, to `position`. At an unknown word this is its first byte. A text that is
+ * nested more than 128 levels deep can't be read. */
 uint32_t vlt_message_from_text(const uint8_t *text, size_t text_len, vlt_slot *out, size_t *position);
 
 /* Writes the message to `buffer` in the form of the console. `vlt_message_from_text` reads the same message from this
@@ -653,8 +665,9 @@ uint32_t vlt_message_eq(vlt_slot *one, vlt_slot *other);
 
 /* Stores in `out` the type that the message describes. No plugin is registered, so no id of an extension is known. If
  * `allow_unknown` is true, an extension keeps its metadata. If it is false, the call returns 135 for an extension. If
- * the message describes no type, the call returns the number of its first fault. For example, it returns 124 for a
- * message without a kind. */
+ * the message describes no type, the call returns the number of its first fault. This is a number from 124 to 134, or
+ * 101 to 104 for a decimal, 109 for a map, and 110 to 113 or 115 for a union. For example, it returns 124 for a message
+ * without a kind. */
 uint32_t vlt_message_to_dtype(vlt_slot *message, bool allow_unknown, vlt_slot *out);
 
 /* Stores in `out` the normal form of the message. If a message describes a type, its normal form is the message that

@@ -123,6 +123,23 @@ static void levels(void) {
     free_all(s, 2);
 }
 
+/* 256 variants can be made without tags, and 257 can't. (Not with allocations refused: there are hundreds.) */
+static void variants(void) {
+    vlt_slot s[1] = {{0}};
+    size_t position = 77, count;
+    for (count = 256; count <= 257; count++) {
+        char text[257 * 10 + 10] = "union(";
+        size_t at, length = 6;
+        for (at = 0; at < count; at++)
+            length += (size_t)sprintf(text + length, "v%u=i8%s", (unsigned)at, at + 1 < count ? ", " : ")");
+        if (count == 256)
+            DONE(vlt_dtype_from_text((const uint8_t *)text, length, &s[0], &position));
+        else
+            IS(114, vlt_dtype_from_text((const uint8_t *)text, length, &s[0], &position));
+    }
+    free_all(s, 1);
+}
+
 /* The texts of a type, in buffers of every length, and what can't be read. */
 static void texts(void) {
     vlt_slot s[2] = {{0}, {0}};
@@ -144,6 +161,15 @@ static void texts(void) {
     HOLDS(position == 4);
     IS(VLT_UNREADABLE, vlt_dtype_from_text(NULL, 0, &s[0], &position));
     IS(101, vlt_dtype_from_text(TEXT("decimal(0,0)"), &s[0], &position));
+    IS(102, vlt_dtype_from_text(TEXT("list(decimal(77,0))"), &s[0], &position));
+    IS(103, vlt_dtype_from_text(TEXT("decimal(76,77)"), &s[0], &position));
+    IS(104, vlt_dtype_from_text(TEXT("decimal(1,2)"), &s[0], &position));
+    IS(109, vlt_dtype_from_text(TEXT("{a=map(utf8?, i8, keys_sorted=true)}"), &s[0], &position));
+    IS(112, vlt_dtype_from_text(TEXT("union()"), &s[0], &position));
+    IS(113, vlt_dtype_from_text(TEXT("union(a@1=i8, b@1=i8)"), &s[0], &position));
+    IS(115, vlt_dtype_from_text(TEXT("union(a=i8, a=i8)"), &s[0], &position));
+    if (heap_refused == 0)
+        variants();
     IS(VLT_UTF8, vlt_dtype_from_text(TEXT("{a\xff=i32}"), &s[0], &position));
     IS(VLT_RANGE, vlt_dtype_from_text(NULL, 1, &s[0], &position));
     HAS(&s[0], text);

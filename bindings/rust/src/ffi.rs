@@ -439,8 +439,8 @@ pub(crate) fn dtype_fixed_size_list(element: &Slot, size: u32, nullable: bool, o
 /// `names` contains the bytes of all names, one name directly after the other, and `name_lengths` contains the number
 /// of bytes of each name. For example, the names `id` and `city` are the bytes `idcity` with the lengths 2 and 4.
 ///
-/// Returns 3 if a name isn't UTF-8, 6 if one of the types has 128 levels, and 9 if the lengths don't add up to the
-/// number of bytes or if there are more or fewer names than types.
+/// Returns 2 if one of the slots in `dtypes` contains no type, 3 if a name isn't UTF-8, 6 if one of the types has 128
+/// levels, and 9 if the lengths don't add up to the number of bytes or if there are more or fewer names than types.
 pub(crate) fn dtype_struct(
     names: &[u8],
     name_lengths: &[usize],
@@ -466,10 +466,10 @@ pub(crate) fn dtype_struct(
 /// Stores in `out` the union type of these names, types and tags, in order. The names are passed in the same way as to
 /// `vlt_dtype_struct`. The union type is nullable if `nullable` is true.
 ///
-/// Returns 3 if a name isn't UTF-8, 6 if one of the types has 128 levels, and 9 if the lengths don't add up to the
-/// number of bytes. Otherwise it returns the first of these numbers that applies: 110 if there are more or fewer types
-/// than names, 111 if there are more or fewer tags than names, 112 if there are no names, 113 if a tag occurs twice,
-/// and 115 if a name occurs twice.
+/// Returns 2 if one of the slots in `dtypes` contains no type, 3 if a name isn't UTF-8, 6 if one of the types has 128
+/// levels, and 9 if the lengths don't add up to the number of bytes. Otherwise it returns the first of these numbers
+/// that applies: 110 if there are more or fewer types than names, 111 if there are more or fewer tags than names, 112 if
+/// there are no names, 113 if a tag occurs twice, and 115 if a name occurs twice.
 pub(crate) fn dtype_union(
     names: &[u8],
     name_lengths: &[usize],
@@ -498,9 +498,10 @@ pub(crate) fn dtype_union(
 /// Stores in `out` the union type of these names and types with the tags 0, 1, 2 and so on. The names are passed in the
 /// same way as to `vlt_dtype_struct`. The union type is nullable if `nullable` is true.
 ///
-/// Returns 3 if a name isn't UTF-8, 6 if one of the types has 128 levels, and 9 if the lengths don't add up to the
-/// number of bytes. Otherwise it returns the first of these numbers that applies: 114 if there are more than 256 names,
-/// 110 if there are more or fewer types than names, 112 if there are no names, and 115 if a name occurs twice.
+/// Returns 2 if one of the slots in `dtypes` contains no type, 3 if a name isn't UTF-8, 6 if one of the types has 128
+/// levels, and 9 if the lengths don't add up to the number of bytes. Otherwise it returns the first of these numbers
+/// that applies: 114 if there are more than 256 names, 110 if there are more or fewer types than names, 112 if there are
+/// no names, and 115 if a name occurs twice.
 pub(crate) fn dtype_union_consecutive(
     names: &[u8],
     name_lengths: &[usize],
@@ -666,7 +667,13 @@ pub(crate) fn dtype_keys_sorted(dtype: &Slot) -> u32 {
 /// Reads a type from its text in the form of the console, for example `{a=i32, b=list(utf8)?}`, and stores it in `out`.
 ///
 /// Returns 3 if the text isn't UTF-8. If the text can't be read, the call returns 4 and writes the position of the
-/// byte at which reading failed, counted from 1, to `position`. At an unknown word this is its first byte.
+/// byte at which reading failed, counted from 1, to `position`. At an unknown word this is its first byte. A text that is
+/// nested more than 128 levels deep can't be read.
+///
+/// A text can also be read and contain a type that can't be made. Then the call returns the number of the fault: for a
+/// decimal 101 to 104, as `vlt_dtype_decimal` returns them; for a map 109 if its key type is nullable; and for a union
+/// 112 if it has no variants, 113 if a tag occurs twice, 114 if it has more than 256 variants without tags, and 115 if a
+/// name occurs twice. For example, it returns 101 for `{a=decimal(0,0)}`.
 pub(crate) fn dtype_from_text(text: &[u8], out: &mut Slot, position: &mut usize) -> u32 {
     // SAFETY: see the head of this file.
     unsafe { vlt_dtype_from_text(text.as_ptr(), text.len(), out, position) }
@@ -821,7 +828,7 @@ pub(crate) fn dtype_can_be_nonnullable(dtype: &Slot) -> u32 {
 }
 
 /// Writes the number of bytes that each value of the type takes to `size`. Returns 1 if the type is of variable width,
-/// and 119 if it is of fixed width and its width, or the width of a part of it, is above the greatest `usize`.
+/// and 119 if it is of fixed width and its width, or the width of a part of it, is above 2^64 - 1.
 pub(crate) fn dtype_element_size(dtype: &Slot, size: &mut usize) -> u32 {
     let mut lent_dtype = dtype.lent();
     // SAFETY: see the head of this file.
@@ -1049,9 +1056,9 @@ pub(crate) fn union_is_consecutive(dtype: &Slot) -> u32 {
 }
 
 /// Stores in `out` the path that the message of a path describes. The names of the parts of the message are passed in
-/// the same way as to `vlt_path_from_steps`. The length `ELEMENT` (the greatest `usize`) stands for a part without a
-/// kind. A message that has such a part describes no path, and the call returns 136. Returns 3 if a name isn't UTF-8,
-/// and 9 if the lengths don't add up to the number of bytes.
+/// the same way as to `vlt_path_from_steps`. The length 2^64 - 1 (`VLT_ELEMENT` in C) stands for a part without a kind. A
+/// message that has such a part describes no path, and the call returns 136. Returns 3 if a name isn't UTF-8, and 9 if
+/// the lengths don't add up to the number of bytes.
 pub(crate) fn path_from_message(names: &[u8], name_lengths: &[usize], out: &mut Slot) -> u32 {
     // SAFETY: see the head of this file.
     unsafe { vlt_path_from_message(names.as_ptr(), names.len(), name_lengths.as_ptr(), name_lengths.len(), out) }
@@ -1104,7 +1111,7 @@ pub(crate) fn path_len(path: &Slot, count: &mut usize) -> u32 {
 }
 
 /// Writes the step at the position `index`. For a step to a field, it writes the bytes of the name to `buffer` and
-/// their number to `length`. For the step to the element, it writes only the length `ELEMENT` (the greatest `usize`).
+/// their number to `length`. For the step to the element, it writes only a length, which is 2^64 - 1 (`VLT_ELEMENT` in C).
 /// Returns 1 if the position isn't below the number of steps.
 pub(crate) fn path_step(path: &Slot, index: usize, buffer: &mut [u8], length: &mut usize) -> u32 {
     let mut lent_path = path.lent();
@@ -1239,9 +1246,9 @@ pub(crate) fn path_hash(path: &Slot, hash: &mut u64) -> u32 {
 }
 
 /// Stores in `out` the path of these steps. `names` contains the bytes of all names, one name directly after the other,
-/// and `name_lengths` contains the number of bytes of the name of each step. The length `ELEMENT` (the greatest
-/// `usize`) stands for the step to the element, which has no bytes in `names`. Returns 3 if a name isn't UTF-8, and 9
-/// if the lengths don't add up to the number of bytes.
+/// and `name_lengths` contains the number of bytes of the name of each step. The length 2^64 - 1 (`VLT_ELEMENT` in C)
+/// stands for the step to the element, which has no bytes in `names`. Returns 3 if a name isn't UTF-8, and 9 if the
+/// lengths don't add up to the number of bytes.
 pub(crate) fn path_from_steps(names: &[u8], name_lengths: &[usize], out: &mut Slot) -> u32 {
     // SAFETY: see the head of this file.
     unsafe { vlt_path_from_steps(names.as_ptr(), names.len(), name_lengths.as_ptr(), name_lengths.len(), out) }
@@ -1374,7 +1381,8 @@ pub(crate) fn set_len(paths: &Slot, count: &mut usize) -> u32 {
 }
 
 /// Inserts copies of the paths in these slots into the set, in order, and writes to `inserted` how many were inserted.
-/// If a slot contains no path, or an allocation fails, the call stops there. The paths before it stay inserted.
+/// If a slot contains no path, the call stops there and returns 2. If memory runs out, it stops there and returns 100. The
+/// paths before it stay inserted.
 pub(crate) fn set_extend(set: &Slot, paths: &mut [Slot], inserted: &mut usize) -> u32 {
     let mut lent_set = set.lent();
     // SAFETY: see the head of this file.
@@ -1383,8 +1391,8 @@ pub(crate) fn set_extend(set: &Slot, paths: &mut [Slot], inserted: &mut usize) -
     result
 }
 
-/// Inserts copies of the paths of the list into the set, in order. If an allocation fails, the call stops there. The
-/// paths that it inserted before stay in the set.
+/// Inserts copies of the paths of the list into the set, in order. If memory runs out, the call stops there and returns
+/// 100. The paths that it inserted before stay in the set.
 pub(crate) fn set_extend_from_list(paths: &Slot, list: &Slot) -> u32 {
     if paths.is(list) {
         return SAME_SLOT;
@@ -1542,7 +1550,8 @@ pub(crate) fn mask_eq(one: &Slot, other: &Slot) -> u32 {
 /// protobuf's text format, for example `list { element_type { primitive { type: I32 } } }`.
 ///
 /// Returns 3 if the text isn't UTF-8. If the text can't be read, the call returns 4 and writes the position of the
-/// byte at which reading failed, counted from 1, to `position`. At an unknown word this is its first byte.
+/// byte at which reading failed, counted from 1, to `position`. At an unknown word this is its first byte. A text that is
+/// nested more than 128 levels deep can't be read.
 pub(crate) fn message_from_text(text: &[u8], out: &mut Slot, position: &mut usize) -> u32 {
     // SAFETY: see the head of this file.
     unsafe { vlt_message_from_text(text.as_ptr(), text.len(), out, position) }
@@ -1583,8 +1592,9 @@ pub(crate) fn message_eq(one: &Slot, other: &Slot) -> u32 {
 
 /// Stores in `out` the type that the message describes. No plugin is registered, so no id of an extension is known. If
 /// `allow_unknown` is true, an extension keeps its metadata. If it is false, the call returns 135 for an extension. If
-/// the message describes no type, the call returns the number of its first fault. For example, it returns 124 for a
-/// message without a kind.
+/// the message describes no type, the call returns the number of its first fault. This is a number from 124 to 134, or
+/// 101 to 104 for a decimal, 109 for a map, and 110 to 113 or 115 for a union. For example, it returns 124 for a message
+/// without a kind.
 pub(crate) fn message_to_dtype(message: &Slot, allow_unknown: bool, out: &mut Slot) -> u32 {
     let mut lent_message = message.lent();
     // SAFETY: see the head of this file.

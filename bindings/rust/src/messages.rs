@@ -167,8 +167,7 @@ impl DType {
     /// # Errors
     /// The library's error for the first fault of the message, if it describes no type. It is one of the errors 24 to 35,
     /// or 1 to 4 for a decimal, 9 for a map, and 10 to 13 or 15 for a union. For an extension it is 35, if `unknown` is
-    /// [`UnknownIds::Refuse`]. [`Error::TooDeep`] if the type would be nested more than 128 levels deep, and
-    /// [`Error::OutOfMemory`].
+    /// [`UnknownIds::Refuse`]. And [`Error::OutOfMemory`]. (A message is nested at most as deep as a type may be.)
     pub fn from_proto(message: &Message, unknown: UnknownIds) -> Result<DType, Error> {
         made(|out| ffi::message_to_dtype(&message.slot, unknown.are_allowed(), out)).map(DType::of)
     }

@@ -24,8 +24,8 @@ use std::alloc::Global;
 /// `names` contains the bytes of all names, one name directly after the other, and `name_lengths` contains the number
 /// of bytes of each name. For example, the names `id` and `city` are the bytes `idcity` with the lengths 2 and 4.
 ///
-/// Returns 3 if a name isn't UTF-8, 6 if one of the types has 128 levels, and 9 if the lengths don't add up to the
-/// number of bytes or if there are more or fewer names than types.
+/// Returns 2 if one of the slots in `dtypes` contains no type, 3 if a name isn't UTF-8, 6 if one of the types has 128
+/// levels, and 9 if the lengths don't add up to the number of bytes or if there are more or fewer names than types.
 #[unsafe(no_mangle)]
 pub extern "C" fn vlt_dtype_struct(
     alloc: Global,
@@ -66,10 +66,10 @@ fn put_struct(
 /// Stores in `out` the union type of these names, types and tags, in order. The names are passed in the same way as to
 /// `vlt_dtype_struct`. The union type is nullable if `nullable` is true.
 ///
-/// Returns 3 if a name isn't UTF-8, 6 if one of the types has 128 levels, and 9 if the lengths don't add up to the
-/// number of bytes. Otherwise it returns the first of these numbers that applies: 110 if there are more or fewer types
-/// than names, 111 if there are more or fewer tags than names, 112 if there are no names, 113 if a tag occurs twice,
-/// and 115 if a name occurs twice.
+/// Returns 2 if one of the slots in `dtypes` contains no type, 3 if a name isn't UTF-8, 6 if one of the types has 128
+/// levels, and 9 if the lengths don't add up to the number of bytes. Otherwise it returns the first of these numbers
+/// that applies: 110 if there are more or fewer types than names, 111 if there are more or fewer tags than names, 112 if
+/// there are no names, 113 if a tag occurs twice, and 115 if a name occurs twice.
 #[unsafe(no_mangle)]
 pub extern "C" fn vlt_dtype_union(
     alloc: Global,
@@ -127,9 +127,10 @@ fn put_variants(
 /// Stores in `out` the union type of these names and types with the tags 0, 1, 2 and so on. The names are passed in the
 /// same way as to `vlt_dtype_struct`. The union type is nullable if `nullable` is true.
 ///
-/// Returns 3 if a name isn't UTF-8, 6 if one of the types has 128 levels, and 9 if the lengths don't add up to the
-/// number of bytes. Otherwise it returns the first of these numbers that applies: 114 if there are more than 256 names,
-/// 110 if there are more or fewer types than names, 112 if there are no names, and 115 if a name occurs twice.
+/// Returns 2 if one of the slots in `dtypes` contains no type, 3 if a name isn't UTF-8, 6 if one of the types has 128
+/// levels, and 9 if the lengths don't add up to the number of bytes. Otherwise it returns the first of these numbers
+/// that applies: 114 if there are more than 256 names, 110 if there are more or fewer types than names, 112 if there are
+/// no names, and 115 if a name occurs twice.
 #[unsafe(no_mangle)]
 pub extern "C" fn vlt_dtype_union_consecutive(
     alloc: Global,

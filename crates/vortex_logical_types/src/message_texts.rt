@@ -21,7 +21,8 @@ use std::str;
 /// protobuf's text format, for example `list { element_type { primitive { type: I32 } } }`.
 ///
 /// Returns 3 if the text isn't UTF-8. If the text can't be read, the call returns 4 and writes the position of the
-/// byte at which reading failed, counted from 1, to `position`. At an unknown word this is its first byte.
+/// byte at which reading failed, counted from 1, to `position`. At an unknown word this is its first byte. A text that is
+/// nested more than 128 levels deep can't be read.
 #[unsafe(no_mangle)]
 pub extern "C" fn vlt_message_from_text(
     alloc: Global,

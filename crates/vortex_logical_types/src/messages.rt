@@ -93,8 +93,9 @@ fn eq(one: &pb::DType, other: &pb::DType) -> u32
 
 /// Stores in `out` the type that the message describes. No plugin is registered, so no id of an extension is known. If
 /// `allow_unknown` is true, an extension keeps its metadata. If it is false, the call returns 135 for an extension. If
-/// the message describes no type, the call returns the number of its first fault. For example, it returns 124 for a
-/// message without a kind.
+/// the message describes no type, the call returns the number of its first fault. This is a number from 124 to 134, or
+/// 101 to 104 for a decimal, 109 for a map, and 110 to 113 or 115 for a union. For example, it returns 124 for a message
+/// without a kind.
 #[unsafe(no_mangle)]
 pub extern "C" fn vlt_message_to_dtype(
     alloc: Global,

@@ -25,9 +25,9 @@ use std::string::String;
 use vortex_dtype::FieldPathProto;
 
 /// Stores in `out` the path that the message of a path describes. The names of the parts of the message are passed in
-/// the same way as to `vlt_path_from_steps`. The length `ELEMENT` (the greatest `usize`) stands for a part without a
-/// kind. A message that has such a part describes no path, and the call returns 136. Returns 3 if a name isn't UTF-8,
-/// and 9 if the lengths don't add up to the number of bytes.
+/// the same way as to `vlt_path_from_steps`. The length 2^64 - 1 (`VLT_ELEMENT` in C) stands for a part without a kind. A
+/// message that has such a part describes no path, and the call returns 136. Returns 3 if a name isn't UTF-8, and 9 if
+/// the lengths don't add up to the number of bytes.
 #[unsafe(no_mangle)]
 pub extern "C" fn vlt_path_from_message(
     alloc: Global,

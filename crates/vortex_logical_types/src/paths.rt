@@ -71,7 +71,7 @@ fn len(path: &FieldPath, count: &mut usize) -> u32
 }
 
 /// Writes the step at the position `index`. For a step to a field, it writes the bytes of the name to `buffer` and
-/// their number to `length`. For the step to the element, it writes only the length `ELEMENT` (the greatest `usize`).
+/// their number to `length`. For the step to the element, it writes only a length, which is 2^64 - 1 (`VLT_ELEMENT` in C).
 /// Returns 1 if the position isn't below the number of steps.
 #[unsafe(no_mangle)]
 pub extern "C" fn vlt_path_step(

@@ -357,7 +357,8 @@ fn get(alloc: Global, paths: &[FieldPath], index: usize, out: &mut Slot) -> u32
 }
 
 /// Inserts copies of the paths in these slots into the set, in order, and writes to `inserted` how many were inserted.
-/// If a slot contains no path, or an allocation fails, the call stops there. The paths before it stay inserted.
+/// If a slot contains no path, the call stops there and returns 2. If memory runs out, it stops there and returns 100. The
+/// paths before it stay inserted.
 #[unsafe(no_mangle)]
 pub extern "C" fn vlt_set_extend(
     alloc: Global,
@@ -415,8 +416,8 @@ fn insert_slot(alloc: Global, members: &mut FieldPathSet, slot: &mut Slot) -> u3
     answer
 }
 
-/// Inserts copies of the paths of the list into the set, in order. If an allocation fails, the call stops there. The
-/// paths that it inserted before stay in the set.
+/// Inserts copies of the paths of the list into the set, in order. If memory runs out, the call stops there and returns
+/// 100. The paths that it inserted before stay in the set.
 #[unsafe(no_mangle)]
 pub extern "C" fn vlt_set_extend_from_list(alloc: Global, paths: &mut Slot, list: &mut Slot) -> u32
     ensures gains { GainsListIn (set_in paths.old.value) (paths_in list.old.value) result paths.old.value paths.new.value }

@@ -18,7 +18,13 @@ use std::str;
 /// Reads a type from its text in the form of the console, for example `{a=i32, b=list(utf8)?}`, and stores it in `out`.
 ///
 /// Returns 3 if the text isn't UTF-8. If the text can't be read, the call returns 4 and writes the position of the
-/// byte at which reading failed, counted from 1, to `position`. At an unknown word this is its first byte.
+/// byte at which reading failed, counted from 1, to `position`. At an unknown word this is its first byte. A text that is
+/// nested more than 128 levels deep can't be read.
+///
+/// A text can also be read and contain a type that can't be made. Then the call returns the number of the fault: for a
+/// decimal 101 to 104, as `vlt_dtype_decimal` returns them; for a map 109 if its key type is nullable; and for a union
+/// 112 if it has no variants, 113 if a tag occurs twice, 114 if it has more than 256 variants without tags, and 115 if a
+/// name occurs twice. For example, it returns 101 for `{a=decimal(0,0)}`.
 #[unsafe(no_mangle)]
 pub extern "C" fn vlt_dtype_from_text(
     alloc: Global,

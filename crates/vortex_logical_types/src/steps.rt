@@ -122,9 +122,9 @@ pub fn code_of(fault: StepFault) -> u32
 }
 
 /// Stores in `out` the path of these steps. `names` contains the bytes of all names, one name directly after the other,
-/// and `name_lengths` contains the number of bytes of the name of each step. The length `ELEMENT` (the greatest
-/// `usize`) stands for the step to the element, which has no bytes in `names`. Returns 3 if a name isn't UTF-8, and 9
-/// if the lengths don't add up to the number of bytes.
+/// and `name_lengths` contains the number of bytes of the name of each step. The length 2^64 - 1 (`VLT_ELEMENT` in C)
+/// stands for the step to the element, which has no bytes in `names`. Returns 3 if a name isn't UTF-8, and 9 if the
+/// lengths don't add up to the number of bytes.
 #[unsafe(no_mangle)]
 pub extern "C" fn vlt_path_from_steps(
     alloc: Global,

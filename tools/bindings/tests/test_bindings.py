@@ -30,7 +30,7 @@ pub extern "C" fn vlt_find(alloc: Global, dtype: &mut Slot, name: &[u8], index: 
     0
 }
 
-/// Joins two types, with others.
+/// Joins two types, with others. Returns 2 if a slot of `more` contains no type.
 #[unsafe(no_mangle)]
 pub extern "C" fn vlt_join(alloc: Global, one: &mut Slot, other: &mut Slot, more: &mut [Slot], pairs: &mut [Pair], is_new: bool, out: &mut Slot) -> u32 {
     0
@@ -88,6 +88,19 @@ class Bindings(Planted):
         self.assertEqual((self.run_tool("bindings")[0], self.run_tool("bindings", "--check")[0]), (0, 0))
         self.change(RUST, "pub one_of: u32", "pub one_of: u16")
         self.assertEqual(self.run_tool("bindings", "--check"), (1, f"{told[1]}3 passed, 1 failed\n"))
+
+    def test_tells_what_a_comment_leaves_out(self):
+        self.write("bindings/c/tests/calls.c", "IS(VLT_NONE, vlt_find(&s, 0, 0, &at)); IS(VLT_KIND, vlt_find(&s, 0, 0, &at));\n")
+        self.assertEqual(self.run_tool("bindings", "--check"), (0, "4 passed, 0 failed\n"))
+        self.change("bindings/c/tests/calls.c", "VLT_NONE", "117")
+        self.change(f"{SOURCES}/lib.rt", "Returns 1 if there is none.", "The index is a `usize`.")
+        self.change(f"{SOURCES}/lib.rt", " Returns 2 if a slot of `more` contains no type.", "")
+        self.assertEqual(self.run_tool("bindings")[0], 0)
+        status, said = self.run_tool("bindings", "--check")
+        self.assertEqual((status, said.splitlines()[-1]), (1, "3 passed, 3 failed"))
+        for it in ("vlt_find has the word usize, which C doesn't know", "vlt_find doesn't state that it returns 117",
+                   "vlt_join doesn't state that it returns 2 if a slot of an array"):
+            self.assertIn(it, said)
 
     def test_tells_what_it_does_not_know(self):
         self.change(f"{SOURCES}/lib.rt", "name: &[u8]", "name: &str")

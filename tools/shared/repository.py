@@ -98,6 +98,17 @@ def below(names):
     return [crate for crate in crates() if crate in needed]
 
 
+def changed(crate):
+    """When the sources of a crate, or of one below it, were last changed."""
+    parts, endings = ("src", "specs", "proofs"), (".rt", ".antt")
+    return max(map(os.path.getmtime, ["crates.txt", *(it for one in below([crate]) for it in sources_of(one, parts, endings))]))
+
+
+def is_of_today(made, crate):
+    """Whether a file was built after the last change of what it is built from."""
+    return os.path.exists(made) and changed(crate) <= os.path.getmtime(made)
+
+
 def is_left_built(crate):
     """Whether all libraries below a crate are there as a run of `rt ci` or `rt lib` built them, of the sources of today."""
     for it in below([crate]):

@@ -88,7 +88,6 @@ class Runs(Planted):
     def test_runs_what_was_proved_of_these_sources_alone(self):
         self.write("crates/dtype_demo/out/dtype_demo", "#!/bin/sh\necho proved\n", 0o755)
         self.script("rt", 'cat >/dev/null; echo unproved; echo "run=ended " >&2')
-        self.assertEqual(self.run_tool("run_program", "demo", "dtype_demo", "--keep")[0], 0)
         self.assertEqual(self.run_tool("run_program", "demo", "dtype_demo")[1], "proved\n")
         self.write("crates/dtype_base/src/ptype.rt", "changed\n")
         self.assertIn("unproved\n", self.run_tool("run_program", "demo", "dtype_demo")[1])

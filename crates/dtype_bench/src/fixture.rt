@@ -73,10 +73,6 @@ pub enum Naming {
     Shuffled,
     /// Sixteen hexadecimal digits each, shuffled.
     Hexadecimal,
-    /// `id`, and after it `measurement_1` and so on.
-    Stray,
-    /// `id`, and after it `transaction_amount_1` and so on: names that share more than a key holds.
-    Features,
     /// A few prefixes, a few words and a number, as in a data warehouse: `ss_list_price_3`.
     Words,
     /// `resource.attributes.service.name.0` and so on.
@@ -110,11 +106,9 @@ const PARTS: [&str; 4] = ["name", "version", "namespace", "instance"];
 
 impl Naming {
     /// The forms that only lookups and index builds are measured with.
-    pub const OTHERS: [Naming; 6] = [
+    pub const OTHERS: [Naming; 4] = [
         Naming::Shuffled,
         Naming::Hexadecimal,
-        Naming::Stray,
-        Naming::Features,
         Naming::Words,
         Naming::Dotted,
     ];
@@ -125,8 +119,6 @@ impl Naming {
             Naming::Columns => "wide",
             Naming::Shuffled => "shuffled",
             Naming::Hexadecimal => "hexadecimal",
-            Naming::Stray => "stray",
-            Naming::Features => "features",
             Naming::Words => "words",
             Naming::Dotted => "dotted",
         }
@@ -137,8 +129,6 @@ impl Naming {
             Naming::Columns => column(alloc, i),
             Naming::Shuffled => column(alloc, mixed(i, count)),
             Naming::Hexadecimal => hexadecimal(alloc, i),
-            Naming::Stray => after_id(alloc, "measurement", i),
-            Naming::Features => after_id(alloc, "transaction_amount", i),
             Naming::Words => words(alloc, i),
             Naming::Dotted => dotted(alloc, i),
         }
@@ -288,14 +278,6 @@ fn hexadecimal(alloc: Global, i: usize) -> BenchResult<String> {
         .wrapping_add(1)
         .wrapping_mul(0x9E37_79B9_7F4A_7C15);
     Ok(format!(in alloc; "{number:016x}")?)
-}
-
-// `id`, and after it the names that begin so.
-fn after_id(alloc: Global, beginning: &str, i: usize) -> BenchResult<String> {
-    match i {
-        0 => Ok(String::from_str(alloc, "id")?),
-        _ => numbered(alloc, beginning, i),
-    }
 }
 
 fn dotted(alloc: Global, i: usize) -> BenchResult<String> {

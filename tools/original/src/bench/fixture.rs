@@ -57,11 +57,9 @@ const WORDS: &str = "sk quantity list_price net_paid ext_discount_amt order_numb
 const PARTS: [&str; 4] = ["name", "version", "namespace", "instance"];
 
 /// The forms that only lookups and index builds are measured with.
-pub const OTHER_NAMINGS: [Naming; 6] = [
+pub const OTHER_NAMINGS: [Naming; 4] = [
     ("shuffled", |i, count| column(mixed(i, count))),
     ("hexadecimal", |i, _| format!("{:016x}", (i as u64 + 1).wrapping_mul(0x9E37_79B9_7F4A_7C15))),
-    ("stray", |i, _| if i == 0 { "id".to_owned() } else { format!("measurement_{i}") }),
-    ("features", |i, _| if i == 0 { "id".to_owned() } else { format!("transaction_amount_{i}") }),
     ("words", |i, _| {
         let word = format!("{}{}", PREFIXES[i % 7], WORDS.split(' ').nth(i / 7 % 10).unwrap_or_default());
         if i < 70 { word } else { format!("{word}_{}", i / 70) }

@@ -179,10 +179,15 @@ abbrev pub PutsPrimitive : Option PType → Nullability → ℕ → Option Objec
 PutsPrimitive None n code old new = (code ≡ 9) × (new ≡ old)
 PutsPrimitive (Some p) n code old new = PutsThe (Some (primitive p n)) code old new
 
+-- a statement about a value, which has to be there
+abbrev pub OfThe : {X : Type 0} → Option X → (X → Type 0) → Type 0
+OfThe None P = ⊥
+OfThe (Some x) P = P x
+
 -- a type is stored with the outer nullability `n`, or 5 is returned if it can't have that
 abbrev pub ChangesNullability : Tree → Nullability → ℕ → Option Object → Option Object → Type 0
 ChangesNullability t n code old new =
-    ((code ≡ 0) × (type_in new ≡ set_null t n)) ⊎ (((code ≡ 5) × ((n ≡ NonNullable) × ((CanBeNonNullable t → ⊥) × (new ≡ old)))) ⊎ ((code ≡ 100) × (new ≡ old)))
+    OfThe (set_null t n) (λ u. (code ≡ 0) × (type_in new ≡ Some u)) ⊎ (((code ≡ 5) × ((n ≡ NonNullable) × ((CanBeNonNullable t → ⊥) × (new ≡ old)))) ⊎ ((code ≡ 100) × (new ≡ old)))
 
 -- the same of the type in a slot
 abbrev pub ChangesNullabilityOf : Option Tree → (Tree → Nullability) → ℕ → Option Object → Option Object → Type 0
@@ -236,10 +241,11 @@ abbrev pub WritesDecimalOf : Option Tree → ℕ → ℕ → ℤ → ℕ → ℤ
 WritesDecimalOf None code p s q r = (code ≡ 2) × ((q ≡ p) × (r ≡ s))
 WritesDecimalOf (Some t) code p s q r = WritesDecimal (decimal_of t) code p s q r
 
--- the width of the values of a type is written, or 1 is returned if it is variable, and 119 if a part is too wide
+-- The width of the values of a type is written, or 1 is returned if it is variable, and 119 if a part is too wide. A list
+-- of size 0 has width 0, but it also returns 119 if its element is too wide.
 abbrev pub WritesWidth : Tree → ℕ → ℕ → ℕ → Type 0
 WritesWidth t code old new =
-    ((code ≡ 0) × (Fixed t × (new ≡ width t))) ⊎ (((code ≡ 1) × ((Fixed t → ⊥) × (new ≡ old))) ⊎ ((code ≡ 119) × ((Fixed t × HasWidePart t) × (new ≡ old))))
+    ((code ≡ 0) × (Fixed t × ((HasWidePart t → ⊥) × (new ≡ width t)))) ⊎ (((code ≡ 1) × ((Fixed t → ⊥) × (new ≡ old))) ⊎ ((code ≡ 119) × ((Fixed t × HasWidePart t) × (new ≡ old))))
 
 -- the same of the type in a slot
 abbrev pub WritesWidthOf : Option Tree → ℕ → ℕ → ℕ → Type 0

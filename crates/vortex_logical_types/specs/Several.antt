@@ -17,7 +17,7 @@ use Rattle.dtype_paths.specs.declared.field.Field.{Field}
 use Rattle.dtype_types.specs.parts.Lookups.{Projects, field_names}
 use Rattle.dtype_types.specs.parts.Unions.{MakesUnion, UnionError}
 use Rattle.dtype_types.specs.tree.Tree.{Tree, fields, struct, union, variants}
-use Rattle.vortex_logical_types.specs.Answers.{type_in}
+use Rattle.vortex_logical_types.specs.Answers.{OfThe, type_in}
 use Rattle.vortex_logical_types.specs.Levels.{levels_over}
 use Rattle.vortex_logical_types.specs.Objects.{path_in, set_in}
 
@@ -119,11 +119,6 @@ abbrev pub PutsProjection : List (List ℕ × Tree) → Nullability → List (Li
 PutsProjection fs n names code old new =
     ((code ≡ 0) × ((gs : List (List ℕ × Tree)) × Projects fs names gs × (type_in new ≡ Some (struct (fields gs) n))))
     ⊎ (((code ≡ 116) × (((i : ℕ) × IsFirstAbsent (field_names fs) names i) × (new ≡ old))) ⊎ ((code ≡ 100) × (new ≡ old)))
-
--- a statement about a value, which has to be there
-abbrev pub OfThe : {X : Type 0} → Option X → (X → Type 0) → Type 0
-OfThe None P = ⊥
-OfThe (Some x) P = P x
 
 -- a statement about names, or a number of `RefusesNames` is returned and nothing changes
 abbrev pub WithNames : List ℕ → List ℕ → ℕ → Option Object → Option Object → (List (List ℕ) → Type 0) → Type 0

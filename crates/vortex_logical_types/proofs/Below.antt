@@ -9,7 +9,7 @@ use Rattle.dtype_paths.specs.PathPredicates.{PathPredicate, after_step, after_st
 use Rattle.dtype_paths.specs.declared.field.Field.{Field}
 use Rattle.dtype_paths.specs.declared.field.Field.TheVariants.{ElementType, Name}
 use Rattle.dtype_paths.specs.declared.field_path_cursor.FieldPathCursor.{FieldPathCursor}
-use Rattle.vortex_logical_types.specs.Objects.{TellsElement}
+use Rattle.vortex_logical_types.specs.Paths.{TellsElement}
 
 -- below no path there is none
 pub below_none : (p : List Field) → after_steps p no_path ≡ no_path

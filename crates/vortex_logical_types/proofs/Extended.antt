@@ -11,7 +11,8 @@ use Rattle.dtype_paths.proofs.lemmas.SetMembers.{of_push, union_insert}
 use Rattle.dtype_paths.specs.PathOrder.{PathSet, set_of}
 use Rattle.dtype_paths.specs.declared.field.Field.{Field}
 use Rattle.vortex_logical_types.proofs.Several.{below_objects, object_in}
-use Rattle.vortex_logical_types.specs.Objects.{Gains, GainsPath, path_in}
+use Rattle.vortex_logical_types.specs.Paths.{Gains, GainsPath}
+use Rattle.vortex_logical_types.specs.Slots.{path_in}
 use Rattle.vortex_logical_types.specs.Several.{EndsAt, GainsFirst, IsNoPath, each_in, objects_in}
 
 -- one path more

@@ -7,7 +7,7 @@ use Rattle.std.specs.List.{sum_by}
 use Rattle.std.specs.Str.{IsUtf8}
 use Rattle.std.proofs.lemmas.List.{drop-drop, length-drop, take_all}
 use Rattle.std.proofs.lemmas.List.Sums.{sum_by_more, sum_by_more_le}
-use Rattle.vortex_logical_types.specs.Several.{HasNotUtf8}
+use Rattle.vortex_logical_types.specs.Steps.{HasNotUtf8}
 
 module _ (size : ℕ → ℕ) (bytes lengths : List ℕ) where
   -- what is left before the name at a position

@@ -6,6 +6,7 @@ use Rattle.std.proofs.Common.{◌≡◌, ◌<◌, ℕ, zero, suc, List, [], ◌�
 use Rattle.std.proofs.lemmas.Simd.{map-map}
 use Rattle.std.specs.List.{flat_map}
 use Rattle.c_objects.specs.declared.object.Object.{Object}
+use Rattle.c_objects.specs.declared.object.Object.TheVariants.{Path}
 use Rattle.dtype_base.specs.Errors.{number_of}
 use Rattle.dtype_base.specs.declared.vortex_error.MessageFault.TheVariants.{PathPartMissing}
 use Rattle.dtype_base.specs.declared.vortex_error.VortexError.{VortexError}
@@ -15,8 +16,9 @@ use Rattle.dtype_messages.specs.declared.pb.FieldPath.{FieldPath}
 use Rattle.dtype_paths.specs.declared.field.Field.{Field}
 use Rattle.dtype_paths.specs.declared.field.Field.TheVariants.{Name}
 use Rattle.vortex_dtype.specs.PathMessage.{path_of, steps_of}
-use Rattle.vortex_logical_types.specs.Messages.{HasParts, part_bytes, part_length}
-use Rattle.vortex_logical_types.specs.Objects.{PutsPath, path_in, step_bytes, step_length}
+use Rattle.vortex_logical_types.specs.Slots.{path_in}
+use Rattle.vortex_logical_types.specs.Steps.{HasParts, part_bytes, part_length, step_bytes, step_length}
+use Rattle.vortex_logical_types.specs.Vocabulary.{PutsReturned}
 
 pub path_bytes : (ns : List (Option (List ℕ))) (p : List Field) → path_of ns ≡ Some p → flat_map part_bytes ns ≡ flat_map step_bytes p
 path_bytes [] p e = grind (arith, e)
@@ -46,7 +48,7 @@ missing_length m missing =
 
 -- the path that is put has the bytes and the lengths of the parts
 pub made : (m : FieldPath) (r : Result (List Field) VortexError) (Q : VortexError → Type 0) (code : ℕ) (old new : Option Object) (bytes lengths : List ℕ) → MatchResult r (λ p. path_of (part_names m) ≡ Some p) Q
-    → PutsPath r code old new → flat_map part_bytes (part_names m) ≡ bytes → map part_length (part_names m) ≡ lengths → code ≡ 0 → HasParts bytes lengths (path_in new)
+    → PutsReturned (λ p. Path p) r code old new → flat_map part_bytes (part_names m) ≡ bytes → map part_length (part_names m) ≡ lengths → code ≡ 0 → HasParts bytes lengths (path_in new)
 made m (Ok p) Q code old new bytes lengths is (inl puts) b l done =
     subst (λ o. HasParts bytes lengths (path_in o)) (sym puts.1)
     (sym (path_bytes (part_names m) p is) ∙ b, sym (path_lengths (part_names m) p is) ∙ l, path_names (part_names m) p is)
@@ -55,7 +57,7 @@ made m (Err e) Q code old new bytes lengths is puts b l done = absurd (omega (ar
 
 -- only a part without a kind returns 136
 pub missing : (m : FieldPath) (r : Result (List Field) VortexError) (P : List Field → Type 0) (code : ℕ) (old new : Option Object) (lengths : List ℕ)
-    → MatchResult r P (λ e. (e ≡ OutOfMemory) ⊎ ((e ≡ Faulty PathPartMissing) × Contains (steps_of m) None)) → PutsPath r code old new
+    → MatchResult r P (λ e. (e ≡ OutOfMemory) ⊎ ((e ≡ Faulty PathPartMissing) × Contains (steps_of m) None)) → PutsReturned (λ p. Path p) r code old new
     → map part_length (part_names m) ≡ lengths → code ≡ 136 → Contains lengths 18446744073709551615
 missing m (Ok p) P code old new lengths is (inl puts) l done = absurd (omega (arith, puts.0, done))
 missing m (Ok p) P code old new lengths is (inr puts) l done = absurd (omega (arith, puts.0, done))

@@ -2,12 +2,14 @@
 -- SPDX-FileCopyrightText: Copyright the Vortex contributors
 
 -- Reading several names, and what several slots have, one by one.
-use Rattle.std.proofs.Common.{◌≡◌, ◌+◌, ◌<◌, ◌≤◌, ◌++◌, ◌∷◌, ℕ, zero, suc, List, [], Option, Some, None, if◌then◌else◌, drop, get_or, length, option_map, set, take, refl, ap, sym, subst, ◌∙◌, arith}
+use Rattle.std.proofs.Common.{◌≡◌, ◌≢◌, ◌⊎◌, inl, inr, ◌+◌, ◌<◌, ◌≤◌, ◌++◌, ◌∷◌, ℕ, zero, suc, List, [], Option, Some, None, if◌then◌else◌, drop, get_or, length, option_map, set, take, refl, ap, sym, subst, ◌∙◌, arith}
 use Rattle.std.proofs.lemmas.Bool.{le-leb, lt-leb}
-use Rattle.std.proofs.lemmas.List.{append_assoc, drop_more, length-map}
+use Rattle.std.specs.List.{AllByRecursion}
+use Rattle.std.specs.Str.{IsUtf8}
+use Rattle.std.proofs.lemmas.List.{append_assoc, drop_all, drop_more, length-map}
 use Rattle.c_objects.specs.declared.object.Object.{Object}
 use Rattle.c_objects.specs.declared.slot.Slot.{Slot}
-use Rattle.vortex_logical_types.specs.Several.{Adds, each_in, in_front, names_cut, objects_in}
+use Rattle.vortex_logical_types.specs.Several.{Adds, NamesFault, each_in, in_front, names_cut, objects_in}
 
 -- an item before what is left, behind what was read
 pub behind : {X : Type 0} (all : List X) (x : X) (o : Option (List X)) → option_map (λ r. all ++ r) (option_map (λ r. x ∷ r) o) ≡ option_map (λ r. (all ++ x ∷ []) ++ r) o
@@ -38,6 +40,28 @@ pub names_fail : (all : List (List ℕ)) (bytes lengths : List ℕ) (i : ℕ) �
 names_fail all bytes lengths i lt short =
     ap (λ ls. option_map (λ r. all ++ r) (names_cut bytes ls)) (drop_more lengths i 0 lt)
     ∙ ap (option_map (λ r. all ++ r)) (cut_short bytes (drop (i + 1) lengths) (get_or lengths i 0) short)
+
+module _ (size : ℕ → ℕ) where
+  -- the first fault of the names from one on, if that one is at fault, or if a later one is
+  pub fault_here : (bytes lengths : List ℕ) (i : ℕ) → i < length lengths → (code : ℕ)
+      → ((code ≡ 3) × (size (get_or lengths i 0) ≤ length bytes) × (IsUtf8 (take (size (get_or lengths i 0)) bytes) → ⊥)) ⊎ ((code ≡ 9) × (length bytes < size (get_or lengths i 0)))
+      → NamesFault size bytes (drop i lengths) code
+  fault_here bytes lengths i lt code (inl f) = subst (λ ls. NamesFault size bytes ls code) (sym (drop_more lengths i 0 lt)) (inr (f.1, inl (f.0, f.2)))
+  fault_here bytes lengths i lt code (inr f) = subst (λ ls. NamesFault size bytes ls code) (sym (drop_more lengths i 0 lt)) (inl f)
+
+  pub fault_later : (bytes others lengths : List ℕ) (i code : ℕ) → i < length lengths → size (get_or lengths i 0) ≤ length bytes → IsUtf8 (take (size (get_or lengths i 0)) bytes)
+      → others ≡ drop (size (get_or lengths i 0)) bytes → NamesFault size others (drop (i + 1) lengths) code → NamesFault size bytes (drop i lengths) code
+  fault_later bytes others lengths i code lt fits text is f =
+      subst (λ ls. NamesFault size bytes ls code) (sym (drop_more lengths i 0 lt)) (inr (fits, inr (text, subst (λ b. NamesFault size b (drop (i + 1) lengths) code) is f)))
+
+  -- bytes are left after the last name
+  pub fault_left : (bytes lengths : List ℕ) (i : ℕ) → length lengths ≤ i → bytes ≢ [] → NamesFault size bytes (drop i lengths) 9
+  fault_left bytes lengths i ge some = subst (λ ls. NamesFault size bytes ls 9) (sym (drop_all i lengths ge)) (refl, some)
+
+-- one more name that is UTF-8
+pub texts_more : {X : Type 0} (P : X → Type 0) (ns : List X) (n : X) → AllByRecursion P ns → P n → AllByRecursion P (ns ++ n ∷ [])
+texts_more P [] n all text = (text, tt)
+texts_more P (m ∷ ns) n all text = (all.0, texts_more P ns n all.1 text)
 
 -- the objects in slots, where one of them was taken and put back
 pub kept_at : (slots : List Slot) (i : ℕ) (d new : Slot) → i < length slots → new.value ≡ (get_or slots i d).value → objects_in (set slots i new) ≡ objects_in slots

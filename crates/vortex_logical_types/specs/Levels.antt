@@ -2,9 +2,8 @@
 -- SPDX-FileCopyrightText: Copyright the Vortex contributors
 
 -- How many levels of parts a type has. A choice of ours: no export makes a type of more than 128 levels, so that dropping a
--- type can't exhaust the stack. (Of the exports that read a type from a text, no contract says this.) `code` is what an
--- export returns.
-use Rattle.std.specs.Prelude.{◌≡◌, ◌⊎◌, ◌+◌, ◌≤◌, ◌<◌, ℕ, List, [], ◌∷◌, max, Option, Some, None}
+-- type can't exhaust the stack. (Of the exports that read a type from a text, no contract says this.)
+use Rattle.std.specs.Prelude.{◌+◌, ℕ, List, [], ◌∷◌, max}
 use Rattle.dtype_types.specs.tree.Tree.{Tree, Holder, Items, list, fixed_size_list, map_of, struct, union, extension, no_items, item}
 
 -- 0 of a type without parts such as i32, and otherwise one more than the greatest number among its parts: 2 of list(list(i32))
@@ -26,15 +25,3 @@ abbrev mutual
 abbrev pub levels_over : List Tree → ℕ
 levels_over [] = 0
 levels_over (t ∷ ts) = max (1 + levels t) (levels_over ts)
-
--- Nothing is made of a part that has 128 levels, and the code is 6. Otherwise P.
-abbrev pub UnlessDeep : Option Tree → ℕ → Type 0 → Type 0 → Type 0
-UnlessDeep None code same P = P
-UnlessDeep (Some t) code same P = ((code ≡ 6) × (128 ≤ levels t) × same) ⊎ ((levels t < 128) × P)
-
--- the same of two parts
-abbrev pub UnlessEitherDeep : Option Tree → Option Tree → ℕ → Type 0 → Type 0 → Type 0
-UnlessEitherDeep None o code same P = P
-UnlessEitherDeep (Some t) None code same P = P
-UnlessEitherDeep (Some t) (Some u) code same P =
-    ((code ≡ 6) × (128 ≤ max (levels t) (levels u)) × same) ⊎ ((max (levels t) (levels u) < 128) × P)

@@ -5,6 +5,9 @@ pub mod Answers
 pub mod Levels
 pub mod Messages
 pub mod Objects
+pub mod Paths
 pub mod Several
+pub mod Slots
 pub mod Steps
-pub mod Texts
+pub mod Types
+pub mod Vocabulary

@@ -2,24 +2,18 @@
 -- SPDX-FileCopyrightText: Copyright the Vortex contributors
 
 -- Several names, or several slots, that are passed to one call, and what exports make of them. `code` is the number
--- that the export returns. `old` and `new` are what the slot for the result contains before and after the call.
-use Rattle.std.specs.Prelude.{◌≡◌, ◌≢◌, ◌⊎◌, ◌+◌, ◌<◌, ◌≤◌, ◌++◌, ℕ, List, [], ◌∷◌, if◌then◌else◌, nat_le, drop, get_or, length, map, option_map, slice_get, take, IsUtf8, Option, Some, None}
+-- that the export returns. `old` and `new` are what a slot or a number contains before and after the call.
+use Rattle.std.specs.Prelude.{◌≡◌, ◌≢◌, ◌⊎◌, ◌<◌, ◌≤◌, ◌++◌, ℕ, List, [], ◌∷◌, if◌then◌else◌, nat_le, drop, length, map, option_map, slice_get, take, IsUtf8, Option, Some, None}
 use Rattle.std.specs.FinSet as set
-use Rattle.std.specs.List.{range_with_len, sum_by, zip}
+use Rattle.std.specs.List.{AllByRecursion}
 use Rattle.c_objects.specs.declared.object.Object.{Object}
 use Rattle.c_objects.specs.declared.slot.Slot.{Slot}
-use Rattle.dtype_base.specs.FieldNames.{IsFirstAbsent}
-use Rattle.dtype_base.specs.declared.nullability.Nullability.{Nullability}
-use Rattle.dtype_base.specs.declared.vortex_error.VortexError.{VortexError}
-use Rattle.dtype_base.specs.Errors.{number_of}
 use Rattle.dtype_paths.specs.PathOrder.{PathSet, set_of}
 use Rattle.dtype_paths.specs.declared.field.Field.{Field}
-use Rattle.dtype_types.specs.parts.Lookups.{Projects, field_names}
-use Rattle.dtype_types.specs.parts.Unions.{MakesUnion, UnionError}
-use Rattle.dtype_types.specs.tree.Tree.{Tree, fields, struct, union, variants}
-use Rattle.vortex_logical_types.specs.Answers.{OfThe, type_in}
+use Rattle.dtype_types.specs.tree.Tree.{Tree}
 use Rattle.vortex_logical_types.specs.Levels.{levels_over}
-use Rattle.vortex_logical_types.specs.Objects.{path_in, set_in}
+use Rattle.vortex_logical_types.specs.Slots.{path_in, set_in}
+use Rattle.vortex_logical_types.specs.Vocabulary.{OfThe, Outcome}
 
 -- no names, if no bytes are left
 abbrev pub none_left : List ℕ → Option (List (List ℕ))
@@ -32,24 +26,28 @@ abbrev pub names_cut : List ℕ → List ℕ → Option (List (List ℕ))
 names_cut bytes [] = none_left bytes
 names_cut bytes (l ∷ lengths) = if nat_le l (length bytes) then option_map (λ ns. take l bytes ∷ ns) (names_cut (drop l bytes) lengths) else None
 
--- The bytes of the name at a position, which follow those of the names before it. `size l` is the number of bytes of a
--- name whose length is given as `l`.
-abbrev pub name_at : (ℕ → ℕ) → List ℕ → List ℕ → ℕ → List ℕ
-name_at size bytes lengths i = take (size (get_or lengths i 0)) (drop (sum_by size (take i lengths)) bytes)
-
--- one of the names isn't UTF-8
-abbrev pub HasNotUtf8 : (ℕ → ℕ) → List ℕ → List ℕ → Type 0
-HasNotUtf8 size bytes lengths = (i : ℕ) × (i < length lengths) × (IsUtf8 (name_at size bytes lengths i) → ⊥)
+-- The number for the first fault of names: 9 if fewer bytes are left than the length of the next name says, 3 if the next name
+-- isn't UTF-8, and 9 if bytes are left after the last name. `size l` is the number of bytes of a name whose length is given
+-- as `l`. For example, of the bytes `abc` and the lengths 1 and 3 it is 9, because 2 bytes are left for the second name.
+abbrev pub NamesFault : (ℕ → ℕ) → List ℕ → List ℕ → ℕ → Type 0
+NamesFault size bytes [] code = (code ≡ 9) × (bytes ≢ [])
+NamesFault size bytes (l ∷ lengths) code =
+    ((code ≡ 9) × (length bytes < size l))
+    ⊎ ((size l ≤ length bytes) × (((code ≡ 3) × (IsUtf8 (take (size l) bytes) → ⊥)) ⊎ (IsUtf8 (take (size l) bytes) × NamesFault size (drop (size l) bytes) lengths code)))
 
 -- a name has as many bytes as its length says
 abbrev pub whole : ℕ → ℕ
 whole l = l
 
--- the number that is returned if names can't be read: 3 if a name isn't UTF-8, 9 if the lengths don't add up, and 100
--- if an allocation fails
-abbrev pub RefusesNames : List ℕ → List ℕ → ℕ → Type 0
-RefusesNames bytes lengths code =
-    ((code ≡ 3) × HasNotUtf8 whole bytes lengths) ⊎ (((code ≡ 9) × (names_cut bytes lengths ≡ None)) ⊎ (code ≡ 100))
+-- the lengths add up, and each name is UTF-8
+abbrev pub AreTexts : List ℕ → List ℕ → Type 0
+AreTexts bytes lengths = OfThe (names_cut bytes lengths) (λ ns. AllByRecursion IsUtf8 ns)
+
+-- What is done with names, or the number for their first fault. For example, of the bytes `idcity` and the lengths 2 and 4 it is
+-- what is done with `id` and `city`.
+abbrev pub with_names : {X : Type 0} → List ℕ → List ℕ → (List (List ℕ) → Outcome X) → Outcome X
+with_names bytes lengths f No Yes =
+    No (NamesFault whole bytes lengths) ⊎ (AreTexts bytes lengths × OfThe (names_cut bytes lengths) (λ ns. f ns No Yes))
 
 -- the objects in several slots
 abbrev pub objects_in : List Slot → List (Option Object)
@@ -70,59 +68,16 @@ abbrev pub Adds : {X : Type 0} → Option X → List X → List X → Type 0
 Adds None old new = ⊥
 Adds (Some x) old new = new ≡ old ++ (x ∷ [])
 
--- a statement about two values; both have to be there
-abbrev pub OfBoth : {X Y : Type 0} → Option X → Option Y → (X → Y → Type 0) → Type 0
-OfBoth None y P = ⊥
-OfBoth (Some x) None P = ⊥
-OfBoth (Some x) (Some y) P = P x y
-
 -- each slot contains a type, and one of the types has more than 127 levels
 abbrev pub AreDeep : Option (List Tree) → Type 0
 AreDeep None = ⊥
 AreDeep (Some ts) = 128 < levels_over ts
 
--- the number that is returned if names or types can't be used: those of `RefusesNames`, 2 if a slot contains no type, and
--- 6 if a type has more than 127 levels
+-- The number that is returned if names or types can't be used: that of the first fault of the names. If they can be read, 2 if a
+-- slot contains no type, and 6 if each does and a type has more than 127 levels. 100 if an allocation fails.
 abbrev pub RefusesParts : List ℕ → List ℕ → Option (List Tree) → ℕ → Type 0
 RefusesParts bytes lengths types code =
-    RefusesNames bytes lengths code ⊎ (((code ≡ 6) × AreDeep types) ⊎ ((code ≡ 2) × (types ≡ None)))
-
--- A type is made of names and of types that have at most 127 levels each, or a number of `RefusesParts` is returned and
--- nothing is stored.
-abbrev pub PutsMadeOf : List ℕ → List ℕ → Option (List Tree) → (List (List ℕ) → List Tree → ℕ → Option Object → Option Object → Type 0) → ℕ → Option Object → Option Object → Type 0
-PutsMadeOf bytes lengths types P code old new =
-    (RefusesParts bytes lengths types code × (new ≡ old)) ⊎ OfBoth (names_cut bytes lengths) types (λ ns ts. (levels_over ts ≤ 128) × P ns ts code old new)
-
--- the struct of names and types is stored, or 9 is returned if there are more or fewer names than types
-abbrev pub PutsStruct : Nullability → List (List ℕ) → List Tree → ℕ → Option Object → Option Object → Type 0
-PutsStruct n ns ts code old new =
-    ((code ≡ 0) × ((length ns ≡ length ts) × (type_in new ≡ Some (struct (fields (zip ns ts)) n))))
-    ⊎ (((code ≡ 9) × ((length ns ≢ length ts) × (new ≡ old))) ⊎ ((code ≡ 100) × (new ≡ old)))
-
--- the number for the first rule of unions that the names, types and tags break
-abbrev pub RefusesUnion : List (List ℕ) → ℕ → List ℕ → ℕ → Type 0
-RefusesUnion ns types tags code = (e : VortexError) × UnionError ns types tags e × (code ≡ 100 + number_of e)
-
--- the union of names, types and tags is stored, or the number for the first rule that they break is returned
-abbrev pub PutsUnion : List ℕ → Nullability → List (List ℕ) → List Tree → ℕ → Option Object → Option Object → Type 0
-PutsUnion tags n ns ts code old new =
-    ((code ≡ 0) × (MakesUnion ns (length ts) tags × (type_in new ≡ Some (union (variants (zip ns (zip ts tags))) n))))
-    ⊎ ((RefusesUnion ns (length ts) tags code × (new ≡ old)) ⊎ ((code ≡ 100) × (new ≡ old)))
-
--- the same with the tags 0, 1, 2 and so on; 114 is returned if there are more than 256 names
-abbrev pub PutsConsecutive : Nullability → List (List ℕ) → List Tree → ℕ → Option Object → Option Object → Type 0
-PutsConsecutive n ns ts code old new =
-    ((code ≡ 114) × ((256 < length ns) × (new ≡ old))) ⊎ PutsUnion (range_with_len 0 (length ns)) n ns ts code old new
-
--- the struct of the first fields with these names is stored, or 116 is returned if no field has one of the names
-abbrev pub PutsProjection : List (List ℕ × Tree) → Nullability → List (List ℕ) → ℕ → Option Object → Option Object → Type 0
-PutsProjection fs n names code old new =
-    ((code ≡ 0) × ((gs : List (List ℕ × Tree)) × Projects fs names gs × (type_in new ≡ Some (struct (fields gs) n))))
-    ⊎ (((code ≡ 116) × (((i : ℕ) × IsFirstAbsent (field_names fs) names i) × (new ≡ old))) ⊎ ((code ≡ 100) × (new ≡ old)))
-
--- a statement about names, or a number of `RefusesNames` is returned and nothing changes
-abbrev pub WithNames : List ℕ → List ℕ → ℕ → Option Object → Option Object → (List (List ℕ) → Type 0) → Type 0
-WithNames bytes lengths code old new P = (RefusesNames bytes lengths code × (new ≡ old)) ⊎ OfThe (names_cut bytes lengths) P
+    (NamesFault whole bytes lengths code ⊎ (code ≡ 100)) ⊎ (AreTexts bytes lengths × (((code ≡ 6) × AreDeep types) ⊎ ((code ≡ 2) × (types ≡ None))))
 
 -- a set gains the paths that slots contain; each slot has to contain one
 abbrev pub GainsFirst : Option (List (List Field)) → PathSet → PathSet → Type 0

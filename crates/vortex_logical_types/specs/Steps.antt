@@ -1,12 +1,52 @@
 -- SPDX-License-Identifier: Apache-2.0
 -- SPDX-FileCopyrightText: Copyright the Vortex contributors
 
--- Why steps of a path can't be read, which come in as one text and the length of each. `code` is what the export returns.
-use Rattle.std.specs.Prelude.{◌≡◌, ◌≢◌, ◌⊎◌, ◌<◌, ◌==◌, if◌then◌else◌, ℕ, List, length, take, IsUtf8}
-use Rattle.std.specs.List.{sum_by}
-use Rattle.vortex_logical_types.specs.Several.{HasNotUtf8}
+-- Steps of a path, and parts of the message of a path, which come in as one text and the length of each, and why they can't be
+-- read. `code` is what the export returns.
+use Rattle.std.specs.Prelude.{◌≡◌, ◌≢◌, ◌⊎◌, ◌<◌, ◌==◌, if◌then◌else◌, ℕ, List, [], drop, get_or, length, map, take, IsUtf8, Option, Some, None}
+use Rattle.std.specs.List.{flat_map, sum_by}
+use Rattle.dtype_paths.specs.declared.field.Field.{Field}
+use Rattle.dtype_paths.specs.declared.field.Field.TheVariants.{ElementType, Name}
 use Rattle.vortex_logical_types.specs.declared.steps.StepFault.{StepFault}
 use Rattle.vortex_logical_types.specs.declared.steps.StepFault.TheVariants.{Lengths, NotUtf8, OutOfMemory}
+
+-- the bytes of a step and their length, which is the greatest length for the step to the element
+abbrev pub step_bytes : Field → List ℕ
+step_bytes (Name n) = n
+step_bytes ElementType = []
+
+abbrev pub step_length : Field → ℕ
+step_length (Name n) = length n
+step_length ElementType = 18446744073709551615
+
+-- a path whose steps have these bytes and these lengths
+abbrev pub HasSteps : List ℕ → List ℕ → Option (List Field) → Type 0
+HasSteps bytes lengths None = ⊥
+HasSteps bytes lengths (Some p) = (flat_map step_bytes p ≡ bytes) × (map step_length p ≡ lengths)
+
+-- the bytes of a part of the message of a path and their length, which is the greatest length for a part without a kind
+abbrev pub part_bytes : Option (List ℕ) → List ℕ
+part_bytes None = []
+part_bytes (Some n) = n
+
+abbrev pub part_length : Option (List ℕ) → ℕ
+part_length None = 18446744073709551615
+part_length (Some n) = length n
+
+-- a path whose steps are names with these bytes and these lengths
+abbrev pub HasParts : List ℕ → List ℕ → Option (List Field) → Type 0
+HasParts bytes lengths None = ⊥
+HasParts bytes lengths (Some p) =
+    (flat_map step_bytes p ≡ bytes) × (map step_length p ≡ lengths) × (map (λ f. Name (step_bytes f)) p ≡ p)
+
+-- The bytes of the name at a position, which follow those of the names before it. `size l` is the number of bytes of a
+-- name whose length is given as `l`.
+abbrev pub name_at : (ℕ → ℕ) → List ℕ → List ℕ → ℕ → List ℕ
+name_at size bytes lengths i = take (size (get_or lengths i 0)) (drop (sum_by size (take i lengths)) bytes)
+
+-- one of the names isn't UTF-8
+abbrev pub HasNotUtf8 : (ℕ → ℕ) → List ℕ → List ℕ → Type 0
+HasNotUtf8 size bytes lengths = (i : ℕ) × (i < length lengths) × (IsUtf8 (name_at size bytes lengths i) → ⊥)
 
 -- the number of bytes of a step of a length: the greatest length stands for what has no name, and has no bytes
 abbrev pub step_size : ℕ → ℕ

@@ -2,7 +2,8 @@
 // SPDX-FileCopyrightText: Copyright the Vortex contributors
 
 // The console's answers.
-ghost use Rattle.vortex_logical_types.specs.Answers.{WritesSome};
+ghost use Rattle.std.specs.Prelude.{⊤};
+ghost use Rattle.vortex_logical_types.specs.Vocabulary.{Fills, either_of, gives_some, refuses, unless_memory};
 
 use crate::buffers::write_bytes;
 use crate::errors::{LIBRARY, NONE};
@@ -23,7 +24,7 @@ pub extern "C" fn vlt_answer(
     buffer: &mut [u8],
     length: &mut usize,
 ) -> u32
-    ensures { WritesSome result (buffer.old, length.old) (buffer.new, length.new) }
+    ensures fills { Fills (unless_memory (either_of (gives_some (λ text. ⊤)) (refuses 1))) result (buffer.old, length.old) (buffer.new, length.new) }
 {
     match Console::new(alloc).answer(line) {
         Ok(Answer::Text(text)) => write_bytes(text.as_bytes(), buffer, length),
@@ -34,7 +35,7 @@ pub extern "C" fn vlt_answer(
 
 // Writes the text of an error, which is the answer.
 fn write_error(alloc: Global, error: &ConsoleError, buffer: &mut [u8], length: &mut usize) -> u32
-    ensures { WritesSome result (buffer.old, length.old) (buffer.new, length.new) }
+    ensures { Fills (unless_memory (gives_some (λ text. ⊤))) result (buffer.old, length.old) (buffer.new, length.new) }
 {
     match error.to_string(alloc) {
         Ok(text) => write_bytes(text.as_bytes(), buffer, length),

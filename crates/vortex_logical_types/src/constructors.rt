@@ -2,70 +2,67 @@
 // SPDX-FileCopyrightText: Copyright the Vortex contributors
 
 // Types: constructors.
-ghost use Rattle.std.specs.Prelude.{◌≡◌, ◌⊎◌, ◌<◌};
-ghost use Rattle.std.specs.declared.option.Option.TheVariants.{Some};
-ghost use Rattle.c_objects.specs.declared.object.Object.{Object};
+ghost use Rattle.std.specs.Prelude.{◌≡◌, ◌+◌};
 ghost use Rattle.dtype_base.specs.Nullability.{nullability_of};
-ghost use Rattle.dtype_base.specs.Decimals.{IsDecimalWithin, greatest_precision};
 ghost use Rattle.dtype_base.specs.Errors.{Makes};
 ghost use Rattle.dtype_types.specs.tree.Tree as t;
 ghost use Rattle.dtype_types.specs.tree.TreeOf.{tree};
-ghost use Rattle.vortex_logical_types.specs.Answers.{Puts, PutsPrimitive, PutsThe, RefusesDecimal, ptype_numbered, type_in};
-ghost use Rattle.vortex_logical_types.specs.Levels.{UnlessDeep};
+ghost use Rattle.vortex_logical_types.specs.Levels.{levels};
+ghost use Rattle.vortex_logical_types.specs.Slots.{type_in};
+ghost use Rattle.vortex_logical_types.specs.Types.{makes_decimal, ptype_numbered};
+ghost use Rattle.vortex_logical_types.specs.Vocabulary.{Puts, gives, in_range, on, unless_deep, unless_memory};
 
 use crate::errors::{KIND, RANGE, TOO_DEEP, of_library};
 use crate::levels::{MAX_LEVELS, fits};
 use crate::objects::{put, put_made};
+use crate::views::as_dtype;
 use c_objects::{Object, Slot};
 use dtype_base::{DecimalDType, Nullability, PType, VortexResult};
 use dtype_types::DType;
 use std::alloc::Global;
 
-/// Stores the type in the slot.
-pub fn put_new(alloc: Global, out: &mut Slot, dtype: DType) -> u32
-    ensures { PutsThe (Some (tree dtype)) result out.old.value out.new.value }
-{
-    put(alloc, out, Object::DType(dtype))
-}
-
 /// Stores in `out` the null type.
 #[unsafe(no_mangle)]
 pub extern "C" fn vlt_dtype_null(alloc: Global, out: &mut Slot) -> u32
-    ensures { PutsThe (Some (t.null)) result out.old.value out.new.value }
+    ensures { Puts type_in (unless_memory (gives t.null)) result out.old.value out.new.value }
 {
-    put_new(alloc, out, DType::Null)
+    put(alloc, out, Object::DType(DType::Null))
 }
 
 /// Stores in `out` the type of booleans. The type is nullable if `nullable` is true.
 #[unsafe(no_mangle)]
 pub extern "C" fn vlt_dtype_bool(alloc: Global, nullable: bool, out: &mut Slot) -> u32
-    ensures { PutsThe (Some (t.bool (nullability_of nullable))) result out.old.value out.new.value }
+    ensures { Puts type_in (unless_memory (gives (t.bool (nullability_of nullable)))) result out.old.value out.new.value }
 {
-    put_new(alloc, out, DType::Bool(Nullability::from(nullable)))
+    let dtype = DType::Bool(Nullability::from(nullable));
+    put(alloc, out, Object::DType(dtype))
 }
 
 /// Stores in `out` the type of texts. The type is nullable if `nullable` is true.
 #[unsafe(no_mangle)]
 pub extern "C" fn vlt_dtype_utf8(alloc: Global, nullable: bool, out: &mut Slot) -> u32
-    ensures { PutsThe (Some (t.utf8 (nullability_of nullable))) result out.old.value out.new.value }
+    ensures { Puts type_in (unless_memory (gives (t.utf8 (nullability_of nullable)))) result out.old.value out.new.value }
 {
-    put_new(alloc, out, DType::Utf8(Nullability::from(nullable)))
+    let dtype = DType::Utf8(Nullability::from(nullable));
+    put(alloc, out, Object::DType(dtype))
 }
 
 /// Stores in `out` the type of byte strings. The type is nullable if `nullable` is true.
 #[unsafe(no_mangle)]
 pub extern "C" fn vlt_dtype_binary(alloc: Global, nullable: bool, out: &mut Slot) -> u32
-    ensures { PutsThe (Some (t.binary (nullability_of nullable))) result out.old.value out.new.value }
+    ensures { Puts type_in (unless_memory (gives (t.binary (nullability_of nullable)))) result out.old.value out.new.value }
 {
-    put_new(alloc, out, DType::Binary(Nullability::from(nullable)))
+    let dtype = DType::Binary(Nullability::from(nullable));
+    put(alloc, out, Object::DType(dtype))
 }
 
 /// Stores in `out` the variant type. Its values each carry their own type. The type is nullable if `nullable` is true.
 #[unsafe(no_mangle)]
 pub extern "C" fn vlt_dtype_variant(alloc: Global, nullable: bool, out: &mut Slot) -> u32
-    ensures { PutsThe (Some (t.variant (nullability_of nullable))) result out.old.value out.new.value }
+    ensures { Puts type_in (unless_memory (gives (t.variant (nullability_of nullable)))) result out.old.value out.new.value }
 {
-    put_new(alloc, out, DType::Variant(Nullability::from(nullable)))
+    let dtype = DType::Variant(Nullability::from(nullable));
+    put(alloc, out, Object::DType(dtype))
 }
 
 /// Stores in `out` a primitive type. The number is 0 for u8, 1 for u16, 2 for u32, 3 for u64, 4 for i8, 5 for i16, 6
@@ -78,16 +75,13 @@ pub extern "C" fn vlt_dtype_primitive(
     nullable: bool,
     out: &mut Slot,
 ) -> u32
-    ensures { PutsPrimitive (ptype_numbered number) (nullability_of nullable) result out.old.value out.new.value }
+    ensures { Puts type_in (in_range (ptype_numbered number) (λ p. unless_memory (gives (t.primitive p (nullability_of nullable))))) result out.old.value out.new.value }
 {
-    match ptype_of_number(number) {
-        Some(ptype) => put_new(
-            alloc,
-            out,
-            DType::Primitive(ptype, Nullability::from(nullable)),
-        ),
-        None => RANGE,
-    }
+    let Some(ptype) = ptype_of_number(number) else {
+        return RANGE;
+    };
+    let dtype = DType::Primitive(ptype, Nullability::from(nullable));
+    put(alloc, out, Object::DType(dtype))
 }
 
 fn ptype_of_number(number: u32) -> Option<PType>
@@ -121,17 +115,13 @@ pub extern "C" fn vlt_dtype_decimal(
     nullable: bool,
     out: &mut Slot,
 ) -> u32
-    ensures accepted { IsDecimalWithin greatest_precision precision scale → PutsThe (Some (t.decimal (record { precision = precision; scale = scale }) (nullability_of nullable))) result out.old.value out.new.value }
-    ensures unchanged { (result ≡ 0) ⊎ (out.new.value ≡ out.old.value) }
-    ensures refused { result ≡ 0 → IsDecimalWithin greatest_precision precision scale }
-    ensures codes { ((result ≡ 0) ⊎ (result ≡ 100)) ⊎ RefusesDecimal precision scale result }
+    ensures { Puts type_in (unless_memory (makes_decimal precision scale (nullability_of nullable))) result out.old.value out.new.value }
 {
     match DecimalDType::try_new(precision, scale) {
-        Ok(decimal) => put_new(
-            alloc,
-            out,
-            DType::Decimal(decimal, Nullability::from(nullable)),
-        ),
+        Ok(decimal) => {
+            let dtype = DType::Decimal(decimal, Nullability::from(nullable));
+            put(alloc, out, Object::DType(dtype))
+        }
         Err(error) => of_library(error),
     }
 }
@@ -145,31 +135,17 @@ pub extern "C" fn vlt_dtype_list(
     nullable: bool,
     out: &mut Slot,
 ) -> u32
-    ensures puts { UnlessDeep (type_in element.old.value) result (out.new.value ≡ out.old.value) (Puts (type_in element.old.value) (λ e. Some (t.list e (nullability_of nullable))) result out.old.value out.new.value) }
+    ensures puts { Puts type_in (on (type_in element.old.value) (λ e. unless_deep (1 + levels e) (unless_memory (gives (t.list e (nullability_of nullable)))))) result out.old.value out.new.value }
     ensures kept { element.new.value ≡ element.old.value }
 {
-    let Some(object) = element.take(alloc) else {
+    let Some(element) = as_dtype(element) else {
         return KIND;
     };
-    let answer = match &*object {
-        Object::DType(element) => list(alloc, element, nullable, out),
-        _ => KIND,
-    };
-    element.put(object);
-    answer
-}
-
-fn list(alloc: Global, element: &DType, nullable: bool, out: &mut Slot) -> u32
-    ensures { UnlessDeep (Some (tree element.now)) result (out.new.value ≡ out.old.value) (PutsThe (Some (t.list (tree element.now) (nullability_of nullable))) result out.old.value out.new.value) }
-{
     if !fits(element, MAX_LEVELS - 1) {
         return TOO_DEEP;
     }
-    put_made(
-        alloc,
-        out,
-        list_of(alloc, element, Nullability::from(nullable)),
-    )
+    let made = list_of(alloc, element, Nullability::from(nullable));
+    put_made(alloc, out, made)
 }
 
 fn list_of(alloc: Global, element: &DType, n: Nullability) -> VortexResult<DType>
@@ -189,31 +165,17 @@ pub extern "C" fn vlt_dtype_fixed_size_list(
     nullable: bool,
     out: &mut Slot,
 ) -> u32
-    ensures puts { UnlessDeep (type_in element.old.value) result (out.new.value ≡ out.old.value) (Puts (type_in element.old.value) (λ e. Some (t.fixed_size_list e size (nullability_of nullable))) result out.old.value out.new.value) }
+    ensures puts { Puts type_in (on (type_in element.old.value) (λ e. unless_deep (1 + levels e) (unless_memory (gives (t.fixed_size_list e size (nullability_of nullable)))))) result out.old.value out.new.value }
     ensures kept { element.new.value ≡ element.old.value }
 {
-    let Some(object) = element.take(alloc) else {
+    let Some(element) = as_dtype(element) else {
         return KIND;
     };
-    let answer = match &*object {
-        Object::DType(element) => fixed_size_list(alloc, element, size, nullable, out),
-        _ => KIND,
-    };
-    element.put(object);
-    answer
-}
-
-fn fixed_size_list(alloc: Global, element: &DType, size: u32, nullable: bool, out: &mut Slot) -> u32
-    ensures { UnlessDeep (Some (tree element.now)) result (out.new.value ≡ out.old.value) (PutsThe (Some (t.fixed_size_list (tree element.now) size (nullability_of nullable))) result out.old.value out.new.value) }
-{
     if !fits(element, MAX_LEVELS - 1) {
         return TOO_DEEP;
     }
-    put_made(
-        alloc,
-        out,
-        fixed_size_list_of(alloc, element, size, Nullability::from(nullable)),
-    )
+    let made = fixed_size_list_of(alloc, element, size, Nullability::from(nullable));
+    put_made(alloc, out, made)
 }
 
 fn fixed_size_list_of(

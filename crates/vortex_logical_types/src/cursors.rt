@@ -3,16 +3,18 @@
 
 // Which paths of a set continue after a path.
 ghost use Rattle.std.specs.Prelude.{◌≡◌, ◌∷◌, ℕ, List, [], map};
-ghost use Rattle.std.specs.FinSet as set;
-ghost use Rattle.std.specs.declared.option.Option.TheVariants.{Some};
+ghost use Rattle.std.specs.FinSet as finset;
 ghost use Rattle.dtype_base.specs.Errors.{Makes};
 ghost use Rattle.dtype_paths.specs.Cursors.{contains_below, contains_below_if};
 ghost use Rattle.dtype_paths.specs.PathPredicates.{AreNames, PathPredicate, after_steps};
 ghost use Rattle.dtype_paths.specs.declared.field.Field.TheVariants.{Name};
-ghost use Rattle.vortex_logical_types.specs.Objects.{BelowOf, NamesBelowOf, PutsNames, TellsBelow, path_in, set_in};
+ghost use Rattle.vortex_logical_types.specs.Paths.{describes_below, lists_names};
+ghost use Rattle.vortex_logical_types.specs.Slots.{path_in, paths_in, set_in};
+ghost use Rattle.vortex_logical_types.specs.Vocabulary.{Puts, Writes, on_both, unless_memory};
 
 use crate::errors::{KIND, NONE, OK, of_library};
 use crate::objects::put;
+use crate::views::{as_path, as_set};
 use c_objects::{Object, Slot};
 use dtype_base::VortexResult;
 use dtype_paths::{Field, FieldPath, FieldPathCursor, FieldPathSet};
@@ -21,7 +23,7 @@ use std::alloc::Global;
 // Returns the cursor of the set at the path, or `None` if no path of the set begins with the path.
 #[tactic(auto, using(std::proofs::lemmas::Grind::common_steps, crate::proofs::Below::below_none))]
 fn cursor_at<'a>(paths: &'a FieldPathSet, path: &FieldPath) -> Option<FieldPathCursor<'a>>
-    ensures { contains_below_if result ≡ after_steps path.now (set.contains paths.now) }
+    ensures { contains_below_if result ≡ after_steps path.now (finset.contains paths.now) }
 {
     let mut here = paths.cursor();
     for step in path.parts() {
@@ -36,46 +38,19 @@ fn cursor_at<'a>(paths: &'a FieldPathSet, path: &FieldPath) -> Option<FieldPathC
 /// `a` the call writes true, false and 2. Returns 1 if no path of the set begins with the path.
 #[unsafe(no_mangle)]
 pub extern "C" fn vlt_set_below(
-    alloc: Global,
     paths: &mut Slot,
     path: &mut Slot,
     is_end: &mut bool,
     has_element: &mut bool,
     name_count: &mut usize,
 ) -> u32
-    ensures answer { BelowOf (set_in paths.old.value) (path_in path.old.value) result (is_end.old, has_element.old, name_count.old) (is_end.new, has_element.new, name_count.new) }
+    ensures writes { Writes (on_both (set_in paths.old.value) (path_in path.old.value) (λ s p. describes_below (after_steps p (finset.contains s)))) result (is_end.old, has_element.old, name_count.old) (is_end.new, has_element.new, name_count.new) }
     ensures kept { (paths.new.value ≡ paths.old.value) × (path.new.value ≡ path.old.value) }
 {
-    let Some(object) = paths.take(alloc) else {
+    let (Some(paths), Some(path)) = (as_set(paths), as_path(path)) else {
         return KIND;
     };
-    let answer = below_of(alloc, &object, path, is_end, has_element, name_count);
-    paths.put(object);
-    answer
-}
-
-fn below_of(
-    alloc: Global,
-    paths: &Object,
-    path: &mut Slot,
-    is_end: &mut bool,
-    has_element: &mut bool,
-    name_count: &mut usize,
-) -> u32
-    ensures answer { BelowOf (set_in (Some paths.now)) (path_in path.old.value) result (is_end.old, has_element.old, name_count.old) (is_end.new, has_element.new, name_count.new) }
-    ensures kept { path.new.value ≡ path.old.value }
-{
-    let Some(object) = path.take(alloc) else {
-        return KIND;
-    };
-    let answer = match (paths, &*object) {
-        (Object::Set(paths), Object::Path(path)) => {
-            below(paths, path, is_end, has_element, name_count)
-        }
-        _ => KIND,
-    };
-    path.put(object);
-    answer
+    below(paths, path, is_end, has_element, name_count)
 }
 
 fn below(
@@ -85,7 +60,7 @@ fn below(
     has_element: &mut bool,
     name_count: &mut usize,
 ) -> u32
-    ensures { TellsBelow (after_steps path.now (set.contains paths.now)) result (is_end.old, has_element.old, name_count.old) (is_end.new, has_element.new, name_count.new) }
+    ensures { Writes (describes_below (after_steps path.now (finset.contains paths.now))) result (is_end.old, has_element.old, name_count.old) (is_end.new, has_element.new, name_count.new) }
 {
     let Some(cursor) = cursor_at(paths, path) else {
         return NONE;
@@ -109,34 +84,17 @@ pub extern "C" fn vlt_set_names_below(
     path: &mut Slot,
     out: &mut Slot,
 ) -> u32
-    ensures names { NamesBelowOf (set_in paths.old.value) (path_in path.old.value) result out.old.value out.new.value }
+    ensures puts { Puts paths_in (on_both (set_in paths.old.value) (path_in path.old.value) (λ s p. unless_memory (lists_names (after_steps p (finset.contains s))))) result out.old.value out.new.value }
     ensures kept { (paths.new.value ≡ paths.old.value) × (path.new.value ≡ path.old.value) }
 {
-    let Some(object) = paths.take(alloc) else {
+    let (Some(paths), Some(path)) = (as_set(paths), as_path(path)) else {
         return KIND;
     };
-    let answer = names_of(alloc, &object, path, out);
-    paths.put(object);
-    answer
-}
-
-fn names_of(alloc: Global, paths: &Object, path: &mut Slot, out: &mut Slot) -> u32
-    ensures names { NamesBelowOf (set_in (Some paths.now)) (path_in path.old.value) result out.old.value out.new.value }
-    ensures kept { path.new.value ≡ path.old.value }
-{
-    let Some(object) = path.take(alloc) else {
-        return KIND;
-    };
-    let answer = match (paths, &*object) {
-        (Object::Set(paths), Object::Path(path)) => names(alloc, paths, path, out),
-        _ => KIND,
-    };
-    path.put(object);
-    answer
+    names(alloc, paths, path, out)
 }
 
 fn names(alloc: Global, paths: &FieldPathSet, path: &FieldPath, out: &mut Slot) -> u32
-    ensures { PutsNames (after_steps path.now (set.contains paths.now)) result out.old.value out.new.value }
+    ensures { Puts paths_in (unless_memory (lists_names (after_steps path.now (finset.contains paths.now)))) result out.old.value out.new.value }
 {
     let Some(cursor) = cursor_at(paths, path) else {
         return NONE;

@@ -2,8 +2,9 @@
 // SPDX-FileCopyrightText: Copyright the Vortex contributors
 
 // What an export returns: 0 to 9 as below, or 100 and the number of the library's error.
-ghost use Rattle.std.specs.Prelude.{◌≡◌, ◌≤◌, ◌⊎◌, ◌+◌};
+ghost use Rattle.std.specs.Prelude.{◌≡◌, ◌≤◌, ◌<◌, ◌⊎◌, ◌+◌, ◌^◌};
 ghost use Rattle.dtype_base.specs.Errors.{number_of};
+ghost use Rattle.vortex_logical_types.specs.Answers.{IsCode};
 
 use console_core::ConsoleError;
 use dtype_base::VortexError;
@@ -60,5 +61,36 @@ fn unreadable(at: usize, position: &mut usize) -> u32
     ensures { result ≡ 4 }
 {
     *position = at;
+    UNREADABLE
+}
+
+/// The greatest number of an error of the library.
+const LAST: u8 = 36;
+
+/// Returns the number that an export returns for this error of the reader of the console. If a text of this length can't
+/// be read, the number is 4, and the position of the byte at which reading failed, counted from 1, is written to
+/// `position`. It is one more than the length at the end of the text.
+pub fn of_reader(error: &ConsoleError, length: usize, position: &mut usize) -> u32
+    requires { length + 1 < 2 ^ 64 }
+    ensures code { (4 ≤ result) × IsCode result }
+    ensures position { ((result ≡ 4) × (1 ≤ position.new) × (position.new ≤ length + 1)) ⊎ (position.new ≡ position.old) }
+{
+    match error {
+        ConsoleError::Library { number, .. } => LIBRARY + u32::from((*number).min(LAST)),
+        ConsoleError::Column { number, .. } => LIBRARY + u32::from((*number).min(LAST)),
+        ConsoleError::Unreadable { position: at, .. } => unreadable_in(*at, length, position),
+        ConsoleError::Misread { position: at, .. } => unreadable_in(*at, length, position),
+        ConsoleError::UnknownWord { position: at, .. } => unreadable_in(*at, length, position),
+        ConsoleError::Condition(_) => CONDITION,
+        ConsoleError::UnknownName(_) => CONDITION,
+    }
+}
+
+fn unreadable_in(at: usize, length: usize, position: &mut usize) -> u32
+    requires { length + 1 < 2 ^ 64 }
+    ensures code { result ≡ 4 }
+    ensures position { (1 ≤ position.new) × (position.new ≤ length + 1) }
+{
+    *position = at.clamp(1, length + 1);
     UNREADABLE
 }

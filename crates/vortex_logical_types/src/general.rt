@@ -4,7 +4,7 @@
 // What is the same for all objects.
 ghost use Rattle.std.specs.Prelude.{◌≡◌};
 ghost use Rattle.std.specs.declared.option.Option.TheVariants.{None};
-ghost use Rattle.vortex_logical_types.specs.Answers.{object_kind};
+ghost use Rattle.vortex_logical_types.specs.Slots.{object_kind};
 
 use crate::errors::OK;
 use c_objects::{Object, Slot};
@@ -31,21 +31,19 @@ pub extern "C" fn vlt_free(alloc: Global, slot: &mut Slot)
 /// Returns the kind of the object in the slot: 0 if the slot is empty, 1 for a type, 2 for a path, 3 for a set of
 /// paths, 4 for a list of paths, 5 for a mask, and 6 for the message of a type.
 #[unsafe(no_mangle)]
-pub extern "C" fn vlt_kind(alloc: Global, slot: &mut Slot) -> u32
+pub extern "C" fn vlt_kind(slot: &mut Slot) -> u32
     ensures kind { result ≡ object_kind slot.old.value }
     ensures kept { slot.new.value ≡ slot.old.value }
 {
-    let Some(object) = slot.take(alloc) else {
+    let Some(object) = slot.get() else {
         return OK;
     };
-    let kind = match &*object {
+    match object {
         Object::DType(_) => 1,
         Object::Path(_) => 2,
         Object::Set(_) => 3,
         Object::Paths(_) => 4,
         Object::Mask(_) => 5,
         Object::Message(_) => 6,
-    };
-    slot.put(object);
-    kind
+    }
 }

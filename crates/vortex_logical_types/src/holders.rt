@@ -2,18 +2,21 @@
 // SPDX-FileCopyrightText: Copyright the Vortex contributors
 
 // Types: constructors of what has several names and types.
-ghost use Rattle.std.specs.Prelude.{◌≡◌, ◌≤◌, MatchResult, Some, map};
+ghost use Rattle.std.specs.Prelude.{◌≡◌, ◌≤◌, IsUtf8, MatchResult, Some, map};
+ghost use Rattle.std.specs.List.{AllByRecursion};
 ghost use Rattle.dtype_base.specs.Nullability.{nullability_of};
 ghost use Rattle.dtype_types.specs.tree.TreeOf.{tree};
-ghost use Rattle.vortex_logical_types.specs.Answers.{type_in};
-ghost use Rattle.vortex_logical_types.specs.Several.{PutsConsecutive, PutsMadeOf, PutsStruct, PutsUnion, RefusesParts, each_in, names_cut, objects_in};
 ghost use Rattle.vortex_logical_types.specs.Levels.{levels_over};
+ghost use Rattle.vortex_logical_types.specs.Several.{RefusesParts, each_in, names_cut, objects_in, with_names};
+ghost use Rattle.vortex_logical_types.specs.Slots.{type_in};
+ghost use Rattle.vortex_logical_types.specs.Types.{makes_consecutive, makes_struct, makes_union};
+ghost use Rattle.vortex_logical_types.specs.Vocabulary.{Puts, on, unless_deep, unless_memory};
 
-use crate::constructors::put_new;
 use crate::errors::{LIBRARY, RANGE, TOO_DEEP, of_library};
 use crate::levels::{MAX_LEVELS, all_fit};
 use crate::names::{names_of, types_of};
-use c_objects::Slot;
+use crate::objects::put;
+use c_objects::{Object, Slot};
 use dtype_base::{FieldNames, Nullability};
 use dtype_types::{DType, StructFields, UnionVariants};
 use std::alloc::Global;
@@ -35,7 +38,7 @@ pub extern "C" fn vlt_dtype_struct(
     nullable: bool,
     out: &mut Slot,
 ) -> u32
-    ensures made { PutsMadeOf names.now name_lengths.now (each_in type_in (objects_in dtypes.old)) (PutsStruct (nullability_of nullable)) result out.old.value out.new.value }
+    ensures puts { Puts type_in (unless_memory (with_names names.now name_lengths.now (λ ns. on (each_in type_in (objects_in dtypes.old)) (λ ts. unless_deep (levels_over ts) (makes_struct (nullability_of nullable) ns ts))))) result out.old.value out.new.value }
     ensures kept { objects_in dtypes.new ≡ objects_in dtypes.old }
 {
     match parts_of(alloc, names, name_lengths, dtypes) {
@@ -52,13 +55,13 @@ fn put_struct(
     n: Nullability,
     out: &mut Slot,
 ) -> u32
-    ensures { PutsStruct n names (map tree dtypes.items) result out.old.value out.new.value }
+    ensures { Puts type_in (unless_memory (makes_struct n names (map tree dtypes.items))) result out.old.value out.new.value }
 {
     if names.len() != dtypes.len() {
         return RANGE;
     }
     match StructFields::new(alloc, names, dtypes) {
-        Ok(fields) => put_new(alloc, out, DType::Struct(fields, n)),
+        Ok(fields) => put(alloc, out, Object::DType(DType::Struct(fields, n))),
         Err(_) => LIBRARY,
     }
 }
@@ -80,7 +83,7 @@ pub extern "C" fn vlt_dtype_union(
     nullable: bool,
     out: &mut Slot,
 ) -> u32
-    ensures made { PutsMadeOf names.now name_lengths.now (each_in type_in (objects_in dtypes.old)) (PutsUnion tags.now (nullability_of nullable)) result out.old.value out.new.value }
+    ensures puts { Puts type_in (unless_memory (with_names names.now name_lengths.now (λ ns. on (each_in type_in (objects_in dtypes.old)) (λ ts. unless_deep (levels_over ts) (makes_union tags.now (nullability_of nullable) ns ts))))) result out.old.value out.new.value }
     ensures kept { objects_in dtypes.new ≡ objects_in dtypes.old }
 {
     match parts_of(alloc, names, name_lengths, dtypes) {
@@ -99,7 +102,7 @@ fn put_union(
     n: Nullability,
     out: &mut Slot,
 ) -> u32
-    ensures { PutsUnion tags.now n names (map tree dtypes.items) result out.old.value out.new.value }
+    ensures { Puts type_in (unless_memory (makes_union tags.now n names (map tree dtypes.items))) result out.old.value out.new.value }
 {
     match Vec::from_slice(alloc, tags) {
         Ok(type_ids) => put_variants(alloc, names, dtypes, type_ids, n, out),
@@ -116,10 +119,10 @@ fn put_variants(
     n: Nullability,
     out: &mut Slot,
 ) -> u32
-    ensures { PutsUnion type_ids.items n names (map tree dtypes.items) result out.old.value out.new.value }
+    ensures { Puts type_in (unless_memory (makes_union type_ids.items n names (map tree dtypes.items))) result out.old.value out.new.value }
 {
     match UnionVariants::try_new(alloc, names, dtypes, type_ids) {
-        Ok(variants) => put_new(alloc, out, DType::Union(variants, n)),
+        Ok(variants) => put(alloc, out, Object::DType(DType::Union(variants, n))),
         Err(error) => of_library(error),
     }
 }
@@ -140,7 +143,7 @@ pub extern "C" fn vlt_dtype_union_consecutive(
     nullable: bool,
     out: &mut Slot,
 ) -> u32
-    ensures made { PutsMadeOf names.now name_lengths.now (each_in type_in (objects_in dtypes.old)) (PutsConsecutive (nullability_of nullable)) result out.old.value out.new.value }
+    ensures puts { Puts type_in (unless_memory (with_names names.now name_lengths.now (λ ns. on (each_in type_in (objects_in dtypes.old)) (λ ts. unless_deep (levels_over ts) (makes_consecutive (nullability_of nullable) ns ts))))) result out.old.value out.new.value }
     ensures kept { objects_in dtypes.new ≡ objects_in dtypes.old }
 {
     match parts_of(alloc, names, name_lengths, dtypes) {
@@ -159,10 +162,10 @@ fn put_consecutive(
     n: Nullability,
     out: &mut Slot,
 ) -> u32
-    ensures { PutsConsecutive n names (map tree dtypes.items) result out.old.value out.new.value }
+    ensures { Puts type_in (unless_memory (makes_consecutive n names (map tree dtypes.items))) result out.old.value out.new.value }
 {
     match UnionVariants::new(alloc, names, dtypes) {
-        Ok(variants) => put_new(alloc, out, DType::Union(variants, n)),
+        Ok(variants) => put(alloc, out, Object::DType(DType::Union(variants, n))),
         Err(error) => of_library(error),
     }
 }
@@ -175,7 +178,7 @@ fn parts_of(
     dtypes: &mut [Slot],
 ) -> Result<(FieldNames, Vec<DType>), u32>
     ensures parts { MatchResult result
-        (λ r. (names_cut names.now name_lengths.now ≡ Some r.0) × (each_in type_in (objects_in dtypes.old) ≡ Some (map tree r.1.items)) × (levels_over (map tree r.1.items) ≤ 128))
+        (λ r. (names_cut names.now name_lengths.now ≡ Some r.0) × AllByRecursion IsUtf8 r.0 × (each_in type_in (objects_in dtypes.old) ≡ Some (map tree r.1.items)) × (levels_over (map tree r.1.items) ≤ 128))
         (λ code. RefusesParts names.now name_lengths.now (each_in type_in (objects_in dtypes.old)) code) }
     ensures kept { objects_in dtypes.new ≡ objects_in dtypes.old }
 {

@@ -14,17 +14,18 @@
 //! 2 if a slot is empty or contains an object of another kind than the function takes, 7 if a buffer is too small, and
 //! 100 if an allocation fails.
 //!
-//! What is proved of an exported function is its contract (`specs/`). For 102 of the functions it determines what the
-//! slots of the function contain afterwards and which number is returned, except that a function which allocates may
-//! always return 100, and that the order of a list of paths is open. The others leave more open:
+//! What is proved of an exported function is its contract. It is written in the words of `specs/Vocabulary`, which say what
+//! the function does and where its result goes. For 106 of the functions it determines what the slots of the function
+//! contain afterwards and which number is returned, except that a function which allocates may always return 100, and that
+//! the order of a list of paths is open. The others leave more open:
 //!
 //! - The four functions that read a text don't specify which texts they accept, which number from 4 on they return for
 //!   the others, and how many levels a type or message has that was read.
 //! - The three functions that write a text in the form of the console, `vlt_answer` and `vlt_error_text` don't specify
-//!   which text they write, that its length fits into the buffer, and which number they return if they write nothing.
+//!   which text they write. `vlt_dtype_to_text` and `vlt_path_to_text` don't specify either that its length fits into the
+//!   buffer, and which number they return if they write nothing.
 //! - `vlt_message_from_nodes` and `vlt_message_to_nodes` don't specify in which cases they return 3, 9 or 100.
-//! - If `vlt_dtype_struct`, `vlt_dtype_union`, `vlt_dtype_union_consecutive`, `vlt_struct_project`, `vlt_path_from_steps`
-//!   or `vlt_path_from_message` find several faults, it isn't specified which of them they report.
+//! - If `vlt_path_from_steps` or `vlt_path_from_message` find several faults, it isn't specified which of them they report.
 //!
 //! No exported function requires anything of its caller, except what C must guarantee for the types of the parameters:
 //! valid pointers, distinct slots, and one thread at a time.
@@ -59,4 +60,5 @@ mod structs;
 mod texts;
 mod types;
 mod unions;
+mod views;
 mod wide;

@@ -3,24 +3,25 @@
 
 // Masks over paths.
 ghost use Rattle.std.specs.Prelude.{◌≡◌, [], List};
-ghost use Rattle.std.specs.declared.option.Option.TheVariants.{Some};
-ghost use Rattle.dtype_paths.specs.In.{In};
+ghost use Rattle.dtype_paths.specs.In.{In, mask_tail};
 ghost use Rattle.dtype_paths.specs.declared.field.Field.{Field};
 ghost use Rattle.dtype_paths.specs.declared.field_mask.FieldMask.TheVariants.{All, Exact, Prefix};
-ghost use Rattle.vortex_logical_types.specs.Answers.{Tells};
-ghost use Rattle.vortex_logical_types.specs.Objects.{Asks, AsksBoth, Gives, GivesOf, SteppedMask, StepsMask, WritesFirst, WritesFirstOf, WritesOf, mask_number, mask_in, mask_path, path_in};
+ghost use Rattle.vortex_logical_types.specs.Paths.{FillsStep, first_step, mask_number, mask_path, stepped};
+ghost use Rattle.vortex_logical_types.specs.Slots.{mask_in, path_in};
+ghost use Rattle.vortex_logical_types.specs.Vocabulary.{Answers, Puts, Writes, found, gives, on, on_both, tells, unless_memory};
 
 use crate::errors::{KIND, NONE, OK, of_library};
 use crate::objects::put;
 use crate::paths::{put_path, write_step};
+use crate::views::{as_mask, as_path};
 use c_objects::{Object, Slot};
-use dtype_paths::{FieldMask, FieldPath};
+use dtype_paths::FieldMask;
 use std::alloc::Global;
 
 /// Stores in `out` the mask that selects every path.
 #[unsafe(no_mangle)]
 pub extern "C" fn vlt_mask_all(alloc: Global, out: &mut Slot) -> u32
-    ensures { Gives mask_in (Some All) result out.old.value out.new.value }
+    ensures { Puts mask_in (unless_memory (gives All)) result out.old.value out.new.value }
 {
     put(alloc, out, Object::Mask(FieldMask::All))
 }
@@ -28,23 +29,12 @@ pub extern "C" fn vlt_mask_all(alloc: Global, out: &mut Slot) -> u32
 /// Stores in `out` the mask that selects the path and every path that begins with it.
 #[unsafe(no_mangle)]
 pub extern "C" fn vlt_mask_prefix(alloc: Global, path: &mut Slot, out: &mut Slot) -> u32
-    ensures made { GivesOf (path_in path.old.value) mask_in (λ p. Some (Prefix p)) result out.old.value out.new.value }
+    ensures puts { Puts mask_in (on (path_in path.old.value) (λ p. unless_memory (gives (Prefix p)))) result out.old.value out.new.value }
     ensures kept { path.new.value ≡ path.old.value }
 {
-    let Some(object) = path.take(alloc) else {
+    let Some(path) = as_path(path) else {
         return KIND;
     };
-    let answer = match &*object {
-        Object::Path(path) => prefix(alloc, path, out),
-        _ => KIND,
-    };
-    path.put(object);
-    answer
-}
-
-fn prefix(alloc: Global, path: &FieldPath, out: &mut Slot) -> u32
-    ensures { Gives mask_in (Some (Prefix path.now)) result out.old.value out.new.value }
-{
     match path.try_clone() {
         Ok(path) => put(alloc, out, Object::Mask(FieldMask::Prefix(path))),
         Err(error) => of_library(error),
@@ -54,23 +44,12 @@ fn prefix(alloc: Global, path: &FieldPath, out: &mut Slot) -> u32
 /// Stores in `out` the mask that selects only the path.
 #[unsafe(no_mangle)]
 pub extern "C" fn vlt_mask_exact(alloc: Global, path: &mut Slot, out: &mut Slot) -> u32
-    ensures made { GivesOf (path_in path.old.value) mask_in (λ p. Some (Exact p)) result out.old.value out.new.value }
+    ensures puts { Puts mask_in (on (path_in path.old.value) (λ p. unless_memory (gives (Exact p)))) result out.old.value out.new.value }
     ensures kept { path.new.value ≡ path.old.value }
 {
-    let Some(object) = path.take(alloc) else {
+    let Some(path) = as_path(path) else {
         return KIND;
     };
-    let answer = match &*object {
-        Object::Path(path) => exact(alloc, path, out),
-        _ => KIND,
-    };
-    path.put(object);
-    answer
-}
-
-fn exact(alloc: Global, path: &FieldPath, out: &mut Slot) -> u32
-    ensures { Gives mask_in (Some (Exact path.now)) result out.old.value out.new.value }
-{
     match path.try_clone() {
         Ok(path) => put(alloc, out, Object::Mask(FieldMask::Exact(path))),
         Err(error) => of_library(error),
@@ -81,52 +60,36 @@ fn exact(alloc: Global, path: &FieldPath, out: &mut Slot) -> u32
 /// `vlt_mask_prefix`, which selects a path and every path that begins with it; and 2 for a mask of `vlt_mask_exact`,
 /// which selects only one path.
 #[unsafe(no_mangle)]
-pub extern "C" fn vlt_mask_kind(alloc: Global, mask: &mut Slot, kind: &mut u32) -> u32
-    ensures kind { WritesOf (mask_in mask.old.value) mask_number result kind.old kind.new }
+pub extern "C" fn vlt_mask_kind(mask: &mut Slot, kind: &mut u32) -> u32
+    ensures writes { Writes (on (mask_in mask.old.value) (λ m. gives (mask_number m))) result kind.old kind.new }
     ensures kept { mask.new.value ≡ mask.old.value }
 {
-    let Some(object) = mask.take(alloc) else {
+    let Some(mask) = as_mask(mask) else {
         return KIND;
     };
-    let answer = match &*object {
-        Object::Mask(mask) => kind_of(mask, kind),
-        _ => KIND,
-    };
-    mask.put(object);
-    answer
+    *kind = number_of(mask);
+    OK
 }
 
-fn kind_of(mask: &FieldMask, kind: &mut u32) -> u32
-    ensures { (result ≡ 0) × (kind.new ≡ mask_number mask.now) }
+fn number_of(mask: &FieldMask) -> u32
+    ensures { result ≡ mask_number mask.now }
 {
-    *kind = match mask {
+    match mask {
         FieldMask::All => 0,
         FieldMask::Prefix(_) => 1,
         FieldMask::Exact(_) => 2,
-    };
-    OK
+    }
 }
 
 /// Stores in `out` the path of the mask. Returns 1 if the mask is the one of `vlt_mask_all`, which has no path.
 #[unsafe(no_mangle)]
 pub extern "C" fn vlt_mask_path(alloc: Global, mask: &mut Slot, out: &mut Slot) -> u32
-    ensures made { GivesOf (mask_in mask.old.value) path_in mask_path result out.old.value out.new.value }
+    ensures puts { Puts path_in (on (mask_in mask.old.value) (λ m. found (mask_path m) (λ p. unless_memory (gives p)))) result out.old.value out.new.value }
     ensures kept { mask.new.value ≡ mask.old.value }
 {
-    let Some(object) = mask.take(alloc) else {
+    let Some(mask) = as_mask(mask) else {
         return KIND;
     };
-    let answer = match &*object {
-        Object::Mask(mask) => path_of(alloc, mask, out),
-        _ => KIND,
-    };
-    mask.put(object);
-    answer
-}
-
-fn path_of(alloc: Global, mask: &FieldMask, out: &mut Slot) -> u32
-    ensures { Gives path_in (mask_path mask.now) result out.old.value out.new.value }
-{
     match mask {
         FieldMask::All => NONE,
         FieldMask::Prefix(path) | FieldMask::Exact(path) => put_path(alloc, out, path.try_clone()),
@@ -136,23 +99,12 @@ fn path_of(alloc: Global, mask: &FieldMask, out: &mut Slot) -> u32
 /// Stores in `out` a copy of the mask.
 #[unsafe(no_mangle)]
 pub extern "C" fn vlt_mask_copy(alloc: Global, mask: &mut Slot, out: &mut Slot) -> u32
-    ensures made { GivesOf (mask_in mask.old.value) mask_in Some result out.old.value out.new.value }
+    ensures puts { Puts mask_in (on (mask_in mask.old.value) (λ m. unless_memory (gives m))) result out.old.value out.new.value }
     ensures kept { mask.new.value ≡ mask.old.value }
 {
-    let Some(object) = mask.take(alloc) else {
+    let Some(mask) = as_mask(mask) else {
         return KIND;
     };
-    let answer = match &*object {
-        Object::Mask(mask) => copy(alloc, mask, out),
-        _ => KIND,
-    };
-    mask.put(object);
-    answer
-}
-
-fn copy(alloc: Global, mask: &FieldMask, out: &mut Slot) -> u32
-    ensures { Gives mask_in (Some mask.now) result out.old.value out.new.value }
-{
     match mask.try_clone(alloc) {
         Ok(copied) => put(alloc, out, Object::Mask(copied)),
         Err(error) => of_library(error),
@@ -164,23 +116,12 @@ fn copy(alloc: Global, mask: &FieldMask, out: &mut Slot) -> u32
 /// selects only the root.
 #[unsafe(no_mangle)]
 pub extern "C" fn vlt_mask_step_into(alloc: Global, mask: &mut Slot, out: &mut Slot) -> u32
-    ensures made { StepsMask (mask_in mask.old.value) result out.old.value out.new.value }
+    ensures puts { Puts mask_in (on (mask_in mask.old.value) (λ m. unless_memory (stepped (mask_tail m)))) result out.old.value out.new.value }
     ensures kept { mask.new.value ≡ mask.old.value }
 {
-    let Some(object) = mask.take(alloc) else {
+    let Some(mask) = as_mask(mask) else {
         return KIND;
     };
-    let answer = match &*object {
-        Object::Mask(mask) => step_into(alloc, mask, out),
-        _ => KIND,
-    };
-    mask.put(object);
-    answer
-}
-
-fn step_into(alloc: Global, mask: &FieldMask, out: &mut Slot) -> u32
-    ensures { SteppedMask mask.now result out.old.value out.new.value }
-{
     match mask.try_clone(alloc) {
         Ok(copied) => put_stepped(alloc, copied, out),
         Err(error) => of_library(error),
@@ -188,7 +129,7 @@ fn step_into(alloc: Global, mask: &FieldMask, out: &mut Slot) -> u32
 }
 
 fn put_stepped(alloc: Global, mask: FieldMask, out: &mut Slot) -> u32
-    ensures { SteppedMask mask result out.old.value out.new.value }
+    ensures { Puts mask_in (unless_memory (stepped (mask_tail mask))) result out.old.value out.new.value }
 {
     match mask.step_into() {
         Ok(stepped) => put(alloc, out, Object::Mask(stepped)),
@@ -200,28 +141,22 @@ fn put_stepped(alloc: Global, mask: FieldMask, out: &mut Slot) -> u32
 /// path is the root, and 121 if the mask is the one of `vlt_mask_all`, which has no path.
 #[unsafe(no_mangle)]
 pub extern "C" fn vlt_mask_starting_field(
-    alloc: Global,
     mask: &mut Slot,
     buffer: &mut [u8],
     length: &mut usize,
 ) -> u32
-    ensures writes { WritesFirstOf (mask_in mask.old.value) result (buffer.old, length.old) (buffer.new, length.new) }
+    ensures fills { FillsStep (on (mask_in mask.old.value) first_step) result (buffer.old, length.old) (buffer.new, length.new) }
     ensures kept { mask.new.value ≡ mask.old.value }
 {
-    let Some(object) = mask.take(alloc) else {
+    let Some(mask) = as_mask(mask) else {
         return KIND;
     };
-    let answer = match &*object {
-        Object::Mask(mask) => starting_field(mask, buffer, length),
-        _ => KIND,
-    };
-    mask.put(object);
-    answer
+    starting_field(mask, buffer, length)
 }
 
-#[tactic(auto, using(crate::proofs::FirstSteps::written_of_all, crate::proofs::FirstSteps::written_of_path))]
+#[tactic(auto, using(crate::proofs::FirstSteps::written_of_all, crate::proofs::FirstSteps::written_of_step, crate::proofs::FirstSteps::written_of_root))]
 fn starting_field(mask: &FieldMask, buffer: &mut [u8], length: &mut usize) -> u32
-    ensures { WritesFirst mask.now result (buffer.old, length.old) (buffer.new, length.new) }
+    ensures { FillsStep (first_step mask.now) result (buffer.old, length.old) (buffer.new, length.new) }
 {
     match mask.starting_field() {
         Ok(Some(step)) => write_step(step, buffer, length),
@@ -232,81 +167,42 @@ fn starting_field(mask: &FieldMask, buffer: &mut [u8], length: &mut usize) -> u3
 
 /// Returns 0 if the mask selects every path, and 1 if it doesn't.
 #[unsafe(no_mangle)]
-pub extern "C" fn vlt_mask_matches_all(alloc: Global, mask: &mut Slot) -> u32
-    ensures answer { Asks (mask_in mask.old.value) (λ m. (q : List Field) → In m q) result }
+pub extern "C" fn vlt_mask_matches_all(mask: &mut Slot) -> u32
+    ensures answer { Answers (on (mask_in mask.old.value) (λ m. tells ((q : List Field) → In m q))) result }
     ensures kept { mask.new.value ≡ mask.old.value }
 {
-    let Some(object) = mask.take(alloc) else {
+    let Some(mask) = as_mask(mask) else {
         return KIND;
     };
-    let answer = match &*object {
-        Object::Mask(mask) => matches_all(mask),
-        _ => KIND,
-    };
-    mask.put(object);
-    answer
-}
-
-fn matches_all(mask: &FieldMask) -> u32
-    ensures { Tells result ((q : List Field) → In mask.now q) }
-{
     if mask.matches_all() { OK } else { NONE }
 }
 
 /// Returns 0 if the mask selects the root, and 1 if it doesn't.
 #[unsafe(no_mangle)]
-pub extern "C" fn vlt_mask_matches_root(alloc: Global, mask: &mut Slot) -> u32
-    ensures answer { Asks (mask_in mask.old.value) (λ m. In m []) result }
+pub extern "C" fn vlt_mask_matches_root(mask: &mut Slot) -> u32
+    ensures answer { Answers (on (mask_in mask.old.value) (λ m. tells (In m []))) result }
     ensures kept { mask.new.value ≡ mask.old.value }
 {
-    let Some(object) = mask.take(alloc) else {
+    let Some(mask) = as_mask(mask) else {
         return KIND;
     };
-    let answer = match &*object {
-        Object::Mask(mask) => matches_root(mask),
-        _ => KIND,
-    };
-    mask.put(object);
-    answer
+    matches_root(mask)
 }
 
 fn matches_root(mask: &FieldMask) -> u32
-    ensures { Tells result (In mask.now []) }
+    ensures { Answers (tells (In mask.now [])) result }
 {
     if mask.matches_root() { OK } else { NONE }
 }
 
 /// Returns 0 if the two masks are equal, and 1 if they aren't.
 #[unsafe(no_mangle)]
-pub extern "C" fn vlt_mask_eq(alloc: Global, one: &mut Slot, other: &mut Slot) -> u32
-    ensures answer { AsksBoth (mask_in one.old.value) (mask_in other.old.value) (λ a b. a ≡ b) result }
+pub extern "C" fn vlt_mask_eq(one: &mut Slot, other: &mut Slot) -> u32
+    ensures answer { Answers (on_both (mask_in one.old.value) (mask_in other.old.value) (λ m n. tells (m ≡ n))) result }
     ensures kept { (one.new.value ≡ one.old.value) × (other.new.value ≡ other.old.value) }
 {
-    let Some(object) = one.take(alloc) else {
+    let (Some(one), Some(other)) = (as_mask(one), as_mask(other)) else {
         return KIND;
     };
-    let answer = eq_of(alloc, &object, other);
-    one.put(object);
-    answer
-}
-
-fn eq_of(alloc: Global, one: &Object, other: &mut Slot) -> u32
-    ensures answer { AsksBoth (mask_in (Some one.now)) (mask_in other.old.value) (λ a b. a ≡ b) result }
-    ensures kept { other.new.value ≡ other.old.value }
-{
-    let Some(object) = other.take(alloc) else {
-        return KIND;
-    };
-    let answer = match (one, &*object) {
-        (Object::Mask(one), Object::Mask(other)) => eq(one, other),
-        _ => KIND,
-    };
-    other.put(object);
-    answer
-}
-
-fn eq(one: &FieldMask, other: &FieldMask) -> u32
-    ensures { Tells result (one.now ≡ other.now) }
-{
     if one.eq(other) { OK } else { NONE }
 }

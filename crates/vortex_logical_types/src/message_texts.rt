@@ -2,13 +2,15 @@
 // SPDX-FileCopyrightText: Copyright the Vortex contributors
 
 // Messages of types in the form of the console.
-ghost use Rattle.std.specs.Prelude.{◌≡◌, ◌⊎◌, ◌≤◌, IsSome};
-ghost use Rattle.vortex_logical_types.specs.Answers.{IfUtf8, WritesSome};
-ghost use Rattle.vortex_logical_types.specs.Objects.{message_in};
+ghost use Rattle.std.specs.Prelude.{◌≡◌, ◌⊎◌, ◌≤◌, ◌+◌, ⊤, length, IsSome};
+ghost use Rattle.vortex_logical_types.specs.Answers.{IfUtf8, IsCode};
+ghost use Rattle.vortex_logical_types.specs.Slots.{message_in};
+ghost use Rattle.vortex_logical_types.specs.Vocabulary.{Fills, gives_some, on, unless_memory};
 
 use crate::buffers::write_bytes;
-use crate::errors::{KIND, NOT_UTF8, of_console, of_library};
+use crate::errors::{KIND, LIBRARY, NOT_UTF8, of_reader};
 use crate::objects::put;
+use crate::views::as_message;
 use c_objects::{Object, Slot};
 use console_core::{Argument, ConsoleResult, Line};
 use console_sessions::{Message, write_message};
@@ -31,8 +33,9 @@ pub extern "C" fn vlt_message_from_text(
     position: &mut usize,
 ) -> u32
     ensures put { result ≡ 0 → IsSome (message_in out.new.value) }
-    ensures utf8 { IfUtf8 text.now result (out.new.value ≡ out.old.value) ((result ≡ 0) ⊎ (4 ≤ result)) }
+    ensures utf8 { IfUtf8 text.now result (out.new.value ≡ out.old.value) ((result ≡ 0) ⊎ ((4 ≤ result) × IsCode result)) }
     ensures unchanged { (result ≡ 0) ⊎ (out.new.value ≡ out.old.value) }
+    ensures position { ((result ≡ 4) × (1 ≤ position.new) × (position.new ≤ length text.now + 1)) ⊎ (position.new ≡ position.old) }
 {
     match str::from_utf8(text) {
         Ok(text) => read(alloc, text, out, position),
@@ -42,12 +45,13 @@ pub extern "C" fn vlt_message_from_text(
 
 fn read(alloc: Global, text: &str, out: &mut Slot, position: &mut usize) -> u32
     ensures put { result ≡ 0 → IsSome (message_in out.new.value) }
-    ensures codes { (result ≡ 0) ⊎ (4 ≤ result) }
+    ensures codes { (result ≡ 0) ⊎ ((4 ≤ result) × IsCode result) }
     ensures unchanged { (result ≡ 0) ⊎ (out.new.value ≡ out.old.value) }
+    ensures position { ((result ≡ 4) × (1 ≤ position.new) × (position.new ≤ length text.now + 1)) ⊎ (position.new ≡ position.old) }
 {
     match read_message(alloc, text) {
         Ok(message) => put(alloc, out, Object::Message(message)),
-        Err(error) => of_console(&error, position),
+        Err(error) => of_reader(&error, text.len(), position),
     }
 }
 
@@ -66,26 +70,15 @@ pub extern "C" fn vlt_message_to_text(
     buffer: &mut [u8],
     length: &mut usize,
 ) -> u32
-    ensures writes { WritesSome result (buffer.old, length.old) (buffer.new, length.new) }
+    ensures fills { Fills (on (message_in message.old.value) (λ m. unless_memory (gives_some (λ text. ⊤)))) result (buffer.old, length.old) (buffer.new, length.new) }
     ensures kept { message.new.value ≡ message.old.value }
 {
-    let Some(object) = message.take(alloc) else {
+    let Some(message) = as_message(message) else {
         return KIND;
     };
-    let answer = match &*object {
-        Object::Message(message) => write(alloc, message, buffer, length),
-        _ => KIND,
-    };
-    message.put(object);
-    answer
-}
-
-fn write(alloc: Global, message: &pb::DType, buffer: &mut [u8], length: &mut usize) -> u32
-    ensures { WritesSome result (buffer.old, length.old) (buffer.new, length.new) }
-{
     match written(alloc, message) {
         Ok(written) => write_bytes(written.as_bytes(), buffer, length),
-        Err(error) => of_library(error),
+        Err(_) => LIBRARY,
     }
 }
 

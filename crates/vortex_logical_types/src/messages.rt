@@ -2,19 +2,19 @@
 // SPDX-FileCopyrightText: Copyright the Vortex contributors
 
 // Messages of types: copies, equality, the types that they describe, and normal forms.
-ghost use Rattle.std.specs.Prelude.{◌≡◌, ◌⊎◌, Ok, Err, MatchResult, false, true};
-ghost use Rattle.std.specs.declared.option.Option.TheVariants.{Some};
-ghost use Rattle.c_objects.specs.declared.object.Object.{Object};
+ghost use Rattle.std.specs.Prelude.{◌≡◌, ◌⊎◌, Decides, Ok, Err, MatchResult, false, true};
+ghost use Rattle.c_objects.specs.declared.object.Object.TheVariants.{Message};
 ghost use Rattle.dtype_base.specs.declared.vortex_error.VortexError.TheVariants.{OutOfMemory};
 ghost use Rattle.dtype_messages.specs.MessageOf.{message};
 ghost use Rattle.dtype_types.specs.tree.TreeOf.{tree};
 ghost use Rattle.vortex_dtype.specs.Written.{written};
-ghost use Rattle.vortex_logical_types.specs.Answers.{Tells, type_in};
-ghost use Rattle.vortex_logical_types.specs.Messages.{PutsMessage, PutsRead, PutsReadOf, normal_of, type_of_message};
-ghost use Rattle.vortex_logical_types.specs.Objects.{AsksBoth, Gives, GivesOf, message_in};
+ghost use Rattle.vortex_logical_types.specs.Messages.{normal_of, type_of_message};
+ghost use Rattle.vortex_logical_types.specs.Slots.{message_in, type_in};
+ghost use Rattle.vortex_logical_types.specs.Vocabulary.{Answers, Puts, PutsReturned, gives, if_ok, on, on_both, tells, unless_memory};
 
 use crate::errors::{KIND, NONE, OK, of_library};
 use crate::objects::{put, put_made};
+use crate::views::{as_dtype, as_message};
 use c_objects::{Object, Slot};
 use dtype_base::VortexResult;
 use dtype_messages::pb;
@@ -24,7 +24,7 @@ use vortex_dtype::{DTypeProto, DTypeSession};
 
 /// Stores in the slot the message that a call of the library returned, or returns the number of its error.
 fn put_message(alloc: Global, out: &mut Slot, made: VortexResult<pb::DType>) -> u32
-    ensures { PutsMessage made result out.old.value out.new.value }
+    ensures { PutsReturned (λ m. Message m) made result out.old.value out.new.value }
 {
     match made {
         Ok(made) => put(alloc, out, Object::Message(made)),
@@ -35,60 +35,32 @@ fn put_message(alloc: Global, out: &mut Slot, made: VortexResult<pb::DType>) -> 
 /// Stores in `out` a copy of the message.
 #[unsafe(no_mangle)]
 pub extern "C" fn vlt_message_copy(alloc: Global, message: &mut Slot, out: &mut Slot) -> u32
-    ensures made { GivesOf (message_in message.old.value) message_in Some result out.old.value out.new.value }
+    ensures puts { Puts message_in (on (message_in message.old.value) (λ m. unless_memory (gives m))) result out.old.value out.new.value }
     ensures kept { message.new.value ≡ message.old.value }
 {
-    let Some(object) = message.take(alloc) else {
+    let Some(proto) = as_message(message) else {
         return KIND;
     };
-    let answer = match &*object {
-        Object::Message(proto) => copy(alloc, proto, out),
-        _ => KIND,
-    };
-    message.put(object);
-    answer
-}
-
-fn copy(alloc: Global, proto: &pb::DType, out: &mut Slot) -> u32
-    ensures { Gives message_in (Some (message proto.now)) result out.old.value out.new.value }
-{
     put_message(alloc, out, proto.try_clone(alloc))
 }
 
 /// Returns 0 if the two messages are equal, and 1 if they aren't.
 #[unsafe(no_mangle)]
-pub extern "C" fn vlt_message_eq(alloc: Global, one: &mut Slot, other: &mut Slot) -> u32
-    ensures answer { AsksBoth (message_in one.old.value) (message_in other.old.value) (λ m n. m ≡ n) result }
+pub extern "C" fn vlt_message_eq(one: &mut Slot, other: &mut Slot) -> u32
+    ensures answer { Answers (on_both (message_in one.old.value) (message_in other.old.value) (λ m n. tells (m ≡ n))) result }
     ensures kept { (one.new.value ≡ one.old.value) × (other.new.value ≡ other.old.value) }
 {
-    let Some(object) = one.take(alloc) else {
+    let (Some(one), Some(other)) = (as_message(one), as_message(other)) else {
         return KIND;
     };
-    let answer = eq_of(alloc, &object, other);
-    one.put(object);
-    answer
-}
-
-fn eq_of(alloc: Global, one: &Object, other: &mut Slot) -> u32
-    ensures answer { AsksBoth (message_in (Some one.now)) (message_in other.old.value) (λ m n. m ≡ n) result }
-    ensures kept { other.new.value ≡ other.old.value }
-{
-    let Some(object) = other.take(alloc) else {
-        return KIND;
-    };
-    let answer = match (one, &*object) {
-        (Object::Message(one), Object::Message(other)) => eq(one, other),
-        _ => KIND,
-    };
-    other.put(object);
-    answer
+    if are_equal(one, other) { OK } else { NONE }
 }
 
 #[tactic(auto, using(dtype_messages::proofs::lemmas::Equality::equality))]
-fn eq(one: &pb::DType, other: &pb::DType) -> u32
-    ensures { Tells result (message one.now ≡ message other.now) }
+fn are_equal(one: &pb::DType, other: &pb::DType) -> bool
+    ensures { Decides result (message one.now ≡ message other.now) }
 {
-    if *one == *other { OK } else { NONE }
+    *one == *other
 }
 
 /// Stores in `out` the type that the message describes. No plugin is registered, so no id of an extension is known. If
@@ -103,23 +75,12 @@ pub extern "C" fn vlt_message_to_dtype(
     allow_unknown: bool,
     out: &mut Slot,
 ) -> u32
-    ensures read { PutsReadOf (message_in message.old.value) type_in (type_of_message allow_unknown) result out.old.value out.new.value }
+    ensures puts { Puts type_in (on (message_in message.old.value) (λ m. unless_memory (if_ok (type_of_message allow_unknown m)))) result out.old.value out.new.value }
     ensures kept { message.new.value ≡ message.old.value }
 {
-    let Some(object) = message.take(alloc) else {
+    let Some(proto) = as_message(message) else {
         return KIND;
     };
-    let answer = match &*object {
-        Object::Message(proto) => read(alloc, proto, allow_unknown, out),
-        _ => KIND,
-    };
-    message.put(object);
-    answer
-}
-
-fn read(alloc: Global, proto: &pb::DType, allow_unknown: bool, out: &mut Slot) -> u32
-    ensures { PutsRead type_in (type_of_message allow_unknown (message proto.now)) result out.old.value out.new.value }
-{
     put_made(alloc, out, dtype_of(alloc, proto, allow_unknown))
 }
 
@@ -167,23 +128,12 @@ pub extern "C" fn vlt_message_normal(
     allow_unknown: bool,
     out: &mut Slot,
 ) -> u32
-    ensures read { PutsReadOf (message_in message.old.value) message_in (normal_of allow_unknown) result out.old.value out.new.value }
+    ensures puts { Puts message_in (on (message_in message.old.value) (λ m. unless_memory (if_ok (normal_of allow_unknown m)))) result out.old.value out.new.value }
     ensures kept { message.new.value ≡ message.old.value }
 {
-    let Some(object) = message.take(alloc) else {
+    let Some(proto) = as_message(message) else {
         return KIND;
     };
-    let answer = match &*object {
-        Object::Message(proto) => normal(alloc, proto, allow_unknown, out),
-        _ => KIND,
-    };
-    message.put(object);
-    answer
-}
-
-fn normal(alloc: Global, proto: &pb::DType, allow_unknown: bool, out: &mut Slot) -> u32
-    ensures { PutsRead message_in (normal_of allow_unknown (message proto.now)) result out.old.value out.new.value }
-{
     put_message(alloc, out, normal_form(alloc, proto, allow_unknown))
 }
 
@@ -199,22 +149,11 @@ fn normal_form(alloc: Global, proto: &pb::DType, allow_unknown: bool) -> VortexR
 /// Stores in `out` the message that describes the type.
 #[unsafe(no_mangle)]
 pub extern "C" fn vlt_dtype_to_message(alloc: Global, dtype: &mut Slot, out: &mut Slot) -> u32
-    ensures made { GivesOf (type_in dtype.old.value) message_in (λ t. Some (written t)) result out.old.value out.new.value }
+    ensures puts { Puts message_in (on (type_in dtype.old.value) (λ t. unless_memory (gives (written t)))) result out.old.value out.new.value }
     ensures kept { dtype.new.value ≡ dtype.old.value }
 {
-    let Some(object) = dtype.take(alloc) else {
+    let Some(dtype) = as_dtype(dtype) else {
         return KIND;
     };
-    let answer = match &*object {
-        Object::DType(dtype) => write(alloc, dtype, out),
-        _ => KIND,
-    };
-    dtype.put(object);
-    answer
-}
-
-fn write(alloc: Global, dtype: &DType, out: &mut Slot) -> u32
-    ensures { Gives message_in (Some (written (tree dtype.now))) result out.old.value out.new.value }
-{
     put_message(alloc, out, dtype.to_proto(alloc))
 }

@@ -3,13 +3,14 @@
 
 // Several names, and several types, of one call.
 ghost use Rattle.std.specs.Prelude.{◌≡◌, ◌⊎◌, ◌++◌, ◌∷◌, ◌<◌, ◌≤◌, [], drop, length, map, take, IsUtf8, MatchResult, None, Some};
-ghost use Rattle.c_objects.specs.declared.object.Object.{Object};
+ghost use Rattle.std.specs.List.{AllByRecursion};
 ghost use Rattle.dtype_types.specs.tree.TreeOf.{tree};
-ghost use Rattle.vortex_logical_types.specs.Answers.{type_in};
-ghost use Rattle.vortex_logical_types.specs.Several.{Adds, RefusesNames, each_in, names_cut, objects_in};
+ghost use Rattle.vortex_logical_types.specs.Several.{Adds, NamesFault, each_in, names_cut, objects_in, whole};
+ghost use Rattle.vortex_logical_types.specs.Slots.{type_in};
 
 use crate::errors::{KIND, LIBRARY, NOT_UTF8, RANGE};
-use c_objects::{Object, Slot};
+use crate::views::as_dtype;
+use c_objects::Slot;
 use dtype_base::{FieldName, FieldNames};
 use dtype_types::DType;
 use std::alloc::Global;
@@ -19,8 +20,8 @@ use std::str;
 /// read, it returns the number that the export returns.
 pub fn names_of(alloc: Global, names: &[u8], lengths: &[usize]) -> Result<FieldNames, u32>
     ensures { MatchResult result
-        (λ ns. names_cut names.now lengths.now ≡ Some ns)
-        (λ code. RefusesNames names.now lengths.now code) }
+        (λ ns. (names_cut names.now lengths.now ≡ Some ns) × AllByRecursion IsUtf8 ns)
+        (λ code. NamesFault whole names.now lengths.now code ⊎ (code ≡ 100)) }
 {
     let mut all = Vec::new(alloc);
     let mut rest = names;
@@ -39,8 +40,8 @@ pub fn names_of(alloc: Global, names: &[u8], lengths: &[usize]) -> Result<FieldN
 // Returns the text of this length at the front, and what follows it.
 fn split(bytes: &[u8], wanted: usize) -> Result<(&str, &[u8]), u32>
     ensures { MatchResult result
-        (λ r. (wanted ≤ length bytes.now) × (r.0.now ≡ take wanted bytes.now) × (r.1.now ≡ drop wanted bytes.now))
-        (λ code. ((code ≡ 3) × (IsUtf8 (take wanted bytes.now) → ⊥)) ⊎ ((code ≡ 9) × (length bytes.now < wanted))) }
+        (λ r. (wanted ≤ length bytes.now) × IsUtf8 (take wanted bytes.now) × (r.0.now ≡ take wanted bytes.now) × (r.1.now ≡ drop wanted bytes.now))
+        (λ code. ((code ≡ 3) × (wanted ≤ length bytes.now) × (IsUtf8 (take wanted bytes.now) → ⊥)) ⊎ ((code ≡ 9) × (length bytes.now < wanted))) }
 {
     let Some((name, others)) = bytes.split_at_checked(wanted) else {
         return Err(RANGE);
@@ -54,7 +55,7 @@ fn split(bytes: &[u8], wanted: usize) -> Result<(&str, &[u8]), u32>
 // Adds a name.
 fn push_name(alloc: Global, all: &mut Vec<FieldName>, name: &str) -> Result<(), u32>
     ensures { MatchResult result
-        (λ _. all.new.items ≡ all.old.items ++ (name.now ∷ []))
+        (λ _. (all.new.items ≡ all.old.items ++ (name.now ∷ [])) × IsUtf8 name.now)
         (λ code. code ≡ 100) }
 {
     let Ok(name) = FieldName::new(alloc, name) else {
@@ -88,15 +89,10 @@ fn push_type(alloc: Global, all: &mut Vec<DType>, slot: &mut Slot) -> Result<(),
         (λ code. (code ≡ 100) ⊎ ((code ≡ 2) × (type_in slot.old.value ≡ None))) }
     ensures kept { slot.new.value ≡ slot.old.value }
 {
-    let Some(object) = slot.take(alloc) else {
+    let Some(dtype) = as_dtype(slot) else {
         return Err(KIND);
     };
-    let answer = match &*object {
-        Object::DType(dtype) => push_copy(alloc, all, dtype),
-        _ => Err(KIND),
-    };
-    slot.put(object);
-    answer
+    push_copy(alloc, all, dtype)
 }
 
 // Adds a copy of a type.

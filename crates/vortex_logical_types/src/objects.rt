@@ -5,8 +5,10 @@
 ghost use Rattle.std.specs.Prelude.{◌≡◌, ◌⊎◌};
 ghost use Rattle.std.specs.declared.option.Option.TheVariants.{Some};
 ghost use Rattle.c_objects.specs.declared.object.Object.{Object};
+ghost use Rattle.c_objects.specs.declared.object.Object.TheVariants.{DType as Held};
 ghost use Rattle.dtype_types.specs.tree.TreeOf.{shown, tree};
-ghost use Rattle.vortex_logical_types.specs.Answers.{PutsMade, PutsThe};
+ghost use Rattle.vortex_logical_types.specs.Slots.{type_in};
+ghost use Rattle.vortex_logical_types.specs.Vocabulary.{Puts, PutsReturned, found, gives, unless_memory};
 
 use crate::errors::{LIBRARY, NONE, OK, of_library};
 use c_objects::{Object, Slot};
@@ -31,7 +33,7 @@ pub fn put(alloc: Global, slot: &mut Slot, object: Object) -> u32
 /// Stores in the slot the type that a call of the library returned, and returns 0. If that call failed, the slot is
 /// unchanged, and this function returns 100 plus the number of the error. It returns 100 if its own allocation fails.
 pub fn put_made(alloc: Global, slot: &mut Slot, made: VortexResult<DType>) -> u32
-    ensures { PutsMade made result slot.old.value slot.new.value }
+    ensures { PutsReturned (λ d. Held d) made result slot.old.value slot.new.value }
 {
     match made {
         Ok(made) => put(alloc, slot, Object::DType(made)),
@@ -41,7 +43,7 @@ pub fn put_made(alloc: Global, slot: &mut Slot, made: VortexResult<DType>) -> u3
 
 /// Stores in the slot a copy of the type, or returns 1 if there is no type.
 pub fn put_copy(alloc: Global, slot: &mut Slot, dtype: Option<&DType>) -> u32
-    ensures { PutsThe (shown tree dtype.entry) result slot.old.value slot.new.value }
+    ensures { Puts type_in (found (shown tree dtype.entry) (λ t. unless_memory (gives t))) result slot.old.value slot.new.value }
 {
     match dtype {
         Some(dtype) => put_made(alloc, slot, dtype.try_clone(alloc)),

@@ -2,15 +2,14 @@
 // SPDX-FileCopyrightText: Copyright the Vortex contributors
 
 // Messages of paths. No slot has one: they are read from names or from a text, and put as the paths that they describe.
-ghost use Rattle.std.specs.Prelude.{◌≡◌, ◌≢◌, ◌⊎◌, ◌++◌, ◌≤◌, drop, length, IfErr, IfOk, IsSome, map};
+ghost use Rattle.std.specs.Prelude.{◌≡◌, ◌≢◌, ◌⊎◌, ◌++◌, ◌≤◌, ◌+◌, drop, length, IfErr, IfOk, IsSome, map};
 ghost use Rattle.std.specs.List.{Contains, flat_map};
 ghost use Rattle.dtype_messages.specs.PathNames.{part_name, part_names};
-ghost use Rattle.vortex_logical_types.specs.Answers.{IfUtf8};
-ghost use Rattle.vortex_logical_types.specs.Messages.{HasParts, part_bytes, part_length};
-ghost use Rattle.vortex_logical_types.specs.Objects.{path_in};
-ghost use Rattle.vortex_logical_types.specs.Steps.{RefusesName, RefusesSteps, fault_code, step_size};
+ghost use Rattle.vortex_logical_types.specs.Answers.{IfUtf8, IsCode};
+ghost use Rattle.vortex_logical_types.specs.Slots.{path_in};
+ghost use Rattle.vortex_logical_types.specs.Steps.{HasParts, RefusesName, RefusesSteps, fault_code, part_bytes, part_length, step_size};
 
-use crate::errors::{NOT_UTF8, of_console};
+use crate::errors::{NOT_UTF8, of_reader};
 use crate::objects::put;
 use crate::paths::{ELEMENT, put_path};
 use crate::steps::{Names, StepFault, code_of};
@@ -94,8 +93,9 @@ pub extern "C" fn vlt_path_from_message_text(
     position: &mut usize,
 ) -> u32
     ensures put { result ≡ 0 → IsSome (path_in out.new.value) }
-    ensures utf8 { IfUtf8 text.now result (out.new.value ≡ out.old.value) ((result ≡ 0) ⊎ (4 ≤ result)) }
+    ensures utf8 { IfUtf8 text.now result (out.new.value ≡ out.old.value) ((result ≡ 0) ⊎ ((4 ≤ result) × IsCode result)) }
     ensures unchanged { (result ≡ 0) ⊎ (out.new.value ≡ out.old.value) }
+    ensures position { ((result ≡ 4) × (1 ≤ position.new) × (position.new ≤ length text.now + 1)) ⊎ (position.new ≡ position.old) }
 {
     match str::from_utf8(text) {
         Ok(text) => read(alloc, text, out, position),
@@ -105,12 +105,13 @@ pub extern "C" fn vlt_path_from_message_text(
 
 fn read(alloc: Global, text: &str, out: &mut Slot, position: &mut usize) -> u32
     ensures put { result ≡ 0 → IsSome (path_in out.new.value) }
-    ensures codes { (result ≡ 0) ⊎ (4 ≤ result) }
+    ensures codes { (result ≡ 0) ⊎ ((4 ≤ result) × IsCode result) }
     ensures unchanged { (result ≡ 0) ⊎ (out.new.value ≡ out.old.value) }
+    ensures position { ((result ≡ 4) × (1 ≤ position.new) × (position.new ≤ length text.now + 1)) ⊎ (position.new ≡ position.old) }
 {
     match read_path(alloc, text) {
         Ok(path) => put(alloc, out, Object::Path(path)),
-        Err(error) => of_console(&error, position),
+        Err(error) => of_reader(&error, text.len(), position),
     }
 }
 

@@ -3,18 +3,16 @@
 
 // The part of a type that paths lead to.
 ghost use Rattle.std.specs.Prelude.{◌≡◌};
-ghost use Rattle.std.specs.declared.option.Option.TheVariants.{Some};
-ghost use Rattle.c_objects.specs.declared.object.Object.{Object};
-ghost use Rattle.dtype_types.specs.tree.TreeOf.{tree};
-ghost use Rattle.vortex_logical_types.specs.Answers.{PutsIfAny, type_in};
-ghost use Rattle.vortex_logical_types.specs.Objects.{PutsProjected, projection, set_in};
+ghost use Rattle.std.specs.FinSet as finset;
+ghost use Rattle.dtype_projection.specs.Projected.{projected};
+ghost use Rattle.vortex_logical_types.specs.Slots.{set_in, type_in};
+ghost use Rattle.vortex_logical_types.specs.Vocabulary.{Puts, found, gives, on_both, unless_memory};
 
 use crate::errors::{KIND, NONE, of_library};
 use crate::objects::put;
+use crate::views::{as_dtype, as_set};
 use c_objects::{Object, Slot};
-use dtype_paths::FieldPathSet;
 use dtype_projection::project_paths;
-use dtype_types::DType;
 use std::alloc::Global;
 
 /// Stores in `out` the type without the fields to which no path of the set leads. For example, for `{a=i32, b=utf8}`
@@ -26,37 +24,12 @@ pub extern "C" fn vlt_project_paths(
     set: &mut Slot,
     out: &mut Slot,
 ) -> u32
-    ensures puts { PutsProjected (type_in dtype.old.value) (set_in set.old.value)
-        result out.old.value out.new.value }
+    ensures puts { Puts type_in (on_both (type_in dtype.old.value) (set_in set.old.value) (λ t s. unless_memory (found (projected t (finset.contains s)) gives))) result out.old.value out.new.value }
     ensures kept { (dtype.new.value ≡ dtype.old.value) × (set.new.value ≡ set.old.value) }
 {
-    let Some(object) = dtype.take(alloc) else {
+    let (Some(dtype), Some(paths)) = (as_dtype(dtype), as_set(set)) else {
         return KIND;
     };
-    let answer = project_of(alloc, &object, set, out);
-    dtype.put(object);
-    answer
-}
-
-fn project_of(alloc: Global, dtype: &Object, paths: &mut Slot, out: &mut Slot) -> u32
-    ensures puts { PutsProjected (type_in (Some dtype.now)) (set_in paths.old.value)
-        result out.old.value out.new.value }
-    ensures kept { paths.new.value ≡ paths.old.value }
-{
-    let Some(object) = paths.take(alloc) else {
-        return KIND;
-    };
-    let answer = match (dtype, &*object) {
-        (Object::DType(dtype), Object::Set(paths)) => project(alloc, dtype, paths, out),
-        _ => KIND,
-    };
-    paths.put(object);
-    answer
-}
-
-fn project(alloc: Global, dtype: &DType, paths: &FieldPathSet, out: &mut Slot) -> u32
-    ensures { PutsIfAny (projection (tree dtype.now) paths.now) result out.old.value out.new.value }
-{
     match project_paths(alloc, dtype, paths) {
         Ok(Some(made)) => put(alloc, out, Object::DType(made)),
         Ok(None) => NONE,

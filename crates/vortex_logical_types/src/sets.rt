@@ -2,23 +2,25 @@
 // SPDX-FileCopyrightText: Copyright the Vortex contributors
 
 // Sets of paths and lists of paths.
-ghost use Rattle.std.specs.Prelude.{◌≡◌, IsTrue, length, map, slice_get, take};
-ghost use Rattle.std.specs.FinSet as set;
-ghost use Rattle.std.specs.declared.option.Option.TheVariants.{Some};
+ghost use Rattle.std.specs.Prelude.{◌≡◌, IsErr, IsTrue, length, map, slice_get, take};
+ghost use Rattle.std.specs.FinSet as finset;
 ghost use Rattle.std.specs.Vec.Iter.{into_iter_items};
+ghost use Rattle.c_objects.specs.declared.object.Object.TheVariants.{Paths};
 ghost use Rattle.dtype_base.specs.Distinct.{Distinct};
 ghost use Rattle.dtype_base.specs.Errors.{Makes};
 ghost use Rattle.dtype_paths.specs.Covering.{least};
 ghost use Rattle.dtype_paths.specs.PathOrder.{set_of};
 ghost use Rattle.dtype_paths.specs.Unresolved.{unresolved};
 ghost use Rattle.dtype_types.specs.tree.TreeOf.{tree};
-ghost use Rattle.vortex_logical_types.specs.Answers.{Tells, type_in};
-ghost use Rattle.vortex_logical_types.specs.Objects.{AsksBoth, Gains, GainsOf, Gives, GivesList, GivesListOf, GivesListOfBoth, GainsList, GainsListIn, GivesOf, WritesCount, WritesOf, path_in, paths_in, set_in, PutsList, GainsPath};
+ghost use Rattle.vortex_logical_types.specs.Paths.{Gains, GainsList, GainsListIn, GainsPath};
 ghost use Rattle.vortex_logical_types.specs.Several.{EndsAt, GainsFirst, GainsSlots, each_in, objects_in};
+ghost use Rattle.vortex_logical_types.specs.Slots.{path_in, paths_in, set_in, type_in};
+ghost use Rattle.vortex_logical_types.specs.Vocabulary.{Answers, Changes, Puts, PutsReturned, Writes, found, gives, gives_some, on, on_both, tells, unless_memory};
 
 use crate::errors::{KIND, NONE, OK, of_library};
 use crate::objects::put;
 use crate::paths::put_path;
+use crate::views::{as_dtype, as_path, as_paths, as_set};
 use c_objects::{Object, Slot};
 use dtype_base::VortexResult;
 use dtype_paths::{FieldPath, FieldPathSet};
@@ -29,113 +31,63 @@ use std::vec;
 /// Stores in `out` the empty set.
 #[unsafe(no_mangle)]
 pub extern "C" fn vlt_set_new(alloc: Global, out: &mut Slot) -> u32
-    ensures { Gives set_in (Some set.empty) result out.old.value out.new.value }
+    ensures { Puts set_in (unless_memory (gives finset.empty)) result out.old.value out.new.value }
 {
     put(alloc, out, Object::Set(FieldPathSet::new(alloc)))
 }
 
 /// Inserts a copy of the path into the set. If the call doesn't return 0, the set is unchanged.
 #[unsafe(no_mangle)]
-pub extern "C" fn vlt_set_insert(alloc: Global, paths: &mut Slot, path: &mut Slot) -> u32
-    ensures gains { GainsOf (set_in paths.old.value) (path_in path.old.value) set.insert result paths.old.value paths.new.value }
+pub extern "C" fn vlt_set_insert(paths: &mut Slot, path: &mut Slot) -> u32
+    ensures changes { Changes set_in (on_both (set_in paths.old.value) (path_in path.old.value) (λ s p. unless_memory (gives (finset.insert s p)))) result paths.old.value paths.new.value }
     ensures kept { path.new.value ≡ path.old.value }
 {
-    let Some(mut object) = paths.take(alloc) else {
+    let (Some(object), Some(path)) = (paths.get_mut(), as_path(path)) else {
         return KIND;
     };
-    let answer = insert_of(alloc, &mut object, path);
-    paths.put(object);
-    answer
-}
-
-fn insert_of(alloc: Global, paths: &mut Object, path: &mut Slot) -> u32
-    ensures gains { GainsOf (set_in (Some paths.old)) (path_in path.old.value) set.insert result (Some paths.old) (Some paths.new) }
-    ensures kept { path.new.value ≡ path.old.value }
-{
-    let Some(object) = path.take(alloc) else {
+    let Object::Set(paths) = object else {
         return KIND;
     };
-    let answer = match (paths, &*object) {
-        (Object::Set(paths), Object::Path(path)) => insert(paths, path),
-        _ => KIND,
-    };
-    path.put(object);
-    answer
+    insert(paths, path)
 }
 
 fn insert(paths: &mut FieldPathSet, path: &FieldPath) -> u32
-    ensures { Gains result paths.old (set.insert paths.old path.now) paths.new }
+    ensures { Gains result paths.old (finset.insert paths.old path.now) paths.new }
 {
-    match path.try_clone() {
-        Ok(path) => insert_path(paths, path),
-        Err(error) => of_library(error),
-    }
-}
-
-fn insert_path(paths: &mut FieldPathSet, path: FieldPath) -> u32
-    ensures { Gains result paths.old (set.insert paths.old path) paths.new }
-{
-    match paths.insert(path) {
+    match inserted(paths, path) {
         Ok(()) => OK,
         Err(error) => of_library(error),
     }
 }
 
+fn inserted(paths: &mut FieldPathSet, path: &FieldPath) -> VortexResult<()>
+    ensures ok { Makes result (λ _. paths.new ≡ finset.insert paths.old path.now) }
+    ensures err { IsErr result → paths.new ≡ paths.old }
+{
+    paths.insert(path.try_clone()?)
+}
+
 /// Returns 0 if the path is in the set, and 1 if it isn't.
 #[unsafe(no_mangle)]
-pub extern "C" fn vlt_set_contains(alloc: Global, paths: &mut Slot, path: &mut Slot) -> u32
-    ensures answer { AsksBoth (set_in paths.old.value) (path_in path.old.value) (λ s p. IsTrue (set.contains s p)) result }
+pub extern "C" fn vlt_set_contains(paths: &mut Slot, path: &mut Slot) -> u32
+    ensures answer { Answers (on_both (set_in paths.old.value) (path_in path.old.value) (λ s p. tells (IsTrue (finset.contains s p)))) result }
     ensures kept { (paths.new.value ≡ paths.old.value) × (path.new.value ≡ path.old.value) }
 {
-    let Some(object) = paths.take(alloc) else {
+    let (Some(paths), Some(path)) = (as_set(paths), as_path(path)) else {
         return KIND;
     };
-    let answer = contains_of(alloc, &object, path);
-    paths.put(object);
-    answer
-}
-
-fn contains_of(alloc: Global, paths: &Object, path: &mut Slot) -> u32
-    ensures answer { AsksBoth (set_in (Some paths.now)) (path_in path.old.value) (λ s p. IsTrue (set.contains s p)) result }
-    ensures kept { path.new.value ≡ path.old.value }
-{
-    let Some(object) = path.take(alloc) else {
-        return KIND;
-    };
-    let answer = match (paths, &*object) {
-        (Object::Set(paths), Object::Path(path)) => contains(paths, path),
-        _ => KIND,
-    };
-    path.put(object);
-    answer
-}
-
-fn contains(paths: &FieldPathSet, path: &FieldPath) -> u32
-    ensures { Tells result (IsTrue (set.contains paths.now path.now)) }
-{
     if paths.contains(path) { OK } else { NONE }
 }
 
 /// Stores in `out` a copy of the set.
 #[unsafe(no_mangle)]
 pub extern "C" fn vlt_set_copy(alloc: Global, paths: &mut Slot, out: &mut Slot) -> u32
-    ensures made { GivesOf (set_in paths.old.value) set_in Some result out.old.value out.new.value }
+    ensures puts { Puts set_in (on (set_in paths.old.value) (λ s. unless_memory (gives s))) result out.old.value out.new.value }
     ensures kept { paths.new.value ≡ paths.old.value }
 {
-    let Some(object) = paths.take(alloc) else {
+    let Some(paths) = as_set(paths) else {
         return KIND;
     };
-    let answer = match &*object {
-        Object::Set(paths) => copy(alloc, paths, out),
-        _ => KIND,
-    };
-    paths.put(object);
-    answer
-}
-
-fn copy(alloc: Global, paths: &FieldPathSet, out: &mut Slot) -> u32
-    ensures { Gives set_in (Some paths.now) result out.old.value out.new.value }
-{
     match paths.try_clone() {
         Ok(copied) => put(alloc, out, Object::Set(copied)),
         Err(error) => of_library(error),
@@ -144,7 +96,7 @@ fn copy(alloc: Global, paths: &FieldPathSet, out: &mut Slot) -> u32
 
 // Puts a list of paths that was made, or returns the error.
 fn put_list(alloc: Global, out: &mut Slot, made: VortexResult<Vec<FieldPath>>) -> u32
-    ensures { PutsList made result out.old.value out.new.value }
+    ensures { PutsReturned (λ ps. Paths ps) made result out.old.value out.new.value }
 {
     match made {
         Ok(paths) => put(alloc, out, Object::Paths(paths)),
@@ -157,23 +109,12 @@ fn put_list(alloc: Global, out: &mut Slot, made: VortexResult<Vec<FieldPath>>) -
 /// set of `a` and `a.b` is `a`. Each path is in the list once, in no particular order.
 #[unsafe(no_mangle)]
 pub extern "C" fn vlt_set_cover(alloc: Global, paths: &mut Slot, out: &mut Slot) -> u32
-    ensures list { GivesListOf (set_in paths.old.value) (λ s ps. (set_of ps ≡ least s) × Distinct ps) result out.old.value out.new.value }
+    ensures puts { Puts paths_in (on (set_in paths.old.value) (λ s. unless_memory (gives_some (λ ps. (set_of ps ≡ least s) × Distinct ps)))) result out.old.value out.new.value }
     ensures kept { paths.new.value ≡ paths.old.value }
 {
-    let Some(object) = paths.take(alloc) else {
+    let Some(paths) = as_set(paths) else {
         return KIND;
     };
-    let answer = match &*object {
-        Object::Set(paths) => cover(alloc, paths, out),
-        _ => KIND,
-    };
-    paths.put(object);
-    answer
-}
-
-fn cover(alloc: Global, paths: &FieldPathSet, out: &mut Slot) -> u32
-    ensures { GivesList (λ ps. (set_of ps ≡ least paths.now) × Distinct ps) result out.old.value out.new.value }
-{
     put_list(alloc, out, cover_of(alloc, paths))
 }
 
@@ -186,23 +127,12 @@ fn cover_of(alloc: Global, paths: &FieldPathSet) -> VortexResult<Vec<FieldPath>>
 /// Stores in `out` the list of the paths of the set. Each path is in the list once, in no particular order.
 #[unsafe(no_mangle)]
 pub extern "C" fn vlt_set_members(alloc: Global, paths: &mut Slot, out: &mut Slot) -> u32
-    ensures list { GivesListOf (set_in paths.old.value) (λ s ps. (set_of ps ≡ s) × Distinct ps) result out.old.value out.new.value }
+    ensures puts { Puts paths_in (on (set_in paths.old.value) (λ s. unless_memory (gives_some (λ ps. (set_of ps ≡ s) × Distinct ps)))) result out.old.value out.new.value }
     ensures kept { paths.new.value ≡ paths.old.value }
 {
-    let Some(object) = paths.take(alloc) else {
+    let Some(paths) = as_set(paths) else {
         return KIND;
     };
-    let answer = match &*object {
-        Object::Set(paths) => members(alloc, paths, out),
-        _ => KIND,
-    };
-    paths.put(object);
-    answer
-}
-
-fn members(alloc: Global, paths: &FieldPathSet, out: &mut Slot) -> u32
-    ensures { GivesList (λ ps. (set_of ps ≡ paths.now) × Distinct ps) result out.old.value out.new.value }
-{
     put_list(alloc, out, members_of(alloc, paths))
 }
 
@@ -221,35 +151,12 @@ pub extern "C" fn vlt_set_unresolved(
     dtype: &mut Slot,
     out: &mut Slot,
 ) -> u32
-    ensures list { GivesListOfBoth (set_in paths.old.value) (type_in dtype.old.value) (λ s t ps. (set_of ps ≡ unresolved s t) × Distinct ps) result out.old.value out.new.value }
+    ensures puts { Puts paths_in (on_both (set_in paths.old.value) (type_in dtype.old.value) (λ s t. unless_memory (gives_some (λ ps. (set_of ps ≡ unresolved s t) × Distinct ps)))) result out.old.value out.new.value }
     ensures kept { (paths.new.value ≡ paths.old.value) × (dtype.new.value ≡ dtype.old.value) }
 {
-    let Some(object) = paths.take(alloc) else {
+    let (Some(paths), Some(dtype)) = (as_set(paths), as_dtype(dtype)) else {
         return KIND;
     };
-    let answer = missing_of(alloc, &object, dtype, out);
-    paths.put(object);
-    answer
-}
-
-fn missing_of(alloc: Global, paths: &Object, dtype: &mut Slot, out: &mut Slot) -> u32
-    ensures list { GivesListOfBoth (set_in (Some paths.now)) (type_in dtype.old.value) (λ s t ps. (set_of ps ≡ unresolved s t) × Distinct ps) result out.old.value out.new.value }
-    ensures kept { dtype.new.value ≡ dtype.old.value }
-{
-    let Some(object) = dtype.take(alloc) else {
-        return KIND;
-    };
-    let answer = match (paths, &*object) {
-        (Object::Set(paths), Object::DType(dtype)) => missing(alloc, paths, dtype, out),
-        _ => KIND,
-    };
-    dtype.put(object);
-    answer
-}
-
-fn missing(alloc: Global, paths: &FieldPathSet, dtype: &DType, out: &mut Slot) -> u32
-    ensures { GivesList (λ ps. (set_of ps ≡ unresolved paths.now (tree dtype.now)) × Distinct ps) result out.old.value out.new.value }
-{
     put_list(alloc, out, unresolved_in(alloc, paths, dtype))
 }
 
@@ -272,24 +179,19 @@ fn copies_of(alloc: Global, paths: vec::IntoIter<&FieldPath>) -> VortexResult<Ve
 
 /// Writes the number of paths of the set to `count`.
 #[unsafe(no_mangle)]
-pub extern "C" fn vlt_set_len(alloc: Global, paths: &mut Slot, count: &mut usize) -> u32
-    ensures count { WritesCount (set_in paths.old.value) result count.old count.new }
+pub extern "C" fn vlt_set_len(paths: &mut Slot, count: &mut usize) -> u32
+    ensures writes { Writes (on (set_in paths.old.value) (λ s. unless_memory (gives (finset.len s)))) result count.old count.new }
     ensures kept { paths.new.value ≡ paths.old.value }
 {
-    let Some(object) = paths.take(alloc) else {
+    let Some(paths) = as_set(paths) else {
         return KIND;
     };
-    let answer = match &*object {
-        Object::Set(paths) => len(paths, count),
-        _ => KIND,
-    };
-    paths.put(object);
-    answer
+    len(paths, count)
 }
 
 #[tactic(auto, using(dtype_paths::proofs::lemmas::Covering::counting))]
 fn len(paths: &FieldPathSet, count: &mut usize) -> u32
-    ensures { WritesCount (Some paths.now) result count.old count.new }
+    ensures { Writes (unless_memory (gives (finset.len paths.now))) result count.old count.new }
 {
     match paths.iter() {
         Ok(members) => {
@@ -302,24 +204,13 @@ fn len(paths: &FieldPathSet, count: &mut usize) -> u32
 
 /// Writes the number of paths of the list to `count`.
 #[unsafe(no_mangle)]
-pub extern "C" fn vlt_paths_len(alloc: Global, paths: &mut Slot, count: &mut usize) -> u32
-    ensures length { WritesOf (paths_in paths.old.value) (λ ps. length ps) result count.old count.new }
+pub extern "C" fn vlt_paths_len(paths: &mut Slot, count: &mut usize) -> u32
+    ensures writes { Writes (on (paths_in paths.old.value) (λ ps. gives (length ps))) result count.old count.new }
     ensures kept { paths.new.value ≡ paths.old.value }
 {
-    let Some(object) = paths.take(alloc) else {
+    let Some(paths) = as_paths(paths) else {
         return KIND;
     };
-    let answer = match &*object {
-        Object::Paths(paths) => list_len(paths, count),
-        _ => KIND,
-    };
-    paths.put(object);
-    answer
-}
-
-fn list_len(paths: &[FieldPath], count: &mut usize) -> u32
-    ensures { (result ≡ 0) × (count.new ≡ length paths.now) }
-{
     *count = paths.len();
     OK
 }
@@ -333,66 +224,43 @@ pub extern "C" fn vlt_paths_get(
     index: usize,
     out: &mut Slot,
 ) -> u32
-    ensures made { GivesOf (paths_in paths.old.value) path_in (λ ps. slice_get ps index) result out.old.value out.new.value }
+    ensures puts { Puts path_in (on (paths_in paths.old.value) (λ ps. found (slice_get ps index) (λ p. unless_memory (gives p)))) result out.old.value out.new.value }
     ensures kept { paths.new.value ≡ paths.old.value }
 {
-    let Some(object) = paths.take(alloc) else {
+    let Some(paths) = as_paths(paths) else {
         return KIND;
     };
-    let answer = match &*object {
-        Object::Paths(paths) => get(alloc, paths, index, out),
-        _ => KIND,
+    let Some(path) = paths.get(index) else {
+        return NONE;
     };
-    paths.put(object);
-    answer
-}
-
-fn get(alloc: Global, paths: &[FieldPath], index: usize, out: &mut Slot) -> u32
-    ensures { Gives path_in (slice_get paths.now index) result out.old.value out.new.value }
-{
-    match paths.get(index) {
-        Some(path) => put_path(alloc, out, path.try_clone()),
-        None => NONE,
-    }
+    put_path(alloc, out, path.try_clone())
 }
 
 /// Inserts copies of the paths in these slots into the set, in order, and writes to `inserted` how many were inserted.
 /// If a slot contains no path, the call stops there and returns 2. If memory runs out, it stops there and returns 100. The
 /// paths before it stay inserted.
 #[unsafe(no_mangle)]
-pub extern "C" fn vlt_set_extend(
-    alloc: Global,
-    set: &mut Slot,
-    paths: &mut [Slot],
-    inserted: &mut usize,
-) -> u32
+pub extern "C" fn vlt_set_extend(set: &mut Slot, paths: &mut [Slot], inserted: &mut usize) -> u32
     ensures gains { GainsSlots (set_in set.old.value) (objects_in paths.old) result inserted.old inserted.new set.old.value set.new.value }
     ensures kept { objects_in paths.new ≡ objects_in paths.old }
 {
-    let Some(mut object) = set.take(alloc) else {
+    let Some(object) = set.get_mut() else {
         return KIND;
     };
-    let answer = match &mut *object {
-        Object::Set(members) => insert_all(alloc, members, paths, inserted),
-        _ => KIND,
+    let Object::Set(members) = object else {
+        return KIND;
     };
-    set.put(object);
-    answer
+    insert_all(members, paths, inserted)
 }
 
-fn insert_all(
-    alloc: Global,
-    members: &mut FieldPathSet,
-    paths: &mut [Slot],
-    inserted: &mut usize,
-) -> u32
+fn insert_all(members: &mut FieldPathSet, paths: &mut [Slot], inserted: &mut usize) -> u32
     ensures gains { GainsFirst (each_in path_in (take inserted.new (objects_in paths.old))) members.old members.new }
     ensures ended { EndsAt (objects_in paths.old) result inserted.new }
     ensures kept { objects_in paths.new ≡ objects_in paths.old }
 {
     *inserted = 0;
     for slot in paths.iter_mut() {
-        let answer = insert_slot(alloc, members, slot);
+        let answer = insert_slot(members, slot);
         if answer != OK {
             return answer;
         }
@@ -401,49 +269,30 @@ fn insert_all(
     OK
 }
 
-fn insert_slot(alloc: Global, members: &mut FieldPathSet, slot: &mut Slot) -> u32
+fn insert_slot(members: &mut FieldPathSet, slot: &mut Slot) -> u32
     ensures gains { GainsPath (path_in slot.old.value) result members.old members.new }
     ensures kept { slot.new.value ≡ slot.old.value }
 {
-    let Some(object) = slot.take(alloc) else {
+    let Some(path) = as_path(slot) else {
         return KIND;
     };
-    let answer = match &*object {
-        Object::Path(path) => insert(members, path),
-        _ => KIND,
-    };
-    slot.put(object);
-    answer
+    insert(members, path)
 }
 
 /// Inserts copies of the paths of the list into the set, in order. If memory runs out, the call stops there and returns
 /// 100. The paths that it inserted before stay in the set.
 #[unsafe(no_mangle)]
-pub extern "C" fn vlt_set_extend_from_list(alloc: Global, paths: &mut Slot, list: &mut Slot) -> u32
+pub extern "C" fn vlt_set_extend_from_list(paths: &mut Slot, list: &mut Slot) -> u32
     ensures gains { GainsListIn (set_in paths.old.value) (paths_in list.old.value) result paths.old.value paths.new.value }
     ensures kept { list.new.value ≡ list.old.value }
 {
-    let Some(mut object) = paths.take(alloc) else {
+    let (Some(object), Some(list)) = (paths.get_mut(), as_paths(list)) else {
         return KIND;
     };
-    let answer = extend_of(alloc, &mut object, list);
-    paths.put(object);
-    answer
-}
-
-fn extend_of(alloc: Global, paths: &mut Object, list: &mut Slot) -> u32
-    ensures gains { GainsListIn (set_in (Some paths.old)) (paths_in list.old.value) result (Some paths.old) (Some paths.new) }
-    ensures kept { list.new.value ≡ list.old.value }
-{
-    let Some(object) = list.take(alloc) else {
+    let Object::Set(paths) = object else {
         return KIND;
     };
-    let answer = match (paths, &*object) {
-        (Object::Set(paths), Object::Paths(list)) => extend(paths, list),
-        _ => KIND,
-    };
-    list.put(object);
-    answer
+    extend(paths, list)
 }
 
 fn extend(paths: &mut FieldPathSet, list: &[FieldPath]) -> u32

@@ -5,8 +5,8 @@
 // and has no bytes.
 ghost use Rattle.std.specs.Prelude.{◌≡◌, ◌++◌, ◌≢◌, ◌⊎◌, ◌≤◌, drop, map, IfErr, IfOk, length};
 ghost use Rattle.std.specs.List.{flat_map};
-ghost use Rattle.vortex_logical_types.specs.Objects.{HasSteps, path_in, step_bytes, step_length};
-ghost use Rattle.vortex_logical_types.specs.Steps.{RefusesName, RefusesSteps, fault_code, step_size};
+ghost use Rattle.vortex_logical_types.specs.Slots.{path_in};
+ghost use Rattle.vortex_logical_types.specs.Steps.{HasSteps, RefusesName, RefusesSteps, fault_code, step_bytes, step_length, step_size};
 ghost use Rattle.vortex_logical_types.specs.declared.steps.StepFault.TheVariants.{OutOfMemory};
 
 use crate::errors::{LIBRARY, NOT_UTF8, RANGE};

@@ -3,22 +3,21 @@
 
 // Types as texts.
 ghost use Rattle.std.specs.Prelude.{◌≡◌, string_bytes};
-ghost use Rattle.std.specs.declared.option.Option.TheVariants.{Some};
-ghost use Rattle.c_objects.specs.declared.object.Object.{Object};
 ghost use Rattle.dtype_base.specs.Errors.{Makes};
-ghost use Rattle.vortex_logical_types.specs.Texts.{text_of_type};
 ghost use Rattle.dtype_types.specs.texts.IndentedText.{indented_text};
 ghost use Rattle.dtype_types.specs.texts.Text.{text};
 ghost use Rattle.dtype_types.specs.tree.Kinds.{struct_fields};
 ghost use Rattle.dtype_types.specs.tree.Tree.{fields as fields_of_pairs};
-ghost use Rattle.dtype_types.specs.tree.TreeOf.{fields_of, tree};
-ghost use Rattle.vortex_logical_types.specs.Answers.{SameBuffer, Within, WithinThe, WritesText, WritesTextOf, type_in};
+ghost use Rattle.dtype_types.specs.tree.TreeOf.{tree};
+ghost use Rattle.vortex_logical_types.specs.Slots.{type_in};
+ghost use Rattle.vortex_logical_types.specs.Vocabulary.{Fills, gives, on, unless_memory, within};
 
 use crate::buffers::write_bytes;
 use crate::errors::{CONDITION, KIND, of_library};
-use c_objects::{Object, Slot};
+use crate::views::as_dtype;
+use c_objects::Slot;
 use dtype_base::VortexResult;
-use dtype_types::{DType, StructFields};
+use dtype_types::DType;
 use std::alloc::Global;
 
 /// Writes the type to `buffer` as the library displays it, for example `{a=i32, b=list(utf8)?}`.
@@ -29,24 +28,12 @@ pub extern "C" fn vlt_dtype_display(
     buffer: &mut [u8],
     length: &mut usize,
 ) -> u32
-    ensures writes { WritesTextOf (type_in dtype.old.value) text_of_type
-        result (buffer.old, length.old) (buffer.new, length.new) }
+    ensures fills { Fills (on (type_in dtype.old.value) (λ t. unless_memory (gives (text t)))) result (buffer.old, length.old) (buffer.new, length.new) }
     ensures kept { dtype.new.value ≡ dtype.old.value }
 {
-    let Some(object) = dtype.take(alloc) else {
+    let Some(dtype) = as_dtype(dtype) else {
         return KIND;
     };
-    let answer = match &*object {
-        Object::DType(dtype) => display(alloc, dtype, buffer, length),
-        _ => KIND,
-    };
-    dtype.put(object);
-    answer
-}
-
-fn display(alloc: Global, dtype: &DType, buffer: &mut [u8], length: &mut usize) -> u32
-    ensures { WritesText (text_of_type (tree dtype.now)) result (buffer.old, length.old) (buffer.new, length.new) }
-{
     match displayed(alloc, dtype) {
         Ok(text) => write_bytes(text.as_bytes(), buffer, length),
         Err(error) => of_library(error),
@@ -70,44 +57,15 @@ pub extern "C" fn vlt_struct_indented(
     buffer: &mut [u8],
     length: &mut usize,
 ) -> u32
-    ensures answer { Within (type_in dtype.old.value) struct_fields
-        (λ code. (result ≡ code) × SameBuffer (buffer.old, length.old) (buffer.new, length.new))
-        (λ fs. WritesText (Some (indented_text (fields_of_pairs fs)))
-        result (buffer.old, length.old) (buffer.new, length.new)) }
+    ensures fills { Fills (on (type_in dtype.old.value) (λ t. within (struct_fields t) (λ fs. unless_memory (gives (indented_text (fields_of_pairs fs)))))) result (buffer.old, length.old) (buffer.new, length.new) }
     ensures kept { dtype.new.value ≡ dtype.old.value }
 {
-    let Some(object) = dtype.take(alloc) else {
+    let Some(dtype) = as_dtype(dtype) else {
         return KIND;
     };
-    let answer = match &*object {
-        Object::DType(dtype) => indented(alloc, dtype, buffer, length),
-        _ => KIND,
+    let Some(fields) = dtype.as_struct_fields_opt() else {
+        return CONDITION;
     };
-    dtype.put(object);
-    answer
-}
-
-fn indented(alloc: Global, dtype: &DType, buffer: &mut [u8], length: &mut usize) -> u32
-    ensures { WithinThe (struct_fields (tree dtype.now))
-        (λ code. (result ≡ code) × SameBuffer (buffer.old, length.old) (buffer.new, length.new))
-        (λ fs. WritesText (Some (indented_text (fields_of_pairs fs)))
-        result (buffer.old, length.old) (buffer.new, length.new)) }
-{
-    match dtype.as_struct_fields_opt() {
-        Some(fields) => write_indented(alloc, fields, buffer, length),
-        None => CONDITION,
-    }
-}
-
-fn write_indented(
-    alloc: Global,
-    fields: &StructFields,
-    buffer: &mut [u8],
-    length: &mut usize,
-) -> u32
-    ensures { WritesText (Some (indented_text (fields_of fields.now)))
-        result (buffer.old, length.old) (buffer.new, length.new) }
-{
     match fields.indented(alloc) {
         Ok(text) => write_bytes(text.as_bytes(), buffer, length),
         Err(error) => of_library(error),

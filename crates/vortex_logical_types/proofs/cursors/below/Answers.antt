@@ -14,11 +14,13 @@ returns c =
     let w = after_steps c.args.path.now (set.contains c.args.paths.now) in
     let v = contains_below c.in-Some.cursor in
     inl (
-      refl,
-      (
-        c.is_end.ensures ∙ ap (λ u. u []) c.in-Some.ensures,
-        element_tells w v c.element.result c.is_some.result c.in-Some.ensures c.element.ensures.paths c.element.ensures.some (search rules),
-        (names_left c.names.result, subst (λ u. AreNames u (names_left c.names.result)) c.in-Some.ensures c.names.ensures.names, search rules),
-      ),
       λ e. false≢true (sym c.if-is_empty.false ∙ c.is_empty.ensures.nothing.1 (c.in-Some.ensures ∙ e)),
+      (
+        refl,
+        (
+          c.is_end.ensures ∙ ap (λ u. u []) c.in-Some.ensures,
+          element_tells w v c.element.result c.is_some.result c.in-Some.ensures c.element.ensures.paths c.element.ensures.some (search rules),
+          (names_left c.names.result, subst (λ u. AreNames u (names_left c.names.result)) c.in-Some.ensures c.names.ensures.names, search rules),
+        ),
+      ),
     )

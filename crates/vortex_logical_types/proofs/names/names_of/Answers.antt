@@ -1,21 +1,19 @@
 -- SPDX-License-Identifier: Apache-2.0
 -- SPDX-FileCopyrightText: Copyright the Vortex contributors
 
-use Rattle.std.proofs.Common.{◌≡◌, ◌∙◌, ◌<◌, None, get_or, length, take, arith, rules}
+use Rattle.std.proofs.Common.{◌∙◌, ◌<◌, length, subst, sym, arith, rules}
+use Rattle.vortex_logical_types.proofs.Several.{fault_here, fault_later, names_step, texts_more}
+use Rattle.std.specs.List.{AllByRecursion}
 use Rattle.std.specs.Str.{IsUtf8}
-use Rattle.vortex_logical_types.specs.Several.{HasNotUtf8, names_cut, whole}
-use Rattle.vortex_logical_types.proofs.Lengths.{left_after, not_utf8}
-use Rattle.vortex_logical_types.proofs.Several.{names_fail, names_step}
+use Rattle.vortex_logical_types.specs.Several.{whole}
 use Rattle.vortex_logical_types.proofs.names.names_of.Goals as goal
 
 pub returns-in_err-name : goal.returns-in_err-name
 returns-in_err-name c =
     let lt : c.loop-length.length-index < length c.args.lengths.now = omega (arith, c.loop-length-test.true) in
-    let fails : length c.loop-length.rest.now < get_or c.args.lengths.now c.loop-length.length-index 0 → names_cut c.args.names.now c.args.lengths.now ≡ None = λ short.
-    c.loop-length.invariant.cut ∙ names_fail c.loop-length.all.items c.loop-length.rest.now c.args.lengths.now c.loop-length.length-index lt short in
-    let other : (IsUtf8 (take (get_or c.args.lengths.now c.loop-length.length-index 0) c.loop-length.rest.now) → ⊥) → HasNotUtf8 whole c.args.names.now c.args.lengths.now = λ bad.
-    not_utf8 whole c.args.names.now c.args.lengths.now c.loop-length.length-index c.loop-length.rest.now lt c.loop-length.invariant.left bad
-    in search (rules, fails, other)
+    let fault = fault_here whole c.loop-length.rest.now c.args.lengths.now c.loop-length.length-index lt in
+    let before = c.loop-length.invariant.fault in
+    search (rules, fault, before)
 
 pub loop-length-preserved : goal.loop-length-preserved
 loop-length-preserved c =
@@ -23,8 +21,9 @@ loop-length-preserved c =
       cut =
           c.loop-length.invariant.cut
           ∙ names_step c.loop-length.all.items _ c.loop-length.rest.now _ _ c.args.lengths.now c.loop-length.length-index lt
-          c.in_ok-name.ensures.0 c.in_ok-name.ensures.1 c.in_ok-name.ensures.2 c.in_ok-push_name.ensures;
-      left =
-          left_after whole c.args.names.now c.args.lengths.now c.loop-length.length-index c.loop-length.rest.now _ lt
-          c.loop-length.invariant.left c.in_ok-name.ensures.0 c.in_ok-name.ensures.2;
+          c.in_ok-name.ensures.0 c.in_ok-name.ensures.2 c.in_ok-name.ensures.3 c.in_ok-push_name.ensures.0;
+      texts = subst (AllByRecursion IsUtf8) (sym c.in_ok-push_name.ensures.0) (texts_more IsUtf8 c.loop-length.all.items _ c.loop-length.invariant.texts c.in_ok-push_name.ensures.1);
+      fault = λ code f.
+          c.loop-length.invariant.fault code
+          (fault_later whole c.loop-length.rest.now _ c.args.lengths.now c.loop-length.length-index code lt c.in_ok-name.ensures.0 c.in_ok-name.ensures.1 c.in_ok-name.ensures.3 f);
     }

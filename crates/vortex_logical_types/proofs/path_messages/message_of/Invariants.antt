@@ -4,7 +4,7 @@
 use Rattle.std.proofs.Common.{◌≡◌, ◌++◌, map, take}
 use Rattle.std.specs.List.{flat_map}
 use Rattle.dtype_messages.specs.PathNames.{part_name}
-use Rattle.vortex_logical_types.specs.Messages.{part_bytes, part_length}
+use Rattle.vortex_logical_types.specs.Steps.{part_bytes, part_length}
 use Rattle.vortex_logical_types.specs.Steps.{step_size}
 use Rattle.vortex_logical_types.proofs.Lengths.{IsLeftAt}
 use Rattle.vortex_logical_types.proofs.path_messages.message_of.Given as goal

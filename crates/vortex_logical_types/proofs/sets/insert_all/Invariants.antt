@@ -2,7 +2,7 @@
 -- SPDX-FileCopyrightText: Copyright the Vortex contributors
 
 use Rattle.std.proofs.Common.{◌≡◌, take}
-use Rattle.vortex_logical_types.specs.Objects.{path_in}
+use Rattle.vortex_logical_types.specs.Slots.{path_in}
 use Rattle.vortex_logical_types.specs.Several.{GainsFirst, each_in, objects_in}
 use Rattle.vortex_logical_types.proofs.sets.insert_all.Given as goal
 

@@ -4,7 +4,7 @@
 use Rattle.std.proofs.Common.{◌≡◌, ◌≢◌, ◌<◌, get_or, length, take, arith, rules}
 use Rattle.std.specs.List.{sum_by}
 use Rattle.std.specs.Str.{IsUtf8}
-use Rattle.vortex_logical_types.specs.Several.{HasNotUtf8}
+use Rattle.vortex_logical_types.specs.Steps.{HasNotUtf8}
 use Rattle.vortex_logical_types.specs.Steps.{step_size}
 use Rattle.vortex_logical_types.proofs.Lengths.{not_utf8, too_long}
 use Rattle.vortex_logical_types.proofs.steps.steps_of.Goals as goal

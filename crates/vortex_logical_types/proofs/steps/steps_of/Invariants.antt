@@ -3,7 +3,7 @@
 
 use Rattle.std.proofs.Common.{◌≡◌, ◌++◌, map, take}
 use Rattle.std.specs.List.{flat_map}
-use Rattle.vortex_logical_types.specs.Objects.{step_bytes, step_length}
+use Rattle.vortex_logical_types.specs.Steps.{step_bytes, step_length}
 use Rattle.vortex_logical_types.specs.Steps.{step_size}
 use Rattle.vortex_logical_types.proofs.Lengths.{IsLeftAt}
 use Rattle.vortex_logical_types.proofs.steps.steps_of.Given as goal

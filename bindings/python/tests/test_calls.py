@@ -1,33 +1,15 @@
 # SPDX-License-Identifier: Apache-2.0
 # SPDX-FileCopyrightText: Copyright the Vortex contributors
 
-"""The calls of the package, each on a value or two; and threads."""
+"""The calls of the package, each on a value or two."""
 import copy
 import doctest
-import gc
 import pickle
-import threading
 import unittest
 
 import vortex_logical_types
 from vortex_logical_types import (ELEMENT, Below, DType, FieldMask, FieldPath, FieldPathSet, FlatMessage, Kind, LibraryError,
-                                  Message, Node, PType, Unreadable, VortexError, WrongThread, _native, answer)
-
-
-def on_another_thread(call):
-    """What a call returns, or raises, on a thread of its own."""
-    found = []
-
-    def run():
-        try:
-            found.append(call())
-        except BaseException as error:  # (any is what the test asks for)
-            found.append(error)
-
-    thread = threading.Thread(target=run)
-    thread.start()
-    thread.join()
-    return found[0]
+                                  Message, Node, PType, Unreadable, VortexError, answer)
 
 
 class Calls(unittest.TestCase):
@@ -178,8 +160,7 @@ class Calls(unittest.TestCase):
         whole = DType("{a=list(i32)?, b=union(x@3=utf8, y@1=decimal(10,-2)), c=x.tag[0x00ff](map(u8, bool?, keys_sorted=true))}")
         flat = whole.to_proto().to_flat()
         self.assertEqual(Message.from_flat(flat), whole.to_proto())
-        self.assertEqual(on_another_thread(
-            lambda: DType.from_proto(Message.from_flat(flat), allow_unknown=True).names), ["a", "b", "c"])
+        self.assertEqual(DType.from_proto(Message.from_flat(flat), allow_unknown=True).names, ["a", "b", "c"])
         self.assertEqual(pickle.loads(pickle.dumps(flat)), flat)
         nodes = [Node(kind=10, names=1, types=1, nullable=1), Node(kind=14, number=2), Node(kind=3, value=3)]
         self.assertEqual(DType.from_proto(Message.from_nodes(nodes, b"id")), DType("{id=u64}?"))
@@ -205,24 +186,6 @@ class Calls(unittest.TestCase):
         self.assertEqual((answer(""), answer(" # a comment")), (None, None))
         self.assertTrue((answer("find") or "").startswith("unreadable at "))
         self.assertTrue((answer(b"\xff") or "").startswith("unreadable"))
-
-    def test_keeps_to_its_thread(self):
-        whole, path = DType("{a=i8}"), FieldPath("a")
-        for call in (whole.copy, lambda: path.resolve(whole), lambda: whole == DType("i8"), lambda: hash(path)):
-            self.assertIsInstance(on_another_thread(call), WrongThread)
-        sent = whole.to_source()
-        self.assertEqual(on_another_thread(lambda: DType(sent).names), ["a"])
-        held = [DType("i8")]
-        self.assertEqual(on_another_thread(lambda: (held.clear(), gc.collect()) and None), None)
-        self.assertEqual(len(_native.here.thread.garbage), 1)
-        DType("i8")
-        self.assertEqual(len(_native.here.thread.garbage), 0)
-        # (those of a thread that has ended are freed at once)
-        made = on_another_thread(lambda: DType("i8"))
-        self.assertRaises(WrongThread, made.copy)
-        del made
-        gc.collect()
-        self.assertEqual(len(_native.here.thread.garbage), 0)
 
     def test_has_examples(self):
         self.assertEqual(doctest.testmod(vortex_logical_types).failed, 0)

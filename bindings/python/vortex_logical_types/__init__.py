@@ -20,11 +20,13 @@ A call that the library refuses raises a `VortexError`. Its `number` is 100 + n 
 docs/GUIDE.md lists, and below 100 for an error of the interface. For example, it is 116 if `project` is passed a name
 that no field has, 5 if a precondition isn't met, and 9 if an argument is out of its range.
 
-An object belongs to the thread that made it, and a call from another thread raises `WrongThread`. To take a type to
-another thread, send its text, or the flat form of its message:
+An argument of the wrong type raises a `TypeError` that names the parameter.
 
->>> sent = orders.to_proto().to_flat()  # bytes
->>> DType.from_proto(Message.from_flat(sent)) == orders
+Objects may be shared between threads. They can be copied by `copy`, and pickled, for example to send them to another
+process:
+
+>>> import pickle
+>>> pickle.loads(pickle.dumps(orders)) == orders
 True
 """
 
@@ -32,23 +34,33 @@ from __future__ import annotations
 
 import ctypes
 import enum
-from typing import Any, Iterable, Iterator, NamedTuple, Optional, Union
+from typing import Any, Callable, Iterable, Iterator, NamedTuple, Optional, TypeVar, Union
 
 from . import _table
+from ._arguments import (
+    bytes_given,
+    flag_given,
+    instance_given,
+    items_given,
+    number_given,
+    position_given,
+    text_given,
+    text_or_none_given,
+    wrong,
+)
 from ._native import (
     LibraryError,
     Object,
     OutOfMemory,
     Unreadable,
     VortexError,
-    WrongThread,
     bytes_and_length,
     bytes_found,
     error_of,
     found,
     is_done,
+    joined_names,
     made,
-    names,
     native,
     number,
     read,
@@ -74,9 +86,11 @@ __all__ = [
     "PType",
     "Unreadable",
     "VortexError",
-    "WrongThread",
     "answer",
 ]
+
+
+T = TypeVar("T", bound=Object)
 
 
 class Element(enum.Enum):
@@ -120,9 +134,10 @@ class DType(Object):
     """A logical type. `DType("{a=list(i32?)}")` reads a text in the form of the library's console."""
 
     __slots__ = ()
+    _copy = native.vlt_dtype_copy
 
-    def __init__(self, source: str) -> None:
-        read(self, native.vlt_dtype_from_text, source)
+    def __new__(cls: type[T], source: str) -> T:
+        return read(cls, native.vlt_dtype_from_text, text_given(source, "source"))
 
     @staticmethod
     def null() -> DType:
@@ -132,61 +147,71 @@ class DType(Object):
     @staticmethod
     def bool_(nullable: bool = False) -> DType:
         """Returns the type of truth values."""
-        return made(DType, native.vlt_dtype_bool, nullable)
+        return made(DType, native.vlt_dtype_bool, flag_given(nullable, "nullable"))
 
     @staticmethod
     def primitive(ptype: PType, nullable: bool = False) -> DType:
         """Returns the type with this primitive type, for example `i32`."""
-        return made(DType, native.vlt_dtype_primitive, PType(ptype), nullable)
+        given = instance_given(ptype, PType, "ptype").value
+        return made(DType, native.vlt_dtype_primitive, given, flag_given(nullable, "nullable"))
 
     @staticmethod
     def decimal(precision: int, scale: int, nullable: bool = False) -> DType:
         """Returns the decimal type with this precision and scale. Raises `LibraryError` 101 to 104 if the precision
         isn't from 1 to 76, or if the scale is above 76 or above the precision, and 9 if the precision isn't from 0
         to 255 or the scale isn't from -128 to 127."""
-        if not 0 <= precision < 256 or not -128 <= scale < 128:
+        given = number_given(precision, "precision"), number_given(scale, "scale")
+        is_nullable = flag_given(nullable, "nullable")
+        if not 0 <= given[0] < 256 or not -128 <= given[1] < 128:
             raise error_of(_table.RANGE)
-        return made(DType, native.vlt_dtype_decimal, precision, scale, nullable)
+        return made(DType, native.vlt_dtype_decimal, *given, is_nullable)
 
     @staticmethod
     def utf8(nullable: bool = False) -> DType:
         """Returns the type of texts."""
-        return made(DType, native.vlt_dtype_utf8, nullable)
+        return made(DType, native.vlt_dtype_utf8, flag_given(nullable, "nullable"))
 
     @staticmethod
     def binary(nullable: bool = False) -> DType:
         """Returns the type of byte strings."""
-        return made(DType, native.vlt_dtype_binary, nullable)
+        return made(DType, native.vlt_dtype_binary, flag_given(nullable, "nullable"))
 
     @staticmethod
     def variant(nullable: bool = False) -> DType:
         """Returns the type `variant`. Each of its values carries its own type."""
-        return made(DType, native.vlt_dtype_variant, nullable)
+        return made(DType, native.vlt_dtype_variant, flag_given(nullable, "nullable"))
 
     @staticmethod
     def list_(element: DType, nullable: bool = False) -> DType:
         """Returns the list type with this element type. Raises `LibraryError` 6 if the element type has 128 levels."""
-        return made(DType, native.vlt_dtype_list, element._own, nullable)
+        given = instance_given(element, DType, "element")
+        return made(DType, native.vlt_dtype_list, given._slot, flag_given(nullable, "nullable"))
 
     @staticmethod
     def fixed_size_list(element: DType, size: int, nullable: bool = False) -> DType:
         """Returns the fixed-size list type with this element type and size. Raises `LibraryError` 9 if the size
         isn't from 0 to 2**32 - 1, and 6 if the element type has 128 levels."""
-        if not 0 <= size < 1 << 32:
+        given, count = instance_given(element, DType, "element"), number_given(size, "size")
+        is_nullable = flag_given(nullable, "nullable")
+        if not 0 <= count < 1 << 32:
             raise error_of(_table.RANGE)
-        return made(DType, native.vlt_dtype_fixed_size_list, element._own, size, nullable)
+        return made(DType, native.vlt_dtype_fixed_size_list, given._slot, count, is_nullable)
 
     @staticmethod
     def map_(key: DType, value: DType, keys_sorted: bool = False, nullable: bool = False) -> DType:
         """Returns the map type with these key and value types. Raises `LibraryError` 109 if the key type is
         nullable, and 6 if one of the two types has 128 levels."""
-        return made(DType, native.vlt_dtype_map, key._own, value._other_than(key), keys_sorted, nullable)
+        keys = instance_given(key, DType, "key")
+        values = instance_given(value, DType, "value")._other_than(keys)
+        return made(DType, native.vlt_dtype_map, keys._slot, values._slot, flag_given(keys_sorted, "keys_sorted"),
+                    flag_given(nullable, "nullable"))
 
     @staticmethod
     def struct(fields: Iterable[tuple[str, DType]], nullable: bool = False) -> DType:
         """Returns the struct type with these fields, each a pair of a name and a type. Raises `LibraryError` 6 if
         the type of a field has 128 levels."""
-        return DType._of_parts(native.vlt_dtype_struct, fields, (nullable,))
+        given = items_given(fields, "fields", "pairs", _part_given)
+        return DType._of_parts(native.vlt_dtype_struct, given, flag_given(nullable, "nullable"))
 
     @staticmethod
     def union(variants: Iterable[tuple[str, DType]], nullable: bool = False, tags: Optional[bytes] = None) -> DType:
@@ -194,26 +219,27 @@ class DType(Object):
         for each variant, for example `bytes([5, 9])`. Without `tags` the tags are 0, 1, 2 and so on. Raises
         `LibraryError` 111 to 115 if the variants and tags don't make a union, for example 113 if a tag repeats, and 6
         if the type of a variant has 128 levels."""
+        given, is_nullable = items_given(variants, "variants", "pairs", _part_given), flag_given(nullable, "nullable")
         if tags is None:
-            return DType._of_parts(native.vlt_dtype_union_consecutive, variants, (nullable,))
-        return DType._of_parts(native.vlt_dtype_union, variants, (bytes(tags), len(tags), nullable))
+            return DType._of_parts(native.vlt_dtype_union_consecutive, given, is_nullable)
+        numbers = bytes_given(tags, "tags")
+        return DType._of_parts(native.vlt_dtype_union, given, numbers, len(numbers), is_nullable)
 
     @staticmethod
     def extension(id: str, metadata: bytes, storage: DType) -> DType:
         """Returns the extension type with this id, this metadata and this storage type. Raises `LibraryError` 6 if
         the storage type has 128 levels."""
-        given = id.encode()
-        return made(DType, native.vlt_dtype_extension, given, len(given), bytes(metadata), len(metadata), storage._own)
+        given, about = text_given(id, "id"), bytes_given(metadata, "metadata")
+        kept = instance_given(storage, DType, "storage")
+        return made(DType, native.vlt_dtype_extension, given, len(given), about, len(about), kept._slot)
 
     @staticmethod
-    def _of_parts(call: Any, parts: Iterable[tuple[str, DType]], rest: tuple[Any, ...]) -> DType:
-        parts = [*parts]
-        given, own = names(name for name, _ in parts), [dtype._own for _, dtype in parts]
+    def _of_parts(call: Callable[..., int], parts: list[tuple[bytes, DType]], *rest: Any) -> DType:
         dtypes = (_table.Slot * len(parts))()
         try:
-            for copy, slot in zip(dtypes, own):
-                is_done(native.vlt_dtype_copy(slot, copy))
-            return made(DType, call, *given, dtypes, len(parts), *rest)
+            for copy, (_, dtype) in zip(dtypes, parts):
+                is_done(native.vlt_dtype_copy(dtype._slot, copy))
+            return made(DType, call, *joined_names([name for name, _ in parts]), dtypes, len(parts), *rest)
         finally:
             for copy in dtypes:
                 native.vlt_free(copy)
@@ -225,31 +251,31 @@ class DType(Object):
     @property
     def kind(self) -> Kind:
         """The kind of the type."""
-        return Kind(number(ctypes.c_uint32, native.vlt_dtype_kind, self._own))
+        return Kind(number(ctypes.c_uint32, native.vlt_dtype_kind, self._slot))
 
     @property
     def is_nullable(self) -> bool:
         """Whether the type is nullable. An extension type is nullable if its storage type is."""
-        return is_done(native.vlt_dtype_is_nullable(self._own))
+        return is_done(native.vlt_dtype_is_nullable(self._slot))
 
     @property
     def can_be_nonnullable(self) -> bool:
         """Whether the type can be made non-nullable. This is true of all types except `null` and extension types
         over it."""
-        return is_done(native.vlt_dtype_can_be_nonnullable(self._own))
+        return is_done(native.vlt_dtype_can_be_nonnullable(self._slot))
 
     def with_nullability(self, nullable: bool) -> DType:
         """Returns the type, made nullable or non-nullable. Raises `LibraryError` 5 if it can't be made non-nullable."""
-        return made(DType, native.vlt_dtype_with_nullability, self._own, nullable)
+        return made(DType, native.vlt_dtype_with_nullability, self._slot, flag_given(nullable, "nullable"))
 
     def union_nullability(self, nullable: bool) -> DType:
         """Returns the type, which is nullable if it was nullable or if `nullable` is true."""
-        return made(DType, native.vlt_dtype_union_nullability, self._own, nullable)
+        return made(DType, native.vlt_dtype_union_nullability, self._slot, flag_given(nullable, "nullable"))
 
     @property
     def ptype(self) -> Optional[PType]:
         """The primitive type, or None for a type that isn't primitive."""
-        it = number(ctypes.c_uint32, native.vlt_dtype_ptype, self._own)
+        it = number(ctypes.c_uint32, native.vlt_dtype_ptype, self._slot)
         return None if it is None else PType(it)
 
     @property
@@ -257,83 +283,83 @@ class DType(Object):
         """The precision and the scale of a decimal type, or None for another type."""
         precision, scale = ctypes.c_uint8(), ctypes.c_int8()
         return (precision.value, scale.value) if is_done(
-            native.vlt_dtype_decimal_parts(self._own, precision, scale)) else None
+            native.vlt_dtype_decimal_parts(self._slot, precision, scale)) else None
 
     @property
     def element(self) -> Optional[DType]:
         """The element type of a list or a fixed-size list, or None for another type."""
-        return found(DType, native.vlt_dtype_element, self._own)
+        return found(DType, native.vlt_dtype_element, self._slot)
 
     @property
     def fixed_size(self) -> Optional[int]:
         """The size of a fixed-size list, or None for another type."""
-        return number(ctypes.c_uint32, native.vlt_dtype_fixed_size, self._own)
+        return number(ctypes.c_uint32, native.vlt_dtype_fixed_size, self._slot)
 
     @property
     def key(self) -> Optional[DType]:
         """The key type of a map, or None for another type."""
-        return found(DType, native.vlt_dtype_key, self._own)
+        return found(DType, native.vlt_dtype_key, self._slot)
 
     @property
     def value(self) -> Optional[DType]:
         """The value type of a map, or None for another type."""
-        return found(DType, native.vlt_dtype_value, self._own)
+        return found(DType, native.vlt_dtype_value, self._slot)
 
     @property
     def keys_sorted(self) -> bool:
         """Whether the keys of the map are declared sorted. Raises `LibraryError` 5 if the type isn't a map."""
-        return is_done(native.vlt_dtype_keys_sorted(self._own))
+        return is_done(native.vlt_dtype_keys_sorted(self._slot))
 
     @property
     def entries(self) -> Optional[DType]:
         """The type of the entries of a map, a struct of a key and a value, or None for another type."""
-        return found(DType, native.vlt_dtype_entries, self._own)
+        return found(DType, native.vlt_dtype_entries, self._slot)
 
     @property
     def storage(self) -> Optional[DType]:
         """The storage type of an extension type, or None for another type."""
-        return found(DType, native.vlt_dtype_storage, self._own)
+        return found(DType, native.vlt_dtype_storage, self._slot)
 
     @property
     def id(self) -> Optional[str]:
         """The id of an extension type, or None for another type."""
-        return text_found(native.vlt_dtype_id, self._own)
+        return text_found(native.vlt_dtype_id, self._slot)
 
     @property
     def metadata(self) -> Optional[bytes]:
         """The metadata of an extension type, or None for another type."""
-        return bytes_found(native.vlt_dtype_metadata, self._own)
+        return bytes_found(native.vlt_dtype_metadata, self._slot)
 
     @property
     def element_size(self) -> Optional[int]:
         """The number of bytes that each value takes, or None if a part of the type is of variable width, such as a
         text. Raises `LibraryError` 119 if the type or a part of it is wider than a number of 64 bits can say."""
-        return number(ctypes.c_size_t, native.vlt_dtype_element_size, self._own)
+        return number(ctypes.c_size_t, native.vlt_dtype_element_size, self._slot)
 
     # Fields of a struct. Each raises `LibraryError` 5 if the type is no struct.
 
     @property
     def nfields(self) -> int:
         """The number of fields."""
-        return number(ctypes.c_size_t, native.vlt_struct_nfields, self._own) or 0
+        return number(ctypes.c_size_t, native.vlt_struct_nfields, self._slot) or 0
 
     def field_name(self, index: int) -> Optional[str]:
         """Returns the name of the field at this position, or None if no field is there."""
-        return text_found(native.vlt_struct_field_name, self._own, _position(index))
+        return text_found(native.vlt_struct_field_name, self._slot, position_given(index, "index"))
 
     def field_by_index(self, index: int) -> Optional[DType]:
         """Returns the type of the field at this position, or None if no field is there."""
-        return found(DType, native.vlt_struct_field_by_index, self._own, _position(index))
+        return found(DType, native.vlt_struct_field_by_index, self._slot, position_given(index, "index"))
 
     def find(self, name: str) -> Optional[int]:
         """Returns the position of the first field with this name, or None."""
-        given = name.encode()
-        return number(ctypes.c_size_t, native.vlt_struct_find, self._own, given, len(given))
+        given = text_given(name, "name")
+        return number(ctypes.c_size_t, native.vlt_struct_find, self._slot, given, len(given))
 
     def field(self, name: str) -> Optional[DType]:
         """Returns the type of the first field with this name, or None."""
-        given = name.encode()
-        return found(DType, native.vlt_struct_field, self._own, given, len(given))
+        given = text_given(name, "name")
+        return found(DType, native.vlt_struct_field, self._slot, given, len(given))
 
     @property
     def names(self) -> list[str]:
@@ -343,149 +369,156 @@ class DType(Object):
     @property
     def fields(self) -> list[tuple[str, DType]]:
         """The fields, in order, each a pair of a name and a type."""
-        return [(self.field_name(it) or "", made(DType, native.vlt_struct_field_by_index, self._own, it))
+        return [(self.field_name(it) or "", made(DType, native.vlt_struct_field_by_index, self._slot, it))
                 for it in range(self.nfields)]
 
-    def project(self, names_: Iterable[str]) -> DType:
+    def project(self, names: Iterable[str]) -> DType:
         """Returns the struct of the fields with these names, in the order of the names. Raises `LibraryError` 116 if
         a name isn't the name of a field."""
-        return made(DType, native.vlt_struct_project, self._own, *names(names_))
+        given = items_given(names, "names", "str", text_given, (Object,))
+        return made(DType, native.vlt_struct_project, self._slot, *joined_names(given))
 
     def without_field(self, index: int) -> DType:
         """Returns the struct without the field at this position. Raises `LibraryError` 117 if no field is there."""
-        return made(DType, native.vlt_struct_without_field, self._own, _position(index))
+        return made(DType, native.vlt_struct_without_field, self._slot, position_given(index, "index"))
 
     def disjoint_merge(self, other: DType) -> DType:
         """Returns the struct of the fields of both. Raises `LibraryError` 118 if a name occurs twice among them."""
-        return made(DType, native.vlt_struct_disjoint_merge, self._own, other._other_than(self))
+        it = instance_given(other, DType, "other")._other_than(self)
+        return made(DType, native.vlt_struct_disjoint_merge, self._slot, it._slot)
 
     def indented(self) -> str:
         """Returns the text of the fields with a line for each field."""
-        return text(native.vlt_struct_indented, self._own)
+        return text(native.vlt_struct_indented, self._slot)
 
     # Variants of a union. Each raises `LibraryError` 5 if the type is no union.
 
     @property
     def nvariants(self) -> int:
         """The number of variants."""
-        return number(ctypes.c_size_t, native.vlt_union_len, self._own) or 0
+        return number(ctypes.c_size_t, native.vlt_union_len, self._slot) or 0
 
     def variant_name(self, index: int) -> Optional[str]:
         """Returns the name of the variant at this position, or None if no variant is there."""
-        return text_found(native.vlt_union_variant_name, self._own, _position(index))
+        return text_found(native.vlt_union_variant_name, self._slot, position_given(index, "index"))
 
     def variant_by_index(self, index: int) -> Optional[DType]:
         """Returns the type of the variant at this position, or None if no variant is there."""
-        return found(DType, native.vlt_union_variant_by_index, self._own, _position(index))
+        return found(DType, native.vlt_union_variant_by_index, self._slot, position_given(index, "index"))
 
     def find_variant(self, name: str) -> Optional[int]:
         """Returns the position of the variant with this name, or None."""
-        given = name.encode()
-        return number(ctypes.c_size_t, native.vlt_union_find, self._own, given, len(given))
+        given = text_given(name, "name")
+        return number(ctypes.c_size_t, native.vlt_union_find, self._slot, given, len(given))
 
     def variant_of(self, name: str) -> Optional[DType]:
         """Returns the type of the variant with this name, or None."""
-        given = name.encode()
-        return found(DType, native.vlt_union_variant, self._own, given, len(given))
+        given = text_given(name, "name")
+        return found(DType, native.vlt_union_variant, self._slot, given, len(given))
 
     def child_index_to_tag(self, index: int) -> Optional[int]:
         """Returns the tag of the variant at this position, or None if no variant is there."""
-        return number(ctypes.c_uint8, native.vlt_union_child_index_to_tag, self._own, _position(index))
+        return number(ctypes.c_uint8, native.vlt_union_child_index_to_tag, self._slot, position_given(index, "index"))
 
     def tag_to_child_index(self, tag: int) -> Optional[int]:
         """Returns the position of the variant with this tag, or None."""
-        if not 0 <= tag < 256:
+        given = number_given(tag, "tag")
+        if not 0 <= given < 256:
             return None
-        return number(ctypes.c_size_t, native.vlt_union_tag_to_child_index, self._own, tag)
+        return number(ctypes.c_size_t, native.vlt_union_tag_to_child_index, self._slot, given)
 
     @property
     def is_consecutive(self) -> bool:
         """Whether the tags are 0, 1, 2 and so on, in this order."""
-        return is_done(native.vlt_union_is_consecutive(self._own))
+        return is_done(native.vlt_union_is_consecutive(self._slot))
 
     # Comparisons.
-
-    def copy(self) -> DType:
-        """Returns an equal type, which is another object."""
-        return made(DType, native.vlt_dtype_copy, self._own)
 
     def __eq__(self, other: object) -> bool:
         if not isinstance(other, DType):
             return NotImplemented
-        return self is other or is_done(native.vlt_dtype_eq(self._own, other._own))
+        return self is other or is_done(native.vlt_dtype_eq(self._slot, other._slot))
 
     def __hash__(self) -> int:
-        return hash(number(ctypes.c_uint64, native.vlt_dtype_hash, self._own))
+        return hash(number(ctypes.c_uint64, native.vlt_dtype_hash, self._slot))
 
     def eq_ignore_nullability(self, other: DType) -> bool:
         """Returns whether the two types are equal except for nullability, at every depth."""
-        return self is other or is_done(native.vlt_dtype_eq_ignore_nullability(self._own, other._own))
+        it = instance_given(other, DType, "other")
+        return self is it or is_done(native.vlt_dtype_eq_ignore_nullability(self._slot, it._slot))
 
     def hash_ignore_nullability(self) -> int:
         """Returns a hash that is the same for types that are equal except for nullability."""
-        return number(ctypes.c_uint64, native.vlt_dtype_hash_ignore_nullability, self._own) or 0
+        return number(ctypes.c_uint64, native.vlt_dtype_hash_ignore_nullability, self._slot) or 0
 
     def eq_with_nullability_subset(self, other: DType) -> bool:
         """Returns whether this type is a subset of the other: the two are equal except for nullability, and the
         other is nullable wherever this type is."""
-        return self is other or is_done(native.vlt_dtype_nullability_subset(self._own, other._own))
+        it = instance_given(other, DType, "other")
+        return self is it or is_done(native.vlt_dtype_nullability_subset(self._slot, it._slot))
 
     def eq_with_nullability_superset(self, other: DType) -> bool:
         """Returns whether the other type is a subset of this one."""
-        return self is other or is_done(native.vlt_dtype_nullability_superset(self._own, other._own))
+        it = instance_given(other, DType, "other")
+        return self is it or is_done(native.vlt_dtype_nullability_superset(self._slot, it._slot))
 
     def merge_nullability(self, other: DType) -> Optional[DType]:
         """Returns the least type of which both types are subsets, or None if they differ in more than nullability."""
-        return found(DType, native.vlt_dtype_merge_nullability, self._own, other._other_than(self))
+        it = instance_given(other, DType, "other")._other_than(self)
+        return found(DType, native.vlt_dtype_merge_nullability, self._slot, it._slot)
 
     def intersect_nullability(self, other: DType) -> Optional[DType]:
         """Returns the greatest type that is a subset of both, or None if they differ in more than nullability."""
-        return found(DType, native.vlt_dtype_intersect_nullability, self._own, other._other_than(self))
+        it = instance_given(other, DType, "other")._other_than(self)
+        return found(DType, native.vlt_dtype_intersect_nullability, self._slot, it._slot)
 
     def project_paths(self, paths: FieldPathSet) -> Optional[DType]:
         """Returns the part of the type that a reader of these paths opens, or None if none of them exists in the
         type."""
-        return found(DType, native.vlt_project_paths, self._own, paths._own)
+        given = instance_given(paths, FieldPathSet, "paths")
+        return found(DType, native.vlt_project_paths, self._slot, given._slot)
 
     @staticmethod
     def from_proto(message: Message, allow_unknown: bool = False) -> DType:
         """Returns the type that a message describes. For a message that describes no type it raises `LibraryError`
         with 100 plus the number of the message's first fault, for example 124 for a message without a kind. An
         extension raises 135, unless `allow_unknown` is true: then it is kept with its metadata."""
-        return made(DType, native.vlt_message_to_dtype, message._own, allow_unknown)
+        given = instance_given(message, Message, "message")
+        return made(DType, native.vlt_message_to_dtype, given._slot, flag_given(allow_unknown, "allow_unknown"))
 
     def to_proto(self) -> Message:
         """Returns the message that describes the type."""
-        return made(Message, native.vlt_dtype_to_message, self._own)
+        return made(Message, native.vlt_dtype_to_message, self._slot)
 
     def to_source(self) -> str:
         """Returns the text of the type in the form of the console. `DType` reads it as the same type."""
-        return text(native.vlt_dtype_to_text, self._own)
+        return text(native.vlt_dtype_to_text, self._slot)
 
     def __str__(self) -> str:
-        return text(native.vlt_dtype_display, self._own)
+        return text(native.vlt_dtype_display, self._slot)
 
     def __repr__(self) -> str:
         return f"DType({self.to_source()!r})"
 
-    def __reduce__(self) -> tuple[type, tuple[str]]:
-        return DType, (self.to_source(),)
+    def _made_by(self) -> tuple[type, tuple[str]]:
+        return type(self), (self.to_source(),)
 
 
-def _position(index: int) -> int:
-    """Returns the position, or the greatest number of 64 bits if that is less. Raises IndexError if it is negative."""
-    if index < 0:
-        raise IndexError("a position isn't negative")
-    return min(index, 2**64 - 1)
+def _part_given(it: tuple[str, DType], name: str) -> tuple[bytes, DType]:
+    """Returns a pair of a name and a type, the name in UTF-8."""
+    if not isinstance(it, (tuple, list)) or len(it) != 2:
+        raise wrong(name, "a pair of a str and a DType", it)
+    return text_given(it[0], f"{name}[0]"), instance_given(it[1], DType, f"{name}[1]")
 
 
 class FieldPath(Object):
     """A path into a type. `FieldPath("a.[].b")` reads a text in the form of the console, in which the root is `.`."""
 
     __slots__ = ()
+    _copy = native.vlt_path_copy
 
-    def __init__(self, source: str = ".") -> None:
-        read(self, native.vlt_path_from_text, source)
+    def __new__(cls: type[T], source: str = ".") -> T:
+        return read(cls, native.vlt_path_from_text, text_given(source, "source"))
 
     @staticmethod
     def root() -> FieldPath:
@@ -495,33 +528,33 @@ class FieldPath(Object):
     @staticmethod
     def from_steps(steps: Iterable[Step]) -> FieldPath:
         """Returns the path of these steps. A step is a name or `ELEMENT`."""
-        return made(FieldPath, native.vlt_path_from_steps, *names(None if it is ELEMENT else it for it in steps))
+        given = items_given(steps, "steps", "steps", _step_given)
+        return made(FieldPath, native.vlt_path_from_steps, *joined_names(given))
 
     @staticmethod
     def from_proto(parts: Iterable[Optional[str]]) -> FieldPath:
         """Returns the path that a path message describes. `parts` has the name in each part of the message, or None
         for a part without a kind. For such a part it raises `LibraryError` 136."""
-        return made(FieldPath, native.vlt_path_from_message, *names(parts))
+        given = items_given(parts, "parts", "str and None", text_or_none_given, (Object,))
+        return made(FieldPath, native.vlt_path_from_message, *joined_names(given))
 
     @staticmethod
     def from_proto_source(source: str) -> FieldPath:
         """Returns the path that a path message in protobuf's text format describes. For example, the message
         `path { name: "a" } path { name: "b" }` describes the path `a.b`."""
-        it = FieldPath.__new__(FieldPath)
-        read(it, native.vlt_path_from_message_text, source)
-        return it
+        return read(FieldPath, native.vlt_path_from_message_text, text_given(source, "source"))
 
     def __len__(self) -> int:
-        return number(ctypes.c_size_t, native.vlt_path_len, self._own) or 0
+        return number(ctypes.c_size_t, native.vlt_path_len, self._slot) or 0
 
     def __bool__(self) -> bool:
         return True
 
     def __getitem__(self, index: int) -> Step:
-        it = bytes_and_length(native.vlt_path_step, self._own, index + len(self) if index < 0 else index) if (
-            index >= -len(self)) else None
+        given, count = number_given(index, "index"), len(self)
+        it = bytes_and_length(native.vlt_path_step, self._slot, given % count) if -count <= given < count else None
         if it is None:
-            raise IndexError("a path has no such step")
+            raise IndexError(f"index must be from {-count} to {count - 1}, not {given}" if count else "the root has no steps")
         return ELEMENT if it[1] == _table.ELEMENT else it[0].decode()
 
     def __iter__(self) -> Iterator[Step]:
@@ -539,56 +572,55 @@ class FieldPath(Object):
 
     def push(self, step: Step) -> FieldPath:
         """Returns the path with one more step at its end."""
-        if step is ELEMENT:
-            return made(FieldPath, native.vlt_path_push_element, self._own)
-        given = step.encode()
-        return made(FieldPath, native.vlt_path_push_name, self._own, given, len(given))
+        given = _step_given(step, "step")
+        if given is None:
+            return made(FieldPath, native.vlt_path_push_element, self._slot)
+        return made(FieldPath, native.vlt_path_push_name, self._slot, given, len(given))
 
     def step_into(self) -> Optional[FieldPath]:
         """Returns the path without its first step, or None if it is the root."""
-        return found(FieldPath, native.vlt_path_step_into, self._own)
+        return found(FieldPath, native.vlt_path_step_into, self._slot)
 
     def starts_with_name(self, name: str) -> bool:
         """Returns whether the first step is this name. Raises `LibraryError` 5 if that step goes into an element."""
-        given = name.encode()
-        return is_done(native.vlt_path_starts_with_name(self._own, given, len(given)))
+        given = text_given(name, "name")
+        return is_done(native.vlt_path_starts_with_name(self._slot, given, len(given)))
 
     def resolve(self, dtype: DType) -> Optional[DType]:
         """Returns the type at the path in `dtype`, or None if there is none."""
-        return found(DType, native.vlt_path_resolve, dtype._own, self._own)
+        given = instance_given(dtype, DType, "dtype")
+        return found(DType, native.vlt_path_resolve, given._slot, self._slot)
 
     def exists_in(self, dtype: DType) -> bool:
         """Returns whether there is a type at the path in `dtype`."""
-        return is_done(native.vlt_path_exists_in(dtype._own, self._own))
+        given = instance_given(dtype, DType, "dtype")
+        return is_done(native.vlt_path_exists_in(given._slot, self._slot))
 
     def overlap(self, other: FieldPath) -> bool:
         """Returns whether one of the two paths is a prefix of the other."""
-        return self is other or is_done(native.vlt_path_overlap(self._own, other._own))
-
-    def copy(self) -> FieldPath:
-        """Returns an equal path, which is another object."""
-        return made(FieldPath, native.vlt_path_copy, self._own)
+        it = instance_given(other, FieldPath, "other")
+        return self is it or is_done(native.vlt_path_overlap(self._slot, it._slot))
 
     def __eq__(self, other: object) -> bool:
         if not isinstance(other, FieldPath):
             return NotImplemented
-        return self is other or is_done(native.vlt_path_eq(self._own, other._own))
+        return self is other or is_done(native.vlt_path_eq(self._slot, other._slot))
 
     def __hash__(self) -> int:
-        return hash(number(ctypes.c_uint64, native.vlt_path_hash, self._own))
+        return hash(number(ctypes.c_uint64, native.vlt_path_hash, self._slot))
 
     def to_source(self) -> str:
         """Returns the text of the path in the form of the console. `FieldPath` reads it as the same path."""
-        return text(native.vlt_path_to_text, self._own)
+        return text(native.vlt_path_to_text, self._slot)
 
     def __str__(self) -> str:
-        return text(native.vlt_path_display, self._own)
+        return text(native.vlt_path_display, self._slot)
 
     def __repr__(self) -> str:
         return f"FieldPath({self.to_source()!r})"
 
-    def __reduce__(self) -> tuple[type, tuple[str]]:
-        return FieldPath, (self.to_source(),)
+    def _made_by(self) -> tuple[type, tuple[str]]:
+        return type(self), (self.to_source(),)
 
 
 class _Paths(Object):
@@ -597,12 +629,27 @@ class _Paths(Object):
     __slots__ = ()
 
     def all(self) -> list[FieldPath]:
-        count = number(ctypes.c_size_t, native.vlt_paths_len, self._own) or 0
-        return [made(FieldPath, native.vlt_paths_get, self._own, it) for it in range(count)]
+        count = number(ctypes.c_size_t, native.vlt_paths_len, self._slot) or 0
+        return [made(FieldPath, native.vlt_paths_get, self._slot, it) for it in range(count)]
 
 
-def _path(it: Union[FieldPath, str]) -> FieldPath:
-    return FieldPath(it) if isinstance(it, str) else it
+def _step_given(it: Step, name: str) -> Optional[bytes]:
+    """Returns the name of a step in UTF-8, or None for the step into an element."""
+    if it is not ELEMENT and not isinstance(it, str):
+        raise wrong(name, "a str or ELEMENT", it)
+    return text_given(it, name) if isinstance(it, str) else None
+
+
+def _path_given(it: Union[FieldPath, str], name: str) -> FieldPath:
+    """Returns a path, which is read if it is given as a text."""
+    if not isinstance(it, (FieldPath, str)):
+        raise wrong(name, "a FieldPath or a str", it)
+    return it if isinstance(it, FieldPath) else FieldPath(it)
+
+
+def _paths_given(it: Iterable[Union[FieldPath, str]], name: str) -> list[FieldPath]:
+    """Returns paths, each of which is read if it is given as a text. One path is no iterable of paths here."""
+    return items_given(it, name, "FieldPath and str", _path_given, (FieldPath,))
 
 
 class FieldPathSet(Object):
@@ -611,136 +658,160 @@ class FieldPathSet(Object):
 
     __slots__ = ()
 
+    _copy = native.vlt_set_copy
+    _is_mutable = True
+
+    def __new__(cls: type[T], *_: object, **__: object) -> T:
+        return made(cls, native.vlt_set_new)
+
     def __init__(self, paths: Iterable[Union[FieldPath, str]] = ()) -> None:
-        given = [_path(it) for it in paths]
-        out = _table.Slot()
-        is_done(native.vlt_set_new(out))
-        self._take(out)
-        self.extend(given)
+        self.extend(paths)
 
     def insert(self, path: Union[FieldPath, str]) -> None:
         """Inserts the path. If it is in the set already, nothing changes."""
-        it = _path(path)
-        is_done(native.vlt_set_insert(self._own, it._own))
+        it = _path_given(path, "path")
+        is_done(native.vlt_set_insert(self._slot, it._slot))
 
     def extend(self, paths: Iterable[Union[FieldPath, str]]) -> None:
         """Inserts the paths, in order. All of them are taken from `paths` before the first is inserted."""
-        for it in [_path(path) for path in paths]:
-            is_done(native.vlt_set_insert(self._own, it._own))
+        for it in _paths_given(paths, "paths"):
+            is_done(native.vlt_set_insert(self._slot, it._slot))
 
-    def __contains__(self, path: Union[FieldPath, str]) -> bool:
-        it = _path(path)
-        return is_done(native.vlt_set_contains(self._own, it._own))
+    def __contains__(self, path: object) -> bool:
+        """Returns whether the set contains the path. It contains nothing but paths, so for another object the answer
+        is false. Raises `Unreadable` for a text that isn't one of a path."""
+        if not isinstance(path, (FieldPath, str)):
+            return False
+        it = _path_given(path, "path")
+        return is_done(native.vlt_set_contains(self._slot, it._slot))
 
     def __len__(self) -> int:
-        return number(ctypes.c_size_t, native.vlt_set_len, self._own) or 0
+        return number(ctypes.c_size_t, native.vlt_set_len, self._slot) or 0
 
     def members(self) -> list[FieldPath]:
         """Returns the paths of the set, each once, in no promised order."""
-        return made(_Paths, native.vlt_set_members, self._own).all()
+        return made(_Paths, native.vlt_set_members, self._slot).all()
 
     def __iter__(self) -> Iterator[FieldPath]:
         return iter(self.members())
 
     def cover(self) -> list[FieldPath]:
         """Returns the cover: those paths of the set of which no other path of the set is a prefix."""
-        return made(_Paths, native.vlt_set_cover, self._own).all()
+        return made(_Paths, native.vlt_set_cover, self._slot).all()
 
     def unresolved(self, dtype: DType) -> list[FieldPath]:
         """Returns the paths of the set that don't exist in the type."""
-        return made(_Paths, native.vlt_set_unresolved, self._own, dtype._own).all()
+        given = instance_given(dtype, DType, "dtype")
+        return made(_Paths, native.vlt_set_unresolved, self._slot, given._slot).all()
 
     def below(self, path: Union[FieldPath, str]) -> Optional[Below]:
         """Returns how the paths of the set continue after `path`, or None if none of them begins with `path`. For
         example, the set of `a.b` and `a.c.d` continues after `a` with two names."""
         is_end, has_element, count = ctypes.c_bool(), ctypes.c_bool(), ctypes.c_size_t()
-        it = _path(path)
-        if not is_done(native.vlt_set_below(self._own, it._own, is_end, has_element, count)):
+        it = _path_given(path, "path")
+        if not is_done(native.vlt_set_below(self._slot, it._slot, is_end, has_element, count)):
             return None
         return Below(is_end.value, has_element.value, count.value)
 
     def names_below(self, path: Union[FieldPath, str]) -> Optional[list[str]]:
         """Returns the names with which paths of the set continue after `path`, or None if none of them begins with
         `path`."""
-        it = found(_Paths, native.vlt_set_names_below, self._own, _path(path))
+        given = _path_given(path, "path")
+        it = found(_Paths, native.vlt_set_names_below, self._slot, given._slot)
         return None if it is None else [str(path[0]) for path in it.all()]
-
-    def copy(self) -> FieldPathSet:
-        """Returns an equal set, which is another object."""
-        return made(FieldPathSet, native.vlt_set_copy, self._own)
 
     def __repr__(self) -> str:
         return f"FieldPathSet({[it.to_source() for it in self]!r})"
+
+    def _made_by(self) -> tuple[type, tuple[list[str]]]:
+        return type(self), (sorted(it.to_source() for it in self),)
+
+
+# The kinds of masks, by their numbers.
+MASK_KINDS = ("all", "prefix", "exact")
 
 
 class FieldMask(Object):
     """A selection of paths: all paths, a path with every path below it, or one path alone."""
 
     __slots__ = ()
+    _copy = native.vlt_mask_copy
 
-    def __init__(self) -> None:
-        raise TypeError("a mask is made by FieldMask.all, FieldMask.prefix or FieldMask.exact")
+    def __new__(cls: type[T], kind: str, path: Union[FieldPath, str, None] = None) -> T:
+        """Returns the mask of the kind `all`, or the mask of the kind `prefix` or `exact` with this path. `all`, `prefix`
+        and `exact` are also functions of the class. Raises `ValueError` if there is no such kind, and `TypeError` if a
+        path is passed for `all`, or none for another kind."""
+        if not isinstance(kind, str):
+            raise wrong("kind", "a str", kind)
+        if kind not in MASK_KINDS:
+            raise ValueError(f"kind must be all, prefix or exact, not {kind!r}")
+        if kind == "all" and path is None:
+            return made(cls, native.vlt_mask_all)
+        if kind == "all":
+            raise wrong("path", "None for the mask of all paths", path)
+        it = _path_given(path, "path")  # type: ignore[arg-type]  # (it refuses None)
+        return made(cls, native.vlt_mask_prefix if kind == "prefix" else native.vlt_mask_exact, it._slot)
 
     @staticmethod
     def all() -> FieldMask:
         """Returns the mask that selects every path."""
-        return made(FieldMask, native.vlt_mask_all)
+        return FieldMask("all")
 
     @staticmethod
     def prefix(path: Union[FieldPath, str]) -> FieldMask:
         """Returns the mask that selects this path and every path below it."""
-        return made(FieldMask, native.vlt_mask_prefix, _path(path))
+        return FieldMask("prefix", path)
 
     @staticmethod
     def exact(path: Union[FieldPath, str]) -> FieldMask:
         """Returns the mask that selects this path alone."""
-        return made(FieldMask, native.vlt_mask_exact, _path(path))
+        return FieldMask("exact", path)
 
     @property
     def kind(self) -> str:
         """The kind of the mask: `all`, `prefix` or `exact`."""
-        return ("all", "prefix", "exact")[number(ctypes.c_uint32, native.vlt_mask_kind, self._own) or 0]
+        return MASK_KINDS[number(ctypes.c_uint32, native.vlt_mask_kind, self._slot) or 0]
 
     @property
     def path(self) -> Optional[FieldPath]:
         """The path of a mask of the kind `prefix` or `exact`, or None for the mask of all paths."""
-        return found(FieldPath, native.vlt_mask_path, self._own)
+        return found(FieldPath, native.vlt_mask_path, self._slot)
 
     def step_into(self) -> FieldMask:
         """Returns the mask of what is selected below the first step of the mask's path. For example, for `prefix` of
         `a.b` it is `prefix` of `b`. Raises `LibraryError` 120 for the mask that selects only the root."""
-        return made(FieldMask, native.vlt_mask_step_into, self._own)
+        return made(FieldMask, native.vlt_mask_step_into, self._slot)
 
     def starting_field(self) -> Optional[Step]:
         """Returns the first step of the mask's path, or None if that path is the root. Raises `LibraryError` 121 for
         the mask of all paths."""
-        it = bytes_and_length(native.vlt_mask_starting_field, self._own)
+        it = bytes_and_length(native.vlt_mask_starting_field, self._slot)
         return None if it is None else ELEMENT if it[1] == _table.ELEMENT else it[0].decode()
 
     @property
     def matches_all(self) -> bool:
         """Whether the mask selects every path."""
-        return is_done(native.vlt_mask_matches_all(self._own))
+        return is_done(native.vlt_mask_matches_all(self._slot))
 
     @property
     def matches_root(self) -> bool:
         """Whether the mask selects the root."""
-        return is_done(native.vlt_mask_matches_root(self._own))
-
-    def copy(self) -> FieldMask:
-        """Returns an equal mask, which is another object."""
-        return made(FieldMask, native.vlt_mask_copy, self._own)
+        return is_done(native.vlt_mask_matches_root(self._slot))
 
     def __eq__(self, other: object) -> bool:
         if not isinstance(other, FieldMask):
             return NotImplemented
-        return self is other or is_done(native.vlt_mask_eq(self._own, other._own))
+        return self is other or is_done(native.vlt_mask_eq(self._slot, other._slot))
 
     __hash__ = None  # type: ignore[assignment]
 
     def __repr__(self) -> str:
         path = self.path
         return f"FieldMask.{self.kind}({'' if path is None else repr(path.to_source())})"
+
+    def _made_by(self) -> tuple[type, tuple[str, ...]]:
+        path = self.path
+        return type(self), (self.kind,) if path is None else (self.kind, path.to_source())
 
 
 class FlatMessage(NamedTuple):
@@ -756,12 +827,13 @@ class Message(Object):
     """The message of a type. `Message("list { element_type { utf8 {} } }")` reads protobuf's text format."""
 
     __slots__ = ()
+    _copy = native.vlt_message_copy
 
-    def __init__(self, source: str) -> None:
-        read(self, native.vlt_message_from_text, source)
+    def __new__(cls: type[T], source: str) -> T:
+        return read(cls, native.vlt_message_from_text, text_given(source, "source"))
 
-    @staticmethod
-    def from_nodes(nodes: Iterable[Node], texts: bytes) -> Message:
+    @classmethod
+    def from_nodes(cls: type[T], nodes: Iterable[Node], texts: bytes) -> T:
         """Returns the message with these nodes and with the bytes of their texts. Use it in a program that has decoded
         the bytes of a message by itself. Raises `LibraryError` 9 if the nodes and texts aren't those of one message, 6
         if a message is nested in more than 128 others, and 3 if a name or an id isn't UTF-8.
@@ -770,27 +842,25 @@ class Message(Object):
         >>> DType.from_proto(message)
         DType('{id=u64}')
         """
-        given = [*nodes]
-        return Message._of_array((Node * len(given))(*given), texts)
+        given = items_given(nodes, "nodes", "Node", _node_given)
+        return _of_nodes(cls, (Node * len(given))(*given), bytes_given(texts, "texts"))
 
-    @staticmethod
-    def from_flat(flat: FlatMessage) -> Message:
+    @classmethod
+    def from_flat(cls: type[T], flat: FlatMessage) -> T:
         """Returns the message with this flat form. Raises the same errors as `from_nodes`."""
-        count, rest = divmod(len(flat.nodes), ctypes.sizeof(Node))
+        it = instance_given(flat, FlatMessage, "flat")
+        nodes, texts = bytes_given(it.nodes, "flat.nodes"), bytes_given(it.texts, "flat.texts")
+        count, rest = divmod(len(nodes), ctypes.sizeof(Node))
         if rest:
             raise error_of(_table.RANGE)
-        return Message._of_array((Node * count).from_buffer_copy(flat.nodes), flat.texts)
-
-    @staticmethod
-    def _of_array(nodes: ctypes.Array[Node], texts: bytes) -> Message:
-        return made(Message, native.vlt_message_from_nodes, nodes, len(nodes), bytes(texts), len(texts))
+        return _of_nodes(cls, (Node * count).from_buffer_copy(nodes), texts)
 
     def to_flat(self) -> FlatMessage:
         """Returns the flat form of the message."""
         nodes, texts = (Node * 0)(), ctypes.create_string_buffer(0)
         count, length = ctypes.c_size_t(), ctypes.c_size_t()
         while True:
-            code = native.vlt_message_to_nodes(self._own, nodes, len(nodes), count, texts, len(texts), length)
+            code = native.vlt_message_to_nodes(self._slot, nodes, len(nodes), count, texts, len(texts), length)
             if code != _table.SMALL:
                 break
             nodes, texts = (Node * count.value)(), ctypes.create_string_buffer(length.value)
@@ -801,28 +871,32 @@ class Message(Object):
     def normal(self, allow_unknown: bool = False) -> Message:
         """Returns the message that `to_proto` writes for the type that this message describes. It has every child,
         flag and number, and the metadata of each extension. Raises the same errors as `DType.from_proto`."""
-        return made(Message, native.vlt_message_normal, self._own, allow_unknown)
-
-    def copy(self) -> Message:
-        """Returns an equal message, which is another object."""
-        return made(Message, native.vlt_message_copy, self._own)
+        return made(Message, native.vlt_message_normal, self._slot, flag_given(allow_unknown, "allow_unknown"))
 
     def __eq__(self, other: object) -> bool:
         if not isinstance(other, Message):
             return NotImplemented
-        return self is other or is_done(native.vlt_message_eq(self._own, other._own))
+        return self is other or is_done(native.vlt_message_eq(self._slot, other._slot))
 
     __hash__ = None  # type: ignore[assignment]
 
     def to_source(self) -> str:
         """Returns the message in protobuf's text format. `Message` reads it as the same message."""
-        return text(native.vlt_message_to_text, self._own)
+        return text(native.vlt_message_to_text, self._slot)
 
     def __repr__(self) -> str:
         return f"Message({self.to_source()!r})"
 
-    def __reduce__(self) -> tuple[type, tuple[str]]:
-        return Message, (self.to_source(),)
+    def _made_by(self) -> tuple[Callable[[FlatMessage], Message], tuple[FlatMessage]]:
+        return type(self).from_flat, (self.to_flat(),)
+
+
+def _node_given(it: Node, name: str) -> Node:
+    return instance_given(it, Node, name)
+
+
+def _of_nodes(cls: type[T], nodes: ctypes.Array[Node], texts: bytes) -> T:
+    return made(cls, native.vlt_message_from_nodes, nodes, len(nodes), texts, len(texts))
 
 
 def answer(line: Union[str, bytes]) -> Optional[str]:
@@ -834,5 +908,8 @@ def answer(line: Union[str, bytes]) -> Optional[str]:
     >>> answer("resolve a.[] {a=list(i32?)}")
     'i32?'
     """
-    given = line.encode() if isinstance(line, str) else bytes(line)
+    if isinstance(line, str):
+        given = text_given(line, "line")
+    else:
+        given = bytes_given(line, "line")
     return text_found(native.vlt_answer, given, len(given))

@@ -5,25 +5,39 @@
 
 from __future__ import annotations
 
+import copy
 import ctypes
 import os
+import sys
 import threading
-from collections import deque
-from typing import Any, Callable, Iterable, Optional
+from types import SimpleNamespace
+from typing import Any, Callable, Optional, Sequence, TypeVar
 
 from . import _table
+from ._arguments import number_given, text_given
 from ._table import Slot
 
 LIBRARY = "libvortex_logical_types.so"
 SETTING = "VORTEX_LOGICAL_TYPES_LIB"
+LOCK_SETTING = "VORTEX_LOGICAL_TYPES_LOCK"
+
+T = TypeVar("T", bound="Object")
 
 
 class VortexError(Exception):
     """A call failed. The text of the exception says why, and `number` is the number that the C interface returned."""
 
+    number: int
+
     def __init__(self, number: int, text: str) -> None:
-        super().__init__(text)
+        number_given(number, "number")
+        text_given(text, "text")
+        # (An exception is copied and unpickled by calling its class with `args`, so these are the parameters.)
+        super().__init__(number, text)
         self.number = number
+
+    def __str__(self) -> str:
+        return str(self.args[1])
 
 
 class OutOfMemory(VortexError, MemoryError):
@@ -34,8 +48,12 @@ class Unreadable(VortexError, ValueError):
     """A text can't be read. `position` is the byte at which reading failed: the bytes of the text in UTF-8 are
     counted from 1."""
 
+    position: int
+
     def __init__(self, number: int, text: str, position: int) -> None:
+        number_given(position, "position")
         super().__init__(number, text)
+        self.args = (number, text, position)
         self.position = position
 
 
@@ -44,8 +62,44 @@ class LibraryError(VortexError, ValueError):
     library, and below 100 for an error of the interface."""
 
 
-class WrongThread(RuntimeError):
-    """An object was used on another thread than the one that made it."""
+class Lock:
+    """A lock that a thread holds during each call of the library, so that no two calls are at work at once. A thread may
+    take it again while it holds it, because `Object.__del__` may run at any time. In a forked child the lock is new, since
+    the thread that held the old one may not be there."""
+
+    def __init__(self) -> None:
+        self.held = threading.RLock()
+        os.register_at_fork(before=self._wait, after_in_parent=self._go_on, after_in_child=self._renew)
+
+    def _wait(self) -> None:
+        """Waits until no other thread is in a call, so that the child has no object that is half changed."""
+        self.held.acquire()
+
+    def _go_on(self) -> None:
+        self.held.release()
+
+    def _renew(self) -> None:
+        self.held = threading.RLock()
+
+    def around(self, function: Callable[..., Any]) -> Callable[..., Any]:
+        """Returns the function, which a thread runs only while it holds the lock."""
+
+        def call(*arguments: Any, is_ending: Callable[[], bool] = sys.is_finalizing) -> Any:
+            # (At the interpreter's end no other thread runs, and one may have been stopped while it held the lock.)
+            if is_ending():
+                return function(*arguments)
+            with self.held:
+                return function(*arguments)
+
+        return call
+
+
+def needs_lock() -> bool:
+    """Whether calls of the library need a lock of the package. Otherwise the interpreter's own lock, which `PyDLL` keeps
+    during a call, keeps calls apart."""
+    is_gil_enabled = getattr(sys, "_is_gil_enabled", None)
+    has_no_gil = is_gil_enabled is not None and not is_gil_enabled()
+    return has_no_gil or os.environ.get(LOCK_SETTING, "") not in ("", "0")
 
 
 def _path() -> str:
@@ -56,83 +110,69 @@ def _path() -> str:
     return os.path.join(named, LIBRARY) if os.path.isdir(named) else named
 
 
-def _load() -> ctypes.PyDLL:
+def _load() -> SimpleNamespace:
+    """Returns the functions of the library, by their names."""
     path = _path()
     if not os.path.exists(path):
         raise ImportError(
             f"there is no {path}: install the wheel of a release, which has it, or set {SETTING} to the library's path"
         )
-    # (PyDLL keeps the interpreter's lock during a call, so no two calls are at work at once.)
-    library = ctypes.PyDLL(path)
+    library, functions = ctypes.PyDLL(path), {}
     for name, (result, arguments) in _table.FUNCTIONS.items():
         function = getattr(library, name)
         function.restype, function.argtypes = result, arguments
-    if library.vlt_abi_version() != ABI_VERSION:
-        raise ImportError(f"{path} has version {library.vlt_abi_version()} of the interface, not {ABI_VERSION}")
-    return library
+        functions[name] = function if lock is None else lock.around(function)
+    version = library.vlt_abi_version()
+    if version != ABI_VERSION:
+        raise ImportError(f"{path} has version {version} of the interface, not {ABI_VERSION}")
+    return SimpleNamespace(**functions)
 
 
 ABI_VERSION = 1
+lock = Lock() if needs_lock() else None
 native = _load()
 
 
-class Thread:
-    """A thread that made objects. If such an object is collected on another thread, its slot waits here until the
-    thread that made it frees it."""
-
-    __slots__ = ("thread", "garbage")
-
-    def __init__(self) -> None:
-        self.thread = threading.current_thread()
-        self.garbage: deque[Slot] = deque()
-
-    def free_garbage(self) -> None:
-        while self.garbage:
-            native.vlt_free(self.garbage.popleft())
-
-    def __del__(self) -> None:
-        # (The thread has ended, and no object of it is left.)
-        self.free_garbage()
-
-
-class _Here(threading.local):
-    def __init__(self) -> None:
-        self.thread = Thread()
-
-
-here = _Here()
-
-
 class Object:
-    """An object that the library made. Only the thread that made it may use it."""
+    """An object that the library made. It may be used, and collected, on any thread."""
 
-    __slots__ = ("_slot", "_thread", "__weakref__")
+    __slots__ = ("_slot", "__weakref__")
     _slot: Slot
-    _thread: Thread
+    # The call that copies such an object, and whether calls may change it.
+    _copy: Callable[..., int]
+    _is_mutable = False
 
-    def __del__(self) -> None:
+    # (The call is a default, because at the interpreter's end the globals of this module may be gone.)
+    def __del__(self, free: Callable[[Slot], None] = native.vlt_free) -> None:
         try:
-            thread, slot = self._thread, self._slot
-        except AttributeError:
+            slot = self._slot
+        except AttributeError:  # (The object wasn't made, because the library refused the arguments.)
             return
-        if thread is here.thread or not thread.thread.is_alive():
-            native.vlt_free(slot)
-        else:
-            thread.garbage.append(slot)
+        free(slot)
 
-    @property
-    def _own(self) -> Slot:
-        """The slot of the object. Raises `WrongThread` on another thread than that of the object."""
-        if self._thread is not here.thread:
-            raise WrongThread("an object belongs to the thread that made it: send its text instead")
-        return self._slot
+    def copy(self: T) -> T:
+        """Returns an equal object, which is another one."""
+        it = made(type(self), type(self)._copy, self._slot)
+        if hasattr(self, "__dict__"):  # (that of a subclass)
+            it.__dict__.update(self.__dict__)
+        return it
 
-    def _take(self, slot: Slot) -> Any:
-        thread = here.thread
-        if thread.garbage:
-            thread.free_garbage()
-        self._slot, self._thread = slot, thread
-        return self
+    def __copy__(self: T) -> T:
+        return self.copy() if self._is_mutable or hasattr(self, "__dict__") else self
+
+    def __deepcopy__(self: T, memo: dict[int, Any]) -> T:
+        it = self.__copy__()
+        if hasattr(self, "__dict__"):
+            memo[id(self)] = it
+            it.__dict__.update(copy.deepcopy(self.__dict__, memo))
+        return it
+
+    def _made_by(self) -> tuple[Any, tuple[Any, ...]]:
+        """Returns a call and its arguments, which are texts or bytes. The call makes an object that is equal to this."""
+        raise NotImplementedError
+
+    def __reduce__(self) -> tuple[Any, ...]:
+        return (*self._made_by(), getattr(self, "__dict__", None) or None)
 
 
 def error_of(code: int, position: int = 0) -> VortexError:
@@ -156,15 +196,20 @@ def is_done(code: int) -> bool:
     return code == 0
 
 
-def found(cls: type, call: Callable[..., int], *arguments: Any) -> Any:
-    """Returns the object that a call puts into a slot, or None. An argument may be an object that nothing else
-    refers to."""
+def holding(cls: type[T], slot: Slot) -> T:
+    """Returns an object of the class, which owns what is in the slot."""
+    it = object.__new__(cls)
+    it._slot = slot
+    return it
+
+
+def found(cls: type[T], call: Callable[..., int], *arguments: Any) -> Optional[T]:
+    """Returns the object that a call puts into a slot, or None. The caller keeps the objects whose slots it passes."""
     out = Slot()
-    slots = [it._own if isinstance(it, Object) else it for it in arguments]
-    return cls.__new__(cls)._take(out) if is_done(call(*slots, out)) else None
+    return holding(cls, out) if is_done(call(*arguments, out)) else None
 
 
-def made(cls: type, call: Callable[..., int], *arguments: Any) -> Any:
+def made(cls: type[T], call: Callable[..., int], *arguments: Any) -> T:
     """Returns the object that a call puts into a slot."""
     it = found(cls, call, *arguments)
     if it is None:
@@ -172,19 +217,19 @@ def made(cls: type, call: Callable[..., int], *arguments: Any) -> Any:
     return it
 
 
-def read(it: Object, call: Callable[..., int], text: str) -> None:
-    """Reads an object from a text. A lone surrogate in it raises UnicodeEncodeError."""
-    given, out, position = text.encode(), Slot(), ctypes.c_size_t()
+def read(cls: type[T], call: Callable[..., int], given: bytes) -> T:
+    """Returns the object that a call reads from a text."""
+    out, position = Slot(), ctypes.c_size_t()
     code = call(given, len(given), out, position)
     if code:
         raise error_of(code, position.value)
-    it._take(out)
+    return holding(cls, out)
 
 
 def number(kind: Any, call: Callable[..., int], *arguments: Any) -> Optional[int]:
     """Returns the number that a call writes, or None."""
     it = kind()
-    return it.value if is_done(call(*arguments, it)) else None
+    return int(it.value) if is_done(call(*arguments, it)) else None
 
 
 def bytes_and_length(call: Callable[..., int], *arguments: Any) -> Optional[tuple[bytes, int]]:
@@ -212,9 +257,8 @@ def text(call: Callable[..., int], *arguments: Any) -> str:
     return text_found(call, *arguments) or ""
 
 
-def names(given: Iterable[Optional[str]]) -> tuple[bytes, int, Any, int]:
+def joined_names(encoded: Sequence[Optional[bytes]]) -> tuple[bytes, int, Any, int]:
     """Returns names in the form in which the library takes them. None stands for the step into an element."""
-    encoded = [None if it is None else it.encode() for it in given]
     together = b"".join(it for it in encoded if it is not None)
     lengths = [_table.ELEMENT if it is None else len(it) for it in encoded]
     return together, len(together), (ctypes.c_size_t * len(lengths))(*lengths), len(lengths)

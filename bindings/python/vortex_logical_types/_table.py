@@ -7,6 +7,8 @@ from __future__ import annotations
 
 import ctypes
 
+from ._arguments import number_given
+
 
 # The length that stands for the step into an element, in place of that of a name.
 ELEMENT = 2**64 - 1
@@ -16,6 +18,29 @@ class Slot(ctypes.Structure):
     """A place that owns one object of the library, or is empty."""
 
     _fields_ = [("at", ctypes.c_void_p)]
+
+
+class Numbers(ctypes.Structure):
+    """A struct of whole numbers, such as `Node`."""
+
+    def _put(self, **numbers: int) -> None:
+        """Sets the fields. Raises `ValueError` for a number that its field can't contain, where ctypes would cut it."""
+        for name, given in numbers.items():
+            it = number_given(given, name)
+            setattr(self, name, it)
+            if getattr(self, name) != it:
+                raise ValueError(f"{name} is out of range: {it}")
+
+    def __eq__(self, other: object) -> bool:
+        if not isinstance(other, type(self)):
+            return NotImplemented
+        return bytes(self) == bytes(other)
+
+    __hash__ = None  # type: ignore[assignment]
+
+    def __repr__(self) -> str:
+        numbers = ((field[0], getattr(self, field[0])) for field in self._fields_)
+        return f"{type(self).__name__}({', '.join(f'{name}={it}' for name, it in numbers if it)})"
 
 
 # begin of what tools/bindings writes
@@ -43,7 +68,7 @@ RANGE = 9
 LIBRARY = 100
 
 
-class Node(ctypes.Structure):
+class Node(Numbers):
     """One item of the flat form of a message: a message, a text or a tag. The node of a message is followed by the nodes
     of its texts, then by the nodes of its tags, and then by its parts, each of which is a message with the nodes that
     follow it. A field that the kind of a node doesn't use is 0."""
@@ -60,6 +85,42 @@ class Node(ctypes.Structure):
         ("number", ctypes.c_uint32),
         ("value", ctypes.c_int32),
     ]
+    kind: int
+    nullable: int
+    keys_sorted: int
+    has_first: int
+    has_second: int
+    names: int
+    tags: int
+    types: int
+    number: int
+    value: int
+
+    def __init__(
+        self,
+        kind: int = 0,
+        nullable: int = 0,
+        keys_sorted: int = 0,
+        has_first: int = 0,
+        has_second: int = 0,
+        names: int = 0,
+        tags: int = 0,
+        types: int = 0,
+        number: int = 0,
+        value: int = 0,
+    ) -> None:
+        self._put(
+            kind=kind,
+            nullable=nullable,
+            keys_sorted=keys_sorted,
+            has_first=has_first,
+            has_second=has_second,
+            names=names,
+            tags=tags,
+            types=types,
+            number=number,
+            value=value,
+        )
 
 
 FUNCTIONS = {

@@ -56,6 +56,7 @@ WRITTEN = {
            "if one.is(other) {", "    /// The first.\n    pub one_of: u32,"],
     PYTHON: ['    "vlt_find": (ctypes.c_uint32, [\n        ctypes.POINTER(Slot),\n        ctypes.c_char_p,\n'
              "        ctypes.c_size_t,\n        ctypes.POINTER(ctypes.c_size_t),\n    ]),", '        ("other", ctypes.c_int8),',
+             "class Pair(Numbers):", "    one_of: int\n    other: int\n", "        self._put(one_of=one_of, other=other)",
              '    "vlt_free": (None, [ctypes.POINTER(Slot)]),'],
 }
 

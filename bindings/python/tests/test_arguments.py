@@ -1,0 +1,198 @@
+# SPDX-License-Identifier: Apache-2.0
+# SPDX-FileCopyrightText: Copyright the Vortex contributors
+
+"""Wrong arguments. The functions and their parameters are found by introspection, so that a new one can't be left out."""
+import collections.abc
+import contextlib
+import enum
+import inspect
+import subprocess
+import sys
+import typing
+import unittest
+
+import vortex_logical_types
+from vortex_logical_types import (ELEMENT, Below, DType, Element, FieldMask, FieldPath, FieldPathSet, FlatMessage, LibraryError,
+                                  Message, Node, OutOfMemory, PType, Unreadable, VortexError)
+
+STRUCT, UNION, MAP = DType("{a=i32, b=utf8?}"), DType("union(a@5=i32, b@9=utf8)"), DType("map(utf8, i32?)")
+NODES = [Node(kind=10, names=1, types=1), Node(kind=14, number=2), Node(kind=3, value=3)]
+Step = typing.Union[str, Element]
+# An argument for each type of a parameter.
+SAMPLES = {
+    str: "a", bytes: b"a", bool: True, int: 0, object: 5, DType: STRUCT, FieldPath: FieldPath("a"), PType: PType.I32,
+    FieldPathSet: FieldPathSet(["a"]), FieldMask: FieldMask.prefix("a"), Message: STRUCT.to_proto(), Element: ELEMENT, Node: NODES[0],
+    FlatMessage: STRUCT.to_proto().to_flat(), type(None): None, tuple[str, DType]: ("a", STRUCT),
+}
+# Arguments that fit together, for functions that refuse most others.
+FITTING = {
+    "DType": {"source": "i8"}, "DType.decimal": {"precision": 10, "scale": 2}, "Message": {"source": "{}"},
+    "DType.map_": {"key": DType("utf8")}, "DType.union": {"variants": [("a", STRUCT)], "tags": b"\5"},
+    "FieldMask": {"kind": "prefix", "path": "a"}, "FieldPath.from_proto": {"parts": ["a"]}, "Message.from_nodes": {"nodes": NODES, "texts": b"id"},
+    "FieldPath.from_proto_source": {"source": 'path { name: "a" }'}, "DType.disjoint_merge": {"other": DType("{c=i8}")},
+    "DType.from_proto": {"allow_unknown": True},
+}
+# The object whose methods are called, for each class.
+OBJECTS = {DType: STRUCT, FieldPath: FieldPath("a.[].b"), FieldPathSet: FieldPathSet(["a", "b.c"]),
+           FieldMask: FieldMask.prefix("a"), Message: STRUCT.to_proto(), Node: NODES[0]}
+# The methods that only a union has.
+OF_UNIONS = ("variant_name", "variant_by_index", "find_variant", "variant_of", "child_index_to_tag", "tag_to_child_index")
+# Classes that aren't called here: Python itself makes their members or checks their arguments.
+MADE_BY_PYTHON = (enum.Enum, Below, FlatMessage)
+
+
+class Other:
+    """A class that the package doesn't know."""
+
+
+def accepts(hint, value):
+    """Whether a value is of the type that is written at a parameter."""
+    origin, parts = typing.get_origin(hint), typing.get_args(hint)
+    if origin is typing.Union:
+        return any(accepts(it, value) for it in parts)
+    if origin is tuple:
+        return isinstance(value, tuple) and len(value) == len(parts) and all(map(accepts, parts, value))
+    if origin is collections.abc.Iterable:
+        is_one_thing = isinstance(value, (str, bytes)) or (isinstance(value, FieldPath) and parts != (Step,))
+        return (isinstance(value, collections.abc.Iterable) and not is_one_thing
+                and all(accepts(parts[0], it) for it in value))
+    if hint is bytes:
+        return isinstance(value, (bytes, Node))  # (a Node has a buffer)
+    return isinstance(value, hint)
+
+
+def sample(hint):
+    """A value of the type that is written at a parameter."""
+    origin, parts = typing.get_origin(hint), typing.get_args(hint)
+    if origin is typing.Union:
+        return sample(parts[0])
+    if origin is collections.abc.Iterable:
+        return [sample(parts[0])]
+    return SAMPLES[hint]
+
+
+def functions():
+    """Every public function: its name, the function itself, and what to call, which is bound to an object or to none."""
+    for name in vortex_logical_types.__all__:
+        it = getattr(vortex_logical_types, name)
+        if not isinstance(it, type):
+            if callable(it):
+                yield name, it, it, None
+            continue
+        if issubclass(it, MADE_BY_PYTHON):
+            continue
+        own = it.__init__ if "__init__" in vars(it) or issubclass(it, Exception) else it.__new__
+        yield name, own, it, None
+        for member, found in inspect.getmembers(it):
+            mine = next((vars(cls)[member] for cls in it.__mro__ if member in vars(cls)), None)
+            is_own = any(member in vars(cls) for cls in it.__mro__ if cls.__module__.startswith(vortex_logical_types.__name__))
+            if member.startswith("_") or not is_own or isinstance(mine, property) or not callable(found):
+                continue
+            own = UNION if member in OF_UNIONS else OBJECTS.get(it)
+            bound = getattr(own, member) if inspect.isfunction(mine) else found
+            yield f"{name}.{member}", getattr(found, "__func__", found), bound, own
+
+
+def parameters(function):
+    """The parameters of a function, each with the type that is written at it."""
+    hints = typing.get_type_hints(function)
+    for it in list(inspect.signature(function).parameters.values()):
+        if it.name not in ("self", "cls") and it.kind not in (it.VAR_POSITIONAL, it.VAR_KEYWORD):
+            yield it.name, hints[it.name]
+
+
+class Arguments(unittest.TestCase):
+    def check(self, what, call, given, name, hint, value):
+        """A wrong argument raises a TypeError that names the parameter, and a right one raises nothing else than errors
+        of the package."""
+        with self.subTest(function=what, parameter=name, value=value):
+            if accepts(hint, value):
+                # (What fits its own parameter may not fit the other arguments, as no path for a mask with a path.)
+                expected = (VortexError, ValueError, IndexError, *[TypeError] * (what == "FieldMask"))
+                with contextlib.suppress(*expected):
+                    call(**{**given, name: value})
+                return
+            with self.assertRaises(TypeError) as caught:
+                call(**{**given, name: value})
+            self.assertRegex(str(caught.exception), rf"^{name}\b")
+
+    def test_wrong_arguments_are_named(self):
+        seen = []
+        for what, function, call, own in functions():
+            asked = [*parameters(function)]
+            given = {name: sample(hint) for name, hint in asked} | FITTING.get(what, {})
+            if own is not None or what not in ("VortexError", "OutOfMemory", "Unreadable", "LibraryError"):
+                with self.subTest(function=what):
+                    call(**given)
+            for name, hint in asked:
+                seen.append(f"{what}({name})")
+                for value in (None, 5, b"", [], "", "ab", Other(), own, [None], [5], [Other()], [("a", 5)], *OBJECTS.values()):
+                    self.check(what, call, given, name, hint, value)
+        self.assertGreater(len(seen), 70, seen)
+
+    def test_objects_name_wrong_operands(self):
+        for it in OBJECTS.values():
+            for other in (None, 5, b"", [], Other()):
+                self.assertIs(it == other, False)
+                self.assertIs(it != other, True)
+        for wrong in (None, "a", b"", []):
+            self.assertRaisesRegex(TypeError, "^index", lambda it=wrong: FieldPath("a")[it])
+        for wrong in (None, 5, b"", [], Other()):
+            self.assertNotIn(wrong, FieldPathSet(["a"]))
+
+    def test_one_text_is_no_iterable_of_texts(self):
+        for call in (FieldPathSet, FieldPathSet().extend, STRUCT.project, FieldPath.from_steps, FieldPath.from_proto):
+            for text in ("ab", b"ab", bytearray(b"ab")):
+                self.assertRaisesRegex(TypeError, r"^\w+ must be an iterable of .*, not (str|bytes|bytearray)$", call, text)
+        self.assertRaisesRegex(TypeError, "^paths must be an iterable", FieldPathSet, FieldPath("a"))
+        self.assertRaisesRegex(TypeError, "^names must be an iterable", STRUCT.project, FieldPath("a"))
+        self.assertRaisesRegex(TypeError, r"^names\[1\] must be a str, not int$", STRUCT.project, ["a", 5])
+        self.assertRaisesRegex(TypeError, r"^fields\[0\] must be a pair", DType.struct, ["ab"])
+        self.assertRaisesRegex(TypeError, r"^fields\[0\]\[1\] must be a DType, not str$", DType.struct, [("a", "i8")])
+
+    def test_bytes_and_texts_are_taken_as_they_are(self):
+        """What a caller's own class says of itself isn't believed, because the library reads as many bytes as it is told."""
+
+        class Text(str):
+            def encode(self, *_):
+                return b""
+
+            def __len__(self):
+                return 1 << 40
+
+        class Bytes(bytes):
+            def __len__(self):
+                return 1 << 40
+
+            def __bytes__(self):
+                return b""
+
+        self.assertEqual(DType(Text("i8")), DType("i8"))
+        self.assertEqual(DType.extension(Text("x"), Bytes(b"ab"), DType("i8")).metadata, b"ab")
+        self.assertEqual(DType.extension("x", memoryview(b"abcd").cast("I"), DType("i8")).metadata, b"abcd")
+        self.assertEqual(Message.from_nodes([Node(kind=1)], Bytes()), Message("null {}"))
+
+    def test_numbers_fit_their_fields(self):
+        self.assertEqual((Node(kind=3).kind, Node(value=-1).value, repr(Node(kind=3, value=-1))), (3, -1, "Node(kind=3, value=-1)"))
+        self.assertTrue(Node(kind=3) == Node(3) and Node(kind=3) != Node(kind=4))
+        for wrong in ({"kind": 1 << 32}, {"kind": -1}, {"nullable": 256}, {"value": 1 << 31}):
+            self.assertRaisesRegex(ValueError, f"^{[*wrong][0]} is out of range", lambda it=wrong: Node(**it))
+
+    def test_no_argument_ends_the_interpreter(self):
+        """The calls that once did, each in an interpreter of its own."""
+        for line in ("FieldMask.prefix(None)", "FieldMask.exact(None)", "FieldMask.exact(FieldPath.root().step_into())",
+                     "FieldMask.prefix(FieldMask.all().path)", "FieldPathSet(['a']).names_below(None)",
+                     "(lambda s: s.names_below(s))(FieldPathSet(['a']))", "DType.__new__(DType)", "FieldMask()"):
+            ran = subprocess.run([sys.executable, "-c", f"from vortex_logical_types import *\n{line}"], capture_output=True,
+                                 text=True, check=False)
+            self.assertEqual(ran.returncode, 1, line)
+            self.assertIn("\nTypeError: ", ran.stderr)
+
+    def test_errors_are_made_of_what_they_show(self):
+        self.assertEqual((str(LibraryError(101, "why")), LibraryError(101, "why").number), ("why", 101))
+        self.assertEqual(Unreadable(4, "why", 7).position, 7)
+        self.assertIsInstance(OutOfMemory(100, "out of memory"), MemoryError)
+
+
+if __name__ == "__main__":
+    unittest.main()

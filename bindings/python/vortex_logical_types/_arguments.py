@@ -1,0 +1,85 @@
+# SPDX-License-Identifier: Apache-2.0
+# SPDX-FileCopyrightText: Copyright the Vortex contributors
+
+"""Checks of arguments. Each of these functions takes an argument and the name of its parameter, and returns the argument
+as the library takes it. For an argument of another type it raises a `TypeError` that begins with that name. So nothing
+else than what the library takes is ever passed to `ctypes`, to which None would be a null pointer."""
+
+from __future__ import annotations
+
+import operator
+from typing import Callable, Iterable, Optional, TypeVar
+
+T = TypeVar("T")
+R = TypeVar("R")
+
+
+def wrong(name: str, wanted: str, it: object) -> TypeError:
+    """Returns the error for an argument that should have been what `wanted` says."""
+    return TypeError(f"{name} must be {wanted}, not {type(it).__name__}")
+
+
+def text_given(it: object, name: str) -> bytes:
+    """Returns a text in UTF-8. A lone surrogate in it raises UnicodeEncodeError."""
+    if not isinstance(it, str):
+        raise wrong(name, "a str", it)
+    # (A subclass may have an `encode` of its own, which returns anything.)
+    return str.encode(it)
+
+
+def bytes_given(it: object, name: str) -> bytes:
+    """Returns the bytes of an object that has a buffer, for example a `bytearray`."""
+    try:
+        return bytes(memoryview(it))  # type: ignore[arg-type]
+    except TypeError:
+        raise wrong(name, "bytes", it) from None
+
+
+def flag_given(it: object, name: str) -> bool:
+    """Returns a truth value. Other objects aren't taken for one, because `nullable="no"` would be true."""
+    if not isinstance(it, bool):
+        raise wrong(name, "a bool", it)
+    return it
+
+
+def number_given(it: object, name: str) -> int:
+    """Returns a whole number."""
+    try:
+        return operator.index(it)  # type: ignore[arg-type]
+    except TypeError:
+        raise wrong(name, "an int", it) from None
+
+
+def position_given(it: object, name: str) -> int:
+    """Returns a position, or the greatest number of 64 bits if that is less. Raises IndexError if it is negative."""
+    index = number_given(it, name)
+    if index < 0:
+        raise IndexError(f"{name} must be at least 0, not {index}")
+    return min(index, 2**64 - 1)
+
+
+def instance_given(it: object, cls: type[T], name: str) -> T:
+    """Returns an object of the class."""
+    if not isinstance(it, cls):
+        raise wrong(name, f"a {cls.__name__}", it)
+    return it
+
+
+def items_given(it: Iterable[T], name: str, wanted: str, item_given: Callable[[T, str], R],
+                refused: tuple[type, ...] = ()) -> list[R]:
+    """Returns the items of an iterable, each as `item_given` returns it. A text or bytes are no iterable of items here,
+    and neither are objects of the classes `refused`."""
+    if isinstance(it, (str, bytes, bytearray, memoryview, *refused)):
+        raise wrong(name, f"an iterable of {wanted}", it)
+    try:
+        items = iter(it)
+    except TypeError:
+        raise wrong(name, f"an iterable of {wanted}", it) from None
+    return [item_given(item, f"{name}[{index}]") for index, item in enumerate(items)]
+
+
+def text_or_none_given(it: Optional[str], name: str) -> Optional[bytes]:
+    """Returns a text in UTF-8, or None."""
+    if it is not None and not isinstance(it, str):
+        raise wrong(name, "a str or None", it)
+    return None if it is None else str.encode(it)

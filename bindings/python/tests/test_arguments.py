@@ -13,7 +13,7 @@ import unittest
 
 import vortex_logical_types
 from vortex_logical_types import (ELEMENT, Below, DType, Element, FieldMask, FieldPath, FieldPathSet, FlatMessage, LibraryError,
-                                  Message, Node, OutOfMemory, PType, Unreadable, VortexError)
+                                  Message, Node, OutOfMemory, PType, Unreadable, VortexError, View)
 
 STRUCT, UNION, MAP = DType("{a=i32, b=utf8?}"), DType("union(a@5=i32, b@9=utf8)"), DType("map(utf8, i32?)")
 NODES = [Node(kind=10, names=1, types=1), Node(kind=14, number=2), Node(kind=3, value=3)]
@@ -38,7 +38,7 @@ OBJECTS = {DType: STRUCT, FieldPath: FieldPath("a.[].b"), FieldPathSet: FieldPat
 # The methods that only a union has.
 OF_UNIONS = ("variant_name", "variant_by_index", "find_variant", "variant_of", "child_index_to_tag", "tag_to_child_index")
 # Classes that aren't called here: Python itself makes their members or checks their arguments.
-MADE_BY_PYTHON = (enum.Enum, Below, FlatMessage)
+MADE_BY_PYTHON = (enum.Enum, Below, FlatMessage, View)
 
 
 class Other:
@@ -52,6 +52,8 @@ def accepts(hint, value):
         return any(accepts(it, value) for it in parts)
     if origin is tuple:
         return isinstance(value, tuple) and len(value) == len(parts) and all(map(accepts, parts, value))
+    if origin is collections.abc.Mapping:
+        return isinstance(value, collections.abc.Mapping)
     if origin is collections.abc.Iterable:
         is_one_thing = isinstance(value, (str, bytes)) or (isinstance(value, FieldPath) and parts != (Step,))
         return (isinstance(value, collections.abc.Iterable) and not is_one_thing
@@ -65,7 +67,7 @@ def sample(hint):
     """A value of the type that is written at a parameter."""
     origin, parts = typing.get_origin(hint), typing.get_args(hint)
     if origin is typing.Union:
-        return sample(parts[0])
+        return sample(parts[-1])
     if origin is collections.abc.Iterable:
         return [sample(parts[0])]
     return SAMPLES[hint]
@@ -76,7 +78,7 @@ def functions():
     for name in vortex_logical_types.__all__:
         it = getattr(vortex_logical_types, name)
         if not isinstance(it, type):
-            if callable(it):
+            if inspect.isfunction(it):
                 yield name, it, it, None
             continue
         if issubclass(it, MADE_BY_PYTHON):

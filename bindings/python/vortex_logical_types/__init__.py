@@ -34,7 +34,8 @@ from __future__ import annotations
 
 import ctypes
 import enum
-from typing import Any, Callable, Iterable, Iterator, NamedTuple, Optional, TypeVar, Union
+from dataclasses import dataclass
+from typing import Any, Callable, Iterable, Iterator, Mapping, NamedTuple, Optional, TypeVar, Union
 
 from . import _table
 from ._arguments import (
@@ -64,6 +65,7 @@ from ._native import (
     native,
     number,
     read,
+    remembered,
     text,
     text_found,
 )
@@ -85,12 +87,14 @@ __all__ = [
     "OutOfMemory",
     "PType",
     "Unreadable",
+    "View",
     "VortexError",
     "answer",
 ]
 
 
 T = TypeVar("T", bound=Object)
+R = TypeVar("R")
 
 
 class Element(enum.Enum):
@@ -107,16 +111,19 @@ ELEMENT = Element.ELEMENT
 Step = Union[str, Element]
 
 
-class PType(enum.IntEnum):
-    """A primitive type. Its value is the number that messages contain for it. For example, `PType.U8` is 0."""
+class PType(enum.Enum):
+    """A primitive type. Its value is the number that messages contain for it. For example, that of `PType.I16` is 5."""
 
     U8, U16, U32, U64, I8, I16, I32, I64, F16, F32, F64 = range(11)
 
 
-class Kind(enum.IntEnum):
+class Kind(enum.Enum):
     """The kind of a `DType`. For example, that of `DType("list(u8)")` is `Kind.LIST`."""
 
     NULL, BOOL, PRIMITIVE, DECIMAL, UTF8, BINARY, LIST, FIXED_SIZE_LIST, MAP, STRUCT, UNION, VARIANT, EXTENSION = range(13)
+
+    def __str__(self) -> str:
+        return self.name.lower()
 
 
 class Below(NamedTuple):
@@ -131,12 +138,33 @@ class Below(NamedTuple):
 
 
 class DType(Object):
-    """A logical type. `DType("{a=list(i32?)}")` reads a text in the form of the library's console."""
+    """A logical type. `DType("{a=list(i32?)}")` reads a text in the form of the library's console, and `DType(dtype)`
+    copies a type.
+
+    A struct is a collection of its fields, each a pair of a name and a type:
+
+    >>> orders = DType("{id=u64, customer={city=utf8?}}")
+    >>> orders["id"], "city" in orders, "city" in orders["customer"], len(orders)
+    (DType('u64'), False, True, 2)
+    >>> [name for name, dtype in orders if dtype.kind is Kind.STRUCT]
+    ['customer']
+
+    What is asked of a type of another kind has one rule. A property that only types of one kind have, such as `names` or
+    `element`, is None. A method that only types of one kind have, such as `field` or `find_variant`, raises `LibraryError`
+    5. `len`, `in`, `[]` and iteration raise `TypeError` for a type that is no struct. For example, `DType("i32").names` is
+    None, and `len(DType("i32"))` raises `TypeError`. A type is always true in an `if`, also a struct without fields.
+
+    `view` returns the parts of a type of any kind as an object for `match`.
+    """
 
     __slots__ = ()
     _copy = native.vlt_dtype_copy
 
-    def __new__(cls: type[T], source: str) -> T:
+    def __new__(cls: type[T], source: Union[str, DType]) -> T:
+        if isinstance(source, DType):
+            return made(cls, native.vlt_dtype_copy, source._slot)
+        if not isinstance(source, str):
+            raise wrong("source", "a str or a DType", source)
         return read(cls, native.vlt_dtype_from_text, text_given(source, "source"))
 
     @staticmethod
@@ -207,19 +235,23 @@ class DType(Object):
                     flag_given(nullable, "nullable"))
 
     @staticmethod
-    def struct(fields: Iterable[tuple[str, DType]], nullable: bool = False) -> DType:
-        """Returns the struct type with these fields, each a pair of a name and a type. Raises `LibraryError` 6 if
-        the type of a field has 128 levels."""
-        given = items_given(fields, "fields", "pairs", _part_given)
+    def struct(fields: Parts, nullable: bool = False) -> DType:
+        """Returns the struct type with these fields, which are a mapping of names to types, or pairs of a name and a
+        type. Raises `LibraryError` 6 if the type of a field has 128 levels.
+
+        >>> DType.struct({"a": DType("i8")}) == DType.struct([("a", DType("i8"))])
+        True
+        """
+        given = _parts_given(fields, "fields")
         return DType._of_parts(native.vlt_dtype_struct, given, flag_given(nullable, "nullable"))
 
     @staticmethod
-    def union(variants: Iterable[tuple[str, DType]], nullable: bool = False, tags: Optional[bytes] = None) -> DType:
-        """Returns the union type with these variants, each a pair of a name and a type, and with these tags, one byte
-        for each variant, for example `bytes([5, 9])`. Without `tags` the tags are 0, 1, 2 and so on. Raises
-        `LibraryError` 111 to 115 if the variants and tags don't make a union, for example 113 if a tag repeats, and 6
-        if the type of a variant has 128 levels."""
-        given, is_nullable = items_given(variants, "variants", "pairs", _part_given), flag_given(nullable, "nullable")
+    def union(variants: Parts, nullable: bool = False, tags: Optional[bytes] = None) -> DType:
+        """Returns the union type with these variants, which are a mapping of names to types, or pairs of a name and a
+        type, and with these tags, one byte for each variant, for example `bytes([5, 9])`. Without `tags` the tags are 0,
+        1, 2 and so on. Raises `LibraryError` 111 to 115 if the variants and tags don't make a union, for example 113 if a
+        tag repeats, and 6 if the type of a variant has 128 levels."""
+        given, is_nullable = _parts_given(variants, "variants"), flag_given(nullable, "nullable")
         if tags is None:
             return DType._of_parts(native.vlt_dtype_union_consecutive, given, is_nullable)
         numbers = bytes_given(tags, "tags")
@@ -249,9 +281,26 @@ class DType(Object):
         return self.copy() if self is other else self
 
     @property
+    @remembered
     def kind(self) -> Kind:
         """The kind of the type."""
         return Kind(number(ctypes.c_uint32, native.vlt_dtype_kind, self._slot))
+
+    def view(self) -> AnyView:
+        """Returns the parts of the type, as an object of one of the classes in `View`.
+
+        >>> DType("list(i32)?").view()
+        View.List(element=DType('i32'), nullable=True)
+
+        With `match` (from Python 3.10 on), a program can look into a type:
+
+            match dtype.view():
+                case View.List(element) | View.FixedSizeList(element):
+                    ...
+                case View.Struct(fields):
+                    ...
+        """
+        return _VIEWS[self.kind](self)
 
     @property
     def is_nullable(self) -> bool:
@@ -267,6 +316,14 @@ class DType(Object):
     def with_nullability(self, nullable: bool) -> DType:
         """Returns the type, made nullable or non-nullable. Raises `LibraryError` 5 if it can't be made non-nullable."""
         return made(DType, native.vlt_dtype_with_nullability, self._slot, flag_given(nullable, "nullable"))
+
+    def as_nullable(self) -> DType:
+        """Returns the type, made nullable."""
+        return self.with_nullability(True)
+
+    def as_nonnullable(self) -> DType:
+        """Returns the type, made non-nullable. Raises `LibraryError` 5 if it can't be."""
+        return self.with_nullability(False)
 
     def union_nullability(self, nullable: bool) -> DType:
         """Returns the type, which is nullable if it was nullable or if `nullable` is true."""
@@ -286,6 +343,7 @@ class DType(Object):
             native.vlt_dtype_decimal_parts(self._slot, precision, scale)) else None
 
     @property
+    @remembered
     def element(self) -> Optional[DType]:
         """The element type of a list or a fixed-size list, or None for another type."""
         return found(DType, native.vlt_dtype_element, self._slot)
@@ -296,19 +354,21 @@ class DType(Object):
         return number(ctypes.c_uint32, native.vlt_dtype_fixed_size, self._slot)
 
     @property
+    @remembered
     def key(self) -> Optional[DType]:
         """The key type of a map, or None for another type."""
         return found(DType, native.vlt_dtype_key, self._slot)
 
     @property
+    @remembered
     def value(self) -> Optional[DType]:
         """The value type of a map, or None for another type."""
         return found(DType, native.vlt_dtype_value, self._slot)
 
     @property
-    def keys_sorted(self) -> bool:
-        """Whether the keys of the map are declared sorted. Raises `LibraryError` 5 if the type isn't a map."""
-        return is_done(native.vlt_dtype_keys_sorted(self._slot))
+    def keys_sorted(self) -> Optional[bool]:
+        """Whether the keys of a map are declared sorted, or None for another type."""
+        return is_done(native.vlt_dtype_keys_sorted(self._slot)) if self.kind is Kind.MAP else None
 
     @property
     def entries(self) -> Optional[DType]:
@@ -316,6 +376,7 @@ class DType(Object):
         return found(DType, native.vlt_dtype_entries, self._slot)
 
     @property
+    @remembered
     def storage(self) -> Optional[DType]:
         """The storage type of an extension type, or None for another type."""
         return found(DType, native.vlt_dtype_storage, self._slot)
@@ -336,101 +397,159 @@ class DType(Object):
         text. Raises `LibraryError` 119 if the type or a part of it is wider than a number of 64 bits can say."""
         return number(ctypes.c_size_t, native.vlt_dtype_element_size, self._slot)
 
-    # Fields of a struct. Each raises `LibraryError` 5 if the type is no struct.
+    # Fields of a struct.
 
     @property
-    def nfields(self) -> int:
-        """The number of fields."""
-        return number(ctypes.c_size_t, native.vlt_struct_nfields, self._slot) or 0
+    def nfields(self) -> Optional[int]:
+        """The number of fields of a struct, or None for another type."""
+        if self.kind is not Kind.STRUCT:
+            return None
+        return number(ctypes.c_size_t, native.vlt_struct_nfields, self._slot)
+
+    @property
+    def names(self) -> Optional[list[str]]:
+        """The names of the fields of a struct, in order, or None for another type."""
+        return [name for name, _ in self._fields()] if self.kind is Kind.STRUCT else None
+
+    @property
+    def fields(self) -> Optional[list[tuple[str, DType]]]:
+        """The fields of a struct, in order, each a pair of a name and a type, or None for another type."""
+        return [*self._fields()] if self.kind is Kind.STRUCT else None
+
+    @remembered
+    def _fields(self) -> tuple[tuple[str, DType], ...]:
+        """The fields. Raises `TypeError` if the type is no struct."""
+        if self.kind is not Kind.STRUCT:
+            raise TypeError(f"a type of the kind {self.kind} has no fields")
+        return tuple((self.field_name(it) or "", made(DType, native.vlt_struct_field_by_index, self._slot, it))
+                     for it in range(self.nfields or 0))
+
+    def __len__(self) -> int:
+        return len(self._fields())
+
+    def __bool__(self) -> bool:
+        return True
+
+    def __iter__(self) -> Iterator[tuple[str, DType]]:
+        return iter(self._fields())
+
+    def __contains__(self, name: object) -> bool:
+        """Returns whether the struct has a field with this name. No field has another name than a text."""
+        self._fields()
+        return isinstance(name, str) and self.find(name) is not None
+
+    def __getitem__(self, name: str) -> DType:
+        """Returns the type of the first field with this name. Raises `KeyError` if there is none."""
+        self._fields()
+        it = self.field(name)
+        if it is None:
+            raise KeyError(name)
+        return it
 
     def field_name(self, index: int) -> Optional[str]:
-        """Returns the name of the field at this position, or None if no field is there."""
+        """Returns the name of the field at this position, or None if no field is there. Raises `LibraryError` 5 if the
+        type is no struct."""
         return text_found(native.vlt_struct_field_name, self._slot, position_given(index, "index"))
 
     def field_by_index(self, index: int) -> Optional[DType]:
-        """Returns the type of the field at this position, or None if no field is there."""
+        """Returns the type of the field at this position, or None if no field is there. Raises `LibraryError` 5 if the
+        type is no struct."""
         return found(DType, native.vlt_struct_field_by_index, self._slot, position_given(index, "index"))
 
     def find(self, name: str) -> Optional[int]:
-        """Returns the position of the first field with this name, or None."""
+        """Returns the position of the first field with this name, or None. Raises `LibraryError` 5 if the type is no
+        struct."""
         given = text_given(name, "name")
         return number(ctypes.c_size_t, native.vlt_struct_find, self._slot, given, len(given))
 
     def field(self, name: str) -> Optional[DType]:
-        """Returns the type of the first field with this name, or None."""
+        """Returns the type of the first field with this name, or None. Raises `LibraryError` 5 if the type is no
+        struct."""
         given = text_given(name, "name")
         return found(DType, native.vlt_struct_field, self._slot, given, len(given))
 
-    @property
-    def names(self) -> list[str]:
-        """The names of the fields, in order."""
-        return [self.field_name(it) or "" for it in range(self.nfields)]
-
-    @property
-    def fields(self) -> list[tuple[str, DType]]:
-        """The fields, in order, each a pair of a name and a type."""
-        return [(self.field_name(it) or "", made(DType, native.vlt_struct_field_by_index, self._slot, it))
-                for it in range(self.nfields)]
-
     def project(self, names: Iterable[str]) -> DType:
         """Returns the struct of the fields with these names, in the order of the names. Raises `LibraryError` 116 if
-        a name isn't the name of a field."""
+        a name isn't the name of a field, and 5 if the type is no struct.
+
+        >>> DType("{a=i8, b=i16, c=i32}").project(["c", "a"])
+        DType('{c=i32, a=i8}')
+        """
         given = items_given(names, "names", "str", text_given, (Object,))
         return made(DType, native.vlt_struct_project, self._slot, *joined_names(given))
 
     def without_field(self, index: int) -> DType:
-        """Returns the struct without the field at this position. Raises `LibraryError` 117 if no field is there."""
+        """Returns the struct without the field at this position. Raises `LibraryError` 117 if no field is there, and 5
+        if the type is no struct."""
         return made(DType, native.vlt_struct_without_field, self._slot, position_given(index, "index"))
 
     def disjoint_merge(self, other: DType) -> DType:
-        """Returns the struct of the fields of both. Raises `LibraryError` 118 if a name occurs twice among them."""
+        """Returns the struct of the fields of both. Raises `LibraryError` 118 if a name occurs twice among them, and 5 if
+        one of the two types is no struct."""
         it = instance_given(other, DType, "other")._other_than(self)
         return made(DType, native.vlt_struct_disjoint_merge, self._slot, it._slot)
 
     def indented(self) -> str:
-        """Returns the text of the fields with a line for each field."""
+        """Returns the text of the fields with a line for each field. Raises `LibraryError` 5 if the type is no struct."""
         return text(native.vlt_struct_indented, self._slot)
 
-    # Variants of a union. Each raises `LibraryError` 5 if the type is no union.
+    # Variants of a union.
 
     @property
-    def nvariants(self) -> int:
-        """The number of variants."""
-        return number(ctypes.c_size_t, native.vlt_union_len, self._slot) or 0
+    def nvariants(self) -> Optional[int]:
+        """The number of variants of a union, or None for another type."""
+        return number(ctypes.c_size_t, native.vlt_union_len, self._slot) if self.kind is Kind.UNION else None
+
+    @property
+    def variants(self) -> Optional[list[tuple[str, DType]]]:
+        """The variants of a union, in order, each a pair of a name and a type, or None for another type."""
+        return None if self.nvariants is None else [
+            (self.variant_name(it) or "", made(DType, native.vlt_union_variant_by_index, self._slot, it))
+            for it in range(self.nvariants)]
+
+    @property
+    def tags(self) -> Optional[bytes]:
+        """The tags of a union, in the order of its variants, or None for another type."""
+        return None if self.nvariants is None else bytes(self.child_index_to_tag(it) or 0 for it in range(self.nvariants))
 
     def variant_name(self, index: int) -> Optional[str]:
-        """Returns the name of the variant at this position, or None if no variant is there."""
+        """Returns the name of the variant at this position, or None if no variant is there. Raises `LibraryError` 5 if
+        the type is no union."""
         return text_found(native.vlt_union_variant_name, self._slot, position_given(index, "index"))
 
     def variant_by_index(self, index: int) -> Optional[DType]:
-        """Returns the type of the variant at this position, or None if no variant is there."""
+        """Returns the type of the variant at this position, or None if no variant is there. Raises `LibraryError` 5 if
+        the type is no union."""
         return found(DType, native.vlt_union_variant_by_index, self._slot, position_given(index, "index"))
 
     def find_variant(self, name: str) -> Optional[int]:
-        """Returns the position of the variant with this name, or None."""
+        """Returns the position of the variant with this name, or None. Raises `LibraryError` 5 if the type is no
+        union."""
         given = text_given(name, "name")
         return number(ctypes.c_size_t, native.vlt_union_find, self._slot, given, len(given))
 
     def variant_of(self, name: str) -> Optional[DType]:
-        """Returns the type of the variant with this name, or None."""
+        """Returns the type of the variant with this name, or None. Raises `LibraryError` 5 if the type is no union."""
         given = text_given(name, "name")
         return found(DType, native.vlt_union_variant, self._slot, given, len(given))
 
     def child_index_to_tag(self, index: int) -> Optional[int]:
-        """Returns the tag of the variant at this position, or None if no variant is there."""
+        """Returns the tag of the variant at this position, or None if no variant is there. Raises `LibraryError` 5 if
+        the type is no union."""
         return number(ctypes.c_uint8, native.vlt_union_child_index_to_tag, self._slot, position_given(index, "index"))
 
     def tag_to_child_index(self, tag: int) -> Optional[int]:
-        """Returns the position of the variant with this tag, or None."""
+        """Returns the position of the variant with this tag, or None. Raises `LibraryError` 5 if the type is no union."""
         given = number_given(tag, "tag")
         if not 0 <= given < 256:
+            self.child_index_to_tag(0)  # (It raises the error of a type of another kind.)
             return None
         return number(ctypes.c_size_t, native.vlt_union_tag_to_child_index, self._slot, given)
 
     @property
-    def is_consecutive(self) -> bool:
-        """Whether the tags are 0, 1, 2 and so on, in this order."""
-        return is_done(native.vlt_union_is_consecutive(self._slot))
+    def is_consecutive(self) -> Optional[bool]:
+        """Whether the tags of a union are 0, 1, 2 and so on, in this order, or None for another type."""
+        return is_done(native.vlt_union_is_consecutive(self._slot)) if self.kind is Kind.UNION else None
 
     # Comparisons.
 
@@ -504,11 +623,145 @@ class DType(Object):
         return type(self), (self.to_source(),)
 
 
+Parts = Union[Mapping[str, DType], Iterable[tuple[str, DType]]]
+
+
+def _parts_given(it: Parts, name: str) -> list[tuple[bytes, DType]]:
+    """Returns the pairs of a mapping, or those of an iterable."""
+    return items_given(it.items() if isinstance(it, Mapping) else it, name, "pairs", _part_given)
+
+
 def _part_given(it: tuple[str, DType], name: str) -> tuple[bytes, DType]:
     """Returns a pair of a name and a type, the name in UTF-8."""
     if not isinstance(it, (tuple, list)) or len(it) != 2:
         raise wrong(name, "a pair of a str and a DType", it)
     return text_given(it[0], f"{name}[0]"), instance_given(it[1], DType, f"{name}[1]")
+
+
+class View:
+    """The classes of the objects that `DType.view` returns, one for each kind of type. Two of them are equal if their
+    classes and their parts are. `nullable` is whether the type is nullable.
+
+    >>> DType("{a=i8}?").view()
+    View.Struct(fields=(('a', DType('i8')),), nullable=True)
+    """
+
+    @dataclass(frozen=True)
+    class Null:
+        """The view of `null`."""
+
+    @dataclass(frozen=True)
+    class Bool:
+        """The view of a type of truth values."""
+
+        nullable: bool
+
+    @dataclass(frozen=True)
+    class Primitive:
+        """The view of a primitive type."""
+
+        ptype: PType
+        nullable: bool
+
+    @dataclass(frozen=True)
+    class Decimal:
+        """The view of a decimal type."""
+
+        precision: int
+        scale: int
+        nullable: bool
+
+    @dataclass(frozen=True)
+    class Utf8:
+        """The view of a type of texts."""
+
+        nullable: bool
+
+    @dataclass(frozen=True)
+    class Binary:
+        """The view of a type of byte strings."""
+
+        nullable: bool
+
+    @dataclass(frozen=True)
+    class List:
+        """The view of a list type."""
+
+        element: DType
+        nullable: bool
+
+    @dataclass(frozen=True)
+    class FixedSizeList:
+        """The view of a fixed-size list type."""
+
+        element: DType
+        size: int
+        nullable: bool
+
+    @dataclass(frozen=True)
+    class Map:
+        """The view of a map type."""
+
+        key: DType
+        value: DType
+        keys_sorted: bool
+        nullable: bool
+
+    @dataclass(frozen=True)
+    class Struct:
+        """The view of a struct type, with its fields, each a pair of a name and a type."""
+
+        fields: tuple[tuple[str, DType], ...]
+        nullable: bool
+
+    @dataclass(frozen=True)
+    class Union:
+        """The view of a union type, with its variants, each a pair of a name and a type, and the tag of each."""
+
+        variants: tuple[tuple[str, DType], ...]
+        tags: bytes
+        nullable: bool
+
+    @dataclass(frozen=True)
+    class Variant:
+        """The view of a type `variant`."""
+
+        nullable: bool
+
+    @dataclass(frozen=True)
+    class Extension:
+        """The view of an extension type. It is nullable if the storage type is."""
+
+        id: str
+        metadata: bytes
+        storage: DType
+
+
+AnyView = Union[View.Null, View.Bool, View.Primitive, View.Decimal, View.Utf8, View.Binary, View.List, View.FixedSizeList,
+                View.Map, View.Struct, View.Union, View.Variant, View.Extension]
+
+
+def _there(it: Optional[R]) -> R:
+    """Returns a part that a type of its kind has."""
+    assert it is not None
+    return it
+
+
+_VIEWS: dict[Kind, Callable[[DType], AnyView]] = {
+    Kind.NULL: lambda it: View.Null(),
+    Kind.BOOL: lambda it: View.Bool(it.is_nullable),
+    Kind.PRIMITIVE: lambda it: View.Primitive(_there(it.ptype), it.is_nullable),
+    Kind.DECIMAL: lambda it: View.Decimal(*_there(it.decimal_parts), it.is_nullable),
+    Kind.UTF8: lambda it: View.Utf8(it.is_nullable),
+    Kind.BINARY: lambda it: View.Binary(it.is_nullable),
+    Kind.LIST: lambda it: View.List(_there(it.element), it.is_nullable),
+    Kind.FIXED_SIZE_LIST: lambda it: View.FixedSizeList(_there(it.element), _there(it.fixed_size), it.is_nullable),
+    Kind.MAP: lambda it: View.Map(_there(it.key), _there(it.value), _there(it.keys_sorted), it.is_nullable),
+    Kind.STRUCT: lambda it: View.Struct((*it,), it.is_nullable),
+    Kind.UNION: lambda it: View.Union((*_there(it.variants),), _there(it.tags), it.is_nullable),
+    Kind.VARIANT: lambda it: View.Variant(it.is_nullable),
+    Kind.EXTENSION: lambda it: View.Extension(_there(it.id), _there(it.metadata), _there(it.storage)),
+}
 
 
 class FieldPath(Object):

@@ -7,6 +7,7 @@ from __future__ import annotations
 
 import copy
 import ctypes
+import functools
 import os
 import sys
 import threading
@@ -22,6 +23,7 @@ SETTING = "VORTEX_LOGICAL_TYPES_LIB"
 LOCK_SETTING = "VORTEX_LOGICAL_TYPES_LOCK"
 
 T = TypeVar("T", bound="Object")
+R = TypeVar("R")
 
 
 class VortexError(Exception):
@@ -136,8 +138,10 @@ native = _load()
 class Object:
     """An object that the library made. It may be used, and collected, on any thread."""
 
-    __slots__ = ("_slot", "__weakref__")
+    __slots__ = ("_slot", "_known", "__weakref__")
     _slot: Slot
+    # What an object that doesn't change was asked for before (see `remembered`).
+    _known: dict[str, Any]
     # The call that copies such an object, and whether calls may change it.
     _copy: Callable[..., int]
     _is_mutable = False
@@ -199,8 +203,22 @@ def is_done(code: int) -> bool:
 def holding(cls: type[T], slot: Slot) -> T:
     """Returns an object of the class, which owns what is in the slot."""
     it = object.__new__(cls)
-    it._slot = slot
+    it._slot, it._known = slot, {}
     return it
+
+
+def remembered(ask: Callable[[T], R]) -> Callable[[T], R]:
+    """Makes a method of an object that doesn't change remember what it returned, so that it makes its calls once."""
+    name = ask.__name__
+
+    @functools.wraps(ask)
+    def answer(it: T) -> R:
+        known = it._known
+        if name not in known:
+            known[name] = ask(it)
+        return known[name]  # type: ignore[no-any-return]
+
+    return answer
 
 
 def found(cls: type[T], call: Callable[..., int], *arguments: Any) -> Optional[T]:

@@ -186,6 +186,10 @@ class Calls(unittest.TestCase):
         self.assertTrue((answer("find") or "").startswith("unreadable at "))
         self.assertTrue((answer(b"\xff") or "").startswith("unreadable"))
 
+    def test_equal_objects_have_equal_hashes(self):
+        self.assertEqual(len({FieldMask.all(), FieldMask.prefix("a"), FieldMask.exact("a"), FieldMask.prefix(FieldPath("a"))}), 3)
+        self.assertEqual(len({Message("null {}"), DType.null().to_proto(), Message("{}")}), 2)
+
     def test_has_examples(self):
         self.assertEqual(doctest.testmod(vortex_logical_types).failed, 0)
         self.assertIsInstance(LibraryError(101, ""), ValueError)

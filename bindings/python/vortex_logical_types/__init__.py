@@ -34,8 +34,10 @@ from __future__ import annotations
 
 import ctypes
 import enum
+import functools
+from collections.abc import Sequence, Set as AbstractSet
 from dataclasses import dataclass
-from typing import Any, Callable, Iterable, Iterator, Mapping, NamedTuple, Optional, TypeVar, Union
+from typing import Any, Callable, Iterable, Iterator, Mapping, NamedTuple, Optional, TypeVar, Union, overload
 
 from . import _table
 from ._arguments import (
@@ -764,13 +766,28 @@ _VIEWS: dict[Kind, Callable[[DType], AnyView]] = {
 }
 
 
-class FieldPath(Object):
-    """A path into a type. `FieldPath("a.[].b")` reads a text in the form of the console, in which the root is `.`."""
+class FieldPath(Object, Sequence[Step]):
+    """A path into a type. `FieldPath("a.[].b")` reads a text in the form of the console, in which the root is `.`, and
+    `FieldPath(path)` copies a path.
+
+    A path is a sequence of steps, each of them a name or `ELEMENT`. `/` appends one step, and a slice is a path:
+
+    >>> path = FieldPath("orders") / ELEMENT / "a.b"
+    >>> path, path[-1], path.parent, path[1:]
+    (FieldPath('orders.[]."a.b"'), 'a.b', FieldPath('orders.[]'), FieldPath('[]."a.b"'))
+
+    Paths are compared step by step: `ELEMENT` is less than each name, and names are compared by their bytes in UTF-8. A
+    path is always true in an `if`, also the root.
+    """
 
     __slots__ = ()
     _copy = native.vlt_path_copy
 
-    def __new__(cls: type[T], source: str = ".") -> T:
+    def __new__(cls: type[T], source: Union[str, FieldPath] = ".") -> T:
+        if isinstance(source, FieldPath):
+            return made(cls, native.vlt_path_copy, source._slot)
+        if not isinstance(source, str):
+            raise wrong("source", "a str or a FieldPath", source)
         return read(cls, native.vlt_path_from_text, text_given(source, "source"))
 
     @staticmethod
@@ -779,8 +796,17 @@ class FieldPath(Object):
         return made(FieldPath, native.vlt_path_root)
 
     @staticmethod
+    def from_name(name: str) -> FieldPath:
+        """Returns the path of one step, which is a name. For example, that of `a.b` has one step, and not two."""
+        return FieldPath.from_steps([instance_given(name, str, "name")])
+
+    @staticmethod
     def from_steps(steps: Iterable[Step]) -> FieldPath:
-        """Returns the path of these steps. A step is a name or `ELEMENT`."""
+        """Returns the path of these steps. A step is a name or `ELEMENT`.
+
+        >>> FieldPath.from_steps(["a", ELEMENT, "b c"])
+        FieldPath('a.[]."b c"')
+        """
         given = items_given(steps, "steps", "steps", _step_given)
         return made(FieldPath, native.vlt_path_from_steps, *joined_names(given))
 
@@ -797,26 +823,49 @@ class FieldPath(Object):
         `path { name: "a" } path { name: "b" }` describes the path `a.b`."""
         return read(FieldPath, native.vlt_path_from_message_text, text_given(source, "source"))
 
+    @remembered
     def __len__(self) -> int:
         return number(ctypes.c_size_t, native.vlt_path_len, self._slot) or 0
 
     def __bool__(self) -> bool:
         return True
 
-    def __getitem__(self, index: int) -> Step:
+    def _step(self, index: int) -> Step:
+        name, length = bytes_and_length(native.vlt_path_step, self._slot, index) or (b"", _table.ELEMENT)
+        return ELEMENT if length == _table.ELEMENT else name.decode()
+
+    @remembered
+    def _steps(self) -> tuple[Step, ...]:
+        return tuple(self._step(it) for it in range(len(self)))
+
+    @overload
+    def __getitem__(self, index: int) -> Step: ...
+
+    @overload
+    def __getitem__(self, index: slice) -> FieldPath: ...
+
+    def __getitem__(self, index: Union[int, slice]) -> Union[Step, FieldPath]:
+        """Returns the step at this position, which is counted from the end if it is negative. Returns a path for a slice.
+        Raises `IndexError` if the path has no such step."""
+        if isinstance(index, slice):
+            return FieldPath.from_steps(self._steps()[index])
         given, count = number_given(index, "index"), len(self)
-        it = bytes_and_length(native.vlt_path_step, self._slot, given % count) if -count <= given < count else None
-        if it is None:
+        if not -count <= given < count:
             raise IndexError(f"index must be from {-count} to {count - 1}, not {given}" if count else "the root has no steps")
-        return ELEMENT if it[1] == _table.ELEMENT else it[0].decode()
+        return self._step(given % count) if "_steps" not in self._known else self._steps()[given]
 
     def __iter__(self) -> Iterator[Step]:
-        return (self[it] for it in range(len(self)))
+        return iter(self._steps())
 
     @property
     def parts(self) -> list[Step]:
         """The steps of the path, in order."""
-        return [*self]
+        return [*self._steps()]
+
+    @property
+    def parent(self) -> Optional[FieldPath]:
+        """The path without its last step, or None if it is the root."""
+        return None if self.is_root else self[:-1]
 
     @property
     def is_root(self) -> bool:
@@ -829,6 +878,18 @@ class FieldPath(Object):
         if given is None:
             return made(FieldPath, native.vlt_path_push_element, self._slot)
         return made(FieldPath, native.vlt_path_push_name, self._slot, given, len(given))
+
+    def __truediv__(self, step: Step) -> FieldPath:
+        return self.push(step) if step is ELEMENT or isinstance(step, str) else NotImplemented
+
+    def join(self, other: Union[FieldPath, str]) -> FieldPath:
+        """Returns the path of the steps of both. A text is read, so `path.join("a.b")` appends two steps."""
+        return FieldPath.from_steps([*self._steps(), *_path_given(other, "other")])
+
+    def starts_with(self, other: Union[FieldPath, str]) -> bool:
+        """Returns whether the other path is a prefix of this one, or the same path."""
+        steps = _path_given(other, "other")._steps()
+        return self._steps()[: len(steps)] == steps
 
     def step_into(self) -> Optional[FieldPath]:
         """Returns the path without its first step, or None if it is the root."""
@@ -861,6 +922,23 @@ class FieldPath(Object):
 
     def __hash__(self) -> int:
         return hash(number(ctypes.c_uint64, native.vlt_path_hash, self._slot))
+
+    @remembered
+    def _order(self) -> list[tuple[bool, str]]:
+        """Returns what paths are compared by. (Texts have the order of their bytes in UTF-8.)"""
+        return [(True, it) if isinstance(it, str) else (False, "") for it in self._steps()]
+
+    def __lt__(self, other: FieldPath) -> bool:
+        return self._order() < other._order() if isinstance(other, FieldPath) else NotImplemented
+
+    def __le__(self, other: FieldPath) -> bool:
+        return self._order() <= other._order() if isinstance(other, FieldPath) else NotImplemented
+
+    def __gt__(self, other: FieldPath) -> bool:
+        return self._order() > other._order() if isinstance(other, FieldPath) else NotImplemented
+
+    def __ge__(self, other: FieldPath) -> bool:
+        return self._order() >= other._order() if isinstance(other, FieldPath) else NotImplemented
 
     def to_source(self) -> str:
         """Returns the text of the path in the form of the console. `FieldPath` reads it as the same path."""
@@ -905,30 +983,69 @@ def _paths_given(it: Iterable[Union[FieldPath, str]], name: str) -> list[FieldPa
     return items_given(it, name, "FieldPath and str", _path_given, (FieldPath,))
 
 
-class FieldPathSet(Object):
+def _of_sets(operator: Callable[[FieldPathSet, FieldPathSet], R]) -> Callable[[FieldPathSet, object], R]:
+    """Makes an operator of a set take each set of paths, Python's own too, and return NotImplemented for what is none."""
+
+    @functools.wraps(operator)
+    def operate(self: FieldPathSet, other: object) -> R:
+        if isinstance(other, FieldPathSet):
+            return operator(self, other)
+        if isinstance(other, AbstractSet) and all(isinstance(path, FieldPath) for path in other):
+            return operator(self, FieldPathSet(other))
+        return NotImplemented
+
+    return operate
+
+
+class FieldPathSet(Object, AbstractSet[FieldPath]):
     """A set of paths, for example `FieldPathSet(["a.b", FieldPath.root()])`. Iterating over it yields each of its
-    paths once, in no promised order."""
+    paths once, in no promised order.
+
+    It is a `collections.abc.Set` that paths can be added to, so it isn't hashable. Paths can't be removed: `difference`
+    and `-` make another set. As with Python's own sets, operators take sets, of which each member has to be a
+    `FieldPath`, and methods take any iterables of paths, also of paths as texts:
+
+    >>> paths = FieldPathSet(["a", "b.c"])
+    >>> paths <= {FieldPath("a"), FieldPath("b.c"), FieldPath("d")}, paths.issubset(["a"])
+    (True, False)
+    >>> paths | FieldPathSet(["a.x"]), paths.difference(["a"])
+    (FieldPathSet(['a', 'a.x', 'b.c']), FieldPathSet(['b.c']))
+
+    These are operations on the paths themselves. For example, the sets of `a` and of `a.x` are disjoint, although each
+    field that `a.x` leads to is part of the one that `a` leads to.
+    """
 
     __slots__ = ()
-
     _copy = native.vlt_set_copy
     _is_mutable = True
 
-    def __new__(cls: type[T], *_: object, **__: object) -> T:
-        return made(cls, native.vlt_set_new)
-
     def __init__(self, paths: Iterable[Union[FieldPath, str]] = ()) -> None:
-        self.extend(paths)
+        it = made(FieldPathSet, native.vlt_set_new)
+        it.extend(paths)
+        it._move_to(self)
 
     def insert(self, path: Union[FieldPath, str]) -> None:
         """Inserts the path. If it is in the set already, nothing changes."""
         it = _path_given(path, "path")
         is_done(native.vlt_set_insert(self._slot, it._slot))
 
+    def add(self, path: Union[FieldPath, str]) -> None:
+        """Inserts the path, as `insert` does."""
+        self.insert(path)
+
     def extend(self, paths: Iterable[Union[FieldPath, str]]) -> None:
         """Inserts the paths, in order. All of them are taken from `paths` before the first is inserted."""
+        if isinstance(paths, FieldPathSet):
+            members = made(_Paths, native.vlt_set_members, paths._slot)
+            is_done(native.vlt_set_extend_from_list(self._slot, members._slot))
+            return
         for it in _paths_given(paths, "paths"):
             is_done(native.vlt_set_insert(self._slot, it._slot))
+
+    def update(self, *paths: Iterable[Union[FieldPath, str]]) -> None:
+        """Inserts the paths of each of these iterables. All are taken from them before the first is inserted."""
+        for it in [_set_given(it, "paths") for it in paths]:
+            self.extend(it)
 
     def __contains__(self, path: object) -> bool:
         """Returns whether the set contains the path. It contains nothing but paths, so for another object the answer
@@ -940,6 +1057,98 @@ class FieldPathSet(Object):
 
     def __len__(self) -> int:
         return number(ctypes.c_size_t, native.vlt_set_len, self._slot) or 0
+
+    # Operators, which take sets of paths.
+
+    @_of_sets
+    def __eq__(self, other: FieldPathSet) -> bool:
+        return self is other or (len(self) == len(other) and self._is_within(other))
+
+    __hash__ = None  # type: ignore[assignment]
+
+    @_of_sets
+    def __le__(self, other: FieldPathSet) -> bool:  # type: ignore[has-type]  # (of the opposite, which comes below)
+        return len(self) <= len(other) and self._is_within(other)
+
+    @_of_sets
+    def __lt__(self, other: FieldPathSet) -> bool:  # type: ignore[has-type]  # (of the opposite, which comes below)
+        return len(self) < len(other) and self._is_within(other)
+
+    @_of_sets
+    def __ge__(self, other: FieldPathSet) -> bool:
+        return len(other) <= len(self) and other._is_within(self)
+
+    @_of_sets
+    def __gt__(self, other: FieldPathSet) -> bool:
+        return len(other) < len(self) and other._is_within(self)
+
+    @_of_sets
+    def __or__(self, other: FieldPathSet) -> FieldPathSet:
+        return self.union(other)
+
+    @_of_sets
+    def __and__(self, other: FieldPathSet) -> FieldPathSet:
+        return self.intersection(other)
+
+    @_of_sets
+    def __sub__(self, other: FieldPathSet) -> FieldPathSet:
+        return self.difference(other)
+
+    @_of_sets
+    def __rsub__(self, other: FieldPathSet) -> FieldPathSet:
+        return other.difference(self)
+
+    @_of_sets
+    def __xor__(self, other: FieldPathSet) -> FieldPathSet:
+        return self.symmetric_difference(other)
+
+    __ror__, __rand__, __rxor__ = __or__, __and__, __xor__
+
+    @_of_sets
+    def __ior__(self, other: FieldPathSet) -> FieldPathSet:
+        self.extend(other)
+        return self
+
+    # The same as methods, which take iterables of paths and of texts.
+
+    def union(self, *others: Iterable[Union[FieldPath, str]]) -> FieldPathSet:
+        """Returns the set of the paths that are in this set or in one of the others."""
+        given = [_set_given(it, "others") for it in others]
+        united = made(FieldPathSet, native.vlt_set_copy, self._slot)
+        united.update(*given)
+        return united
+
+    def intersection(self, *others: Iterable[Union[FieldPath, str]]) -> FieldPathSet:
+        """Returns the set of those paths of this set that are in each of the others."""
+        given = [_set_given(it, "others") for it in others]
+        return FieldPathSet(path for path in self if all(path in it for it in given))
+
+    def difference(self, *others: Iterable[Union[FieldPath, str]]) -> FieldPathSet:
+        """Returns the set of those paths of this set that are in none of the others."""
+        given = [_set_given(it, "others") for it in others]
+        return FieldPathSet(path for path in self if not any(path in it for it in given))
+
+    def symmetric_difference(self, other: Iterable[Union[FieldPath, str]]) -> FieldPathSet:
+        """Returns the set of the paths that are in one of the two sets and not in both."""
+        it = _set_given(other, "other")
+        return self.difference(it).union(it.difference(self))
+
+    def issubset(self, other: Iterable[Union[FieldPath, str]]) -> bool:
+        """Returns whether each path of this set is in the other."""
+        return self <= _set_given(other, "other")
+
+    def issuperset(self, other: Iterable[Union[FieldPath, str]]) -> bool:
+        """Returns whether each path of the other set is in this one."""
+        return _set_given(other, "other") <= self
+
+    def isdisjoint(self, other: Iterable[Union[FieldPath, str]]) -> bool:
+        """Returns whether no path is in both sets."""
+        few, many = sorted((self, _set_given(other, "other")), key=len)
+        return not any(path in many for path in few)
+
+    def _is_within(self, other: FieldPathSet) -> bool:
+        """Returns whether each path of this set is in the other."""
+        return all(path in other for path in self)
 
     def members(self) -> list[FieldPath]:
         """Returns the paths of the set, each once, in no promised order."""
@@ -974,10 +1183,15 @@ class FieldPathSet(Object):
         return None if it is None else [str(path[0]) for path in it.all()]
 
     def __repr__(self) -> str:
-        return f"FieldPathSet({[it.to_source() for it in self]!r})"
+        return f"FieldPathSet({[it.to_source() for it in sorted(self)]!r})"
 
     def _made_by(self) -> tuple[type, tuple[list[str]]]:
         return type(self), (sorted(it.to_source() for it in self),)
+
+
+def _set_given(it: Iterable[Union[FieldPath, str]], name: str) -> FieldPathSet:
+    """Returns the set of the paths of an iterable."""
+    return it if isinstance(it, FieldPathSet) else FieldPathSet(_paths_given(it, name))
 
 
 # The kinds of masks, by their numbers.
@@ -1056,7 +1270,8 @@ class FieldMask(Object):
             return NotImplemented
         return self is other or is_done(native.vlt_mask_eq(self._slot, other._slot))
 
-    __hash__ = None  # type: ignore[assignment]
+    def __hash__(self) -> int:
+        return hash((self.kind, self.path))
 
     def __repr__(self) -> str:
         path = self.path
@@ -1131,7 +1346,8 @@ class Message(Object):
             return NotImplemented
         return self is other or is_done(native.vlt_message_eq(self._slot, other._slot))
 
-    __hash__ = None  # type: ignore[assignment]
+    def __hash__(self) -> int:
+        return hash(self.to_flat())
 
     def to_source(self) -> str:
         """Returns the message in protobuf's text format. `Message` reads it as the same message."""

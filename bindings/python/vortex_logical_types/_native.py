@@ -171,6 +171,12 @@ class Object:
             it.__dict__.update(copy.deepcopy(self.__dict__, memo))
         return it
 
+    def _move_to(self, other: Object) -> None:
+        """Moves what the library made into another object, and drops what that had."""
+        if hasattr(other, "_slot"):
+            native.vlt_free(other._slot)
+        other._slot, other._known, self._slot = self._slot, {}, Slot()
+
     def _made_by(self) -> tuple[Any, tuple[Any, ...]]:
         """Returns a call and its arguments, which are texts or bytes. The call makes an object that is equal to this."""
         raise NotImplementedError

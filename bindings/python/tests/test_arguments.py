@@ -132,6 +132,16 @@ class Arguments(unittest.TestCase):
                     self.check(what, call, given, name, hint, value)
         self.assertGreater(len(seen), 70, seen)
 
+    def test_every_result_has_a_type(self):
+        results = {what: function for what, function, _, _ in functions() if what not in vortex_logical_types.__all__}
+        for cls in OBJECTS:
+            results |= {f"{cls.__name__}.{name}": it.fget for name, it in vars(cls).items() if isinstance(it, property)}
+        self.assertGreater(len(results), 90)
+        for what, function in results.items():
+            with self.subTest(function=what):
+                hint = typing.get_type_hints(function)["return"]
+                self.assertNotIn("Any", repr(hint).replace("AnyView", ""))
+
     def test_objects_name_wrong_operands(self):
         for it in OBJECTS.values():
             for other in (None, 5, b"", [], Other()):

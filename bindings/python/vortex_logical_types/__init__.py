@@ -74,6 +74,7 @@ from ._native import (
 from ._table import Node
 
 __all__ = [
+    "AnyView",
     "DType",
     "ELEMENT",
     "Element",

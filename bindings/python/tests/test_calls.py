@@ -4,12 +4,13 @@
 """The calls of the package, each on a value or two."""
 import copy
 import doctest
+import inspect
 import pickle
 import unittest
 
 import vortex_logical_types
-from vortex_logical_types import (ELEMENT, Below, DType, FieldMask, FieldPath, FieldPathSet, FlatMessage, Kind, LibraryError,
-                                  Message, Node, PType, Unreadable, VortexError, answer)
+from vortex_logical_types import (ELEMENT, Below, DType, FieldMask, FieldPath, FieldPathSet, FlatMessage, Kind, Message,
+                                  Node, PType, Unreadable, VortexError, answer)
 
 
 class Calls(unittest.TestCase):
@@ -191,8 +192,31 @@ class Calls(unittest.TestCase):
         self.assertEqual(len({Message("null {}"), DType.null().to_proto(), Message("{}")}), 2)
 
     def test_has_examples(self):
-        self.assertEqual(doctest.testmod(vortex_logical_types).failed, 0)
-        self.assertIsInstance(LibraryError(101, ""), ValueError)
+        runner = doctest.DocTestRunner()
+        for it in (vortex_logical_types, *map(vars(vortex_logical_types).get, vortex_logical_types.__all__)):
+            finder = doctest.DocTestFinder(recurse=isinstance(it, type))
+            for example in finder.find(it, "an example", module=False, globs={**vars(vortex_logical_types)}):
+                runner.run(example)
+        self.assertEqual(runner.failures, 0)
+        self.assertGreater(runner.tries, 45)
+
+    def test_every_class_has_an_example(self):
+        for name in vortex_logical_types.__all__:
+            it = getattr(vortex_logical_types, name)
+            if isinstance(it, type) and not issubclass(it, (Exception, Node)):  # (Message.from_nodes has one of nodes)
+                members = [getattr(found, "fget", found) for found in vars(it).values()]
+                members = [getattr(found, "__func__", found) for found in members]
+                with self.subTest(name=name):
+                    self.assertIn(">>> ", "".join(found.__doc__ or "" for found in (it, *members)))
+
+    def test_every_function_is_described(self):
+        for name in vortex_logical_types.__all__:
+            it = getattr(vortex_logical_types, name)
+            self.assertTrue(it.__doc__ or name == "AnyView", name)
+            for member, found in vars(it).items() if isinstance(it, type) else ():
+                if not member.startswith("_") and (callable(found) or isinstance(found, (property, staticmethod, classmethod))):
+                    with self.subTest(function=f"{name}.{member}"):
+                        self.assertTrue(inspect.getdoc(getattr(it, member)))
 
 
 if __name__ == "__main__":

@@ -101,7 +101,11 @@ R = TypeVar("R")
 
 
 class Element(enum.Enum):
-    """The type of `ELEMENT`, which is the step of a path into the elements of a list."""
+    """The type of `ELEMENT`, which is the step of a path into the elements of a list.
+
+    >>> FieldPath("lines.[].sku").parts
+    ['lines', ELEMENT, 'sku']
+    """
 
     ELEMENT = "[]"
 
@@ -115,13 +119,21 @@ Step = Union[str, Element]
 
 
 class PType(enum.Enum):
-    """A primitive type. Its value is the number that messages contain for it. For example, that of `PType.I16` is 5."""
+    """A primitive type. Its value is the number that messages contain for it.
+
+    >>> DType.primitive(PType.I16), PType.I16.value
+    (DType('i16'), 5)
+    """
 
     U8, U16, U32, U64, I8, I16, I32, I64, F16, F32, F64 = range(11)
 
 
 class Kind(enum.Enum):
-    """The kind of a `DType`. For example, that of `DType("list(u8)")` is `Kind.LIST`."""
+    """The kind of a `DType`. Its text is its name in small letters.
+
+    >>> DType("list(u8)").kind is Kind.LIST, str(Kind.LIST)
+    (True, 'list')
+    """
 
     NULL, BOOL, PRIMITIVE, DECIMAL, UTF8, BINARY, LIST, FIXED_SIZE_LIST, MAP, STRUCT, UNION, VARIANT, EXTENSION = range(13)
 
@@ -130,7 +142,11 @@ class Kind(enum.Enum):
 
 
 class Below(NamedTuple):
-    """How the paths of a set continue after a path. `FieldPathSet.below` returns it."""
+    """How the paths of a set continue after a path. `FieldPathSet.below` returns it.
+
+    >>> FieldPathSet(["a", "a.b", "a.c.d"]).below("a")
+    Below(is_end=True, has_element=False, name_count=2)
+    """
 
     is_end: bool
     """Whether the path itself is in the set."""
@@ -190,7 +206,11 @@ class DType(Object):
     def decimal(precision: int, scale: int, nullable: bool = False) -> DType:
         """Returns the decimal type with this precision and scale. Raises `LibraryError` 101 to 104 if the precision
         isn't from 1 to 76, or if the scale is above 76 or above the precision, and 9 if the precision isn't from 0
-        to 255 or the scale isn't from -128 to 127."""
+        to 255 or the scale isn't from -128 to 127.
+
+        >>> DType.decimal(10, 2)
+        DType('decimal(10,2)')
+        """
         given = number_given(precision, "precision"), number_given(scale, "scale")
         is_nullable = flag_given(nullable, "nullable")
         if not 0 <= given[0] < 256 or not -128 <= given[1] < 128:
@@ -221,7 +241,11 @@ class DType(Object):
     @staticmethod
     def fixed_size_list(element: DType, size: int, nullable: bool = False) -> DType:
         """Returns the fixed-size list type with this element type and size. Raises `LibraryError` 9 if the size
-        isn't from 0 to 2**32 - 1, and 6 if the element type has 128 levels."""
+        isn't from 0 to 2**32 - 1, and 6 if the element type has 128 levels.
+
+        >>> DType.fixed_size_list(DType("f32"), 3)
+        DType('fixed_size_list(f32)[3]')
+        """
         given, count = instance_given(element, DType, "element"), number_given(size, "size")
         is_nullable = flag_given(nullable, "nullable")
         if not 0 <= count < 1 << 32:
@@ -231,7 +255,11 @@ class DType(Object):
     @staticmethod
     def map_(key: DType, value: DType, keys_sorted: bool = False, nullable: bool = False) -> DType:
         """Returns the map type with these key and value types. Raises `LibraryError` 109 if the key type is
-        nullable, and 6 if one of the two types has 128 levels."""
+        nullable, and 6 if one of the two types has 128 levels.
+
+        >>> DType.map_(DType("utf8"), DType("i32?"))
+        DType('map(utf8, i32?)')
+        """
         keys = instance_given(key, DType, "key")
         values = instance_given(value, DType, "value")._other_than(keys)
         return made(DType, native.vlt_dtype_map, keys._slot, values._slot, flag_given(keys_sorted, "keys_sorted"),
@@ -253,7 +281,11 @@ class DType(Object):
         """Returns the union type with these variants, which are a mapping of names to types, or pairs of a name and a
         type, and with these tags, one byte for each variant, for example `bytes([5, 9])`. Without `tags` the tags are 0,
         1, 2 and so on. Raises `LibraryError` 111 to 115 if the variants and tags don't make a union, for example 113 if a
-        tag repeats, and 6 if the type of a variant has 128 levels."""
+        tag repeats, and 6 if the type of a variant has 128 levels.
+
+        >>> DType.union({"a": DType("i8"), "b": DType("utf8")}, tags=bytes([5, 9]))
+        DType('union(a@5=i8, b@9=utf8)')
+        """
         given, is_nullable = _parts_given(variants, "variants"), flag_given(nullable, "nullable")
         if tags is None:
             return DType._of_parts(native.vlt_dtype_union_consecutive, given, is_nullable)
@@ -263,7 +295,11 @@ class DType(Object):
     @staticmethod
     def extension(id: str, metadata: bytes, storage: DType) -> DType:
         """Returns the extension type with this id, this metadata and this storage type. Raises `LibraryError` 6 if
-        the storage type has 128 levels."""
+        the storage type has 128 levels.
+
+        >>> DType.extension("app.color", b"rgb", DType("u32"))
+        DType('app.color[0x726762](u32)')
+        """
         given, about = text_given(id, "id"), bytes_given(metadata, "metadata")
         kept = instance_given(storage, DType, "storage")
         return made(DType, native.vlt_dtype_extension, given, len(given), about, len(about), kept._slot)
@@ -329,7 +365,11 @@ class DType(Object):
         return self.with_nullability(False)
 
     def union_nullability(self, nullable: bool) -> DType:
-        """Returns the type, which is nullable if it was nullable or if `nullable` is true."""
+        """Returns the type, which is nullable if it was nullable or if `nullable` is true.
+
+        >>> DType("i8?").union_nullability(False)
+        DType('i8?')
+        """
         return made(DType, native.vlt_dtype_union_nullability, self._slot, flag_given(nullable, "nullable"))
 
     @property
@@ -375,7 +415,11 @@ class DType(Object):
 
     @property
     def entries(self) -> Optional[DType]:
-        """The type of the entries of a map, a struct of a key and a value, or None for another type."""
+        """The type of the entries of a map, a struct of a key and a value, or None for another type.
+
+        >>> DType("map(utf8, i32?)").entries
+        DType('{key=utf8, value=i32?}')
+        """
         return found(DType, native.vlt_dtype_entries, self._slot)
 
     @property
@@ -397,7 +441,11 @@ class DType(Object):
     @property
     def element_size(self) -> Optional[int]:
         """The number of bytes that each value takes, or None if a part of the type is of variable width, such as a
-        text. Raises `LibraryError` 119 if the type or a part of it is wider than a number of 64 bits can say."""
+        text. Raises `LibraryError` 119 if the type or a part of it is wider than a number of 64 bits can say.
+
+        >>> DType("fixed_size_list(i32)[3]").element_size, DType("utf8").element_size
+        (12, None)
+        """
         return number(ctypes.c_size_t, native.vlt_dtype_element_size, self._slot)
 
     # Fields of a struct.
@@ -483,12 +531,20 @@ class DType(Object):
 
     def without_field(self, index: int) -> DType:
         """Returns the struct without the field at this position. Raises `LibraryError` 117 if no field is there, and 5
-        if the type is no struct."""
+        if the type is no struct.
+
+        >>> DType("{a=i8, b=i16}").without_field(0)
+        DType('{b=i16}')
+        """
         return made(DType, native.vlt_struct_without_field, self._slot, position_given(index, "index"))
 
     def disjoint_merge(self, other: DType) -> DType:
         """Returns the struct of the fields of both. Raises `LibraryError` 118 if a name occurs twice among them, and 5 if
-        one of the two types is no struct."""
+        one of the two types is no struct.
+
+        >>> DType("{a=i8}").disjoint_merge(DType("{b=i16}"))
+        DType('{a=i8, b=i16}')
+        """
         it = instance_given(other, DType, "other")._other_than(self)
         return made(DType, native.vlt_struct_disjoint_merge, self._slot, it._slot)
 
@@ -542,7 +598,11 @@ class DType(Object):
         return number(ctypes.c_uint8, native.vlt_union_child_index_to_tag, self._slot, position_given(index, "index"))
 
     def tag_to_child_index(self, tag: int) -> Optional[int]:
-        """Returns the position of the variant with this tag, or None. Raises `LibraryError` 5 if the type is no union."""
+        """Returns the position of the variant with this tag, or None. Raises `LibraryError` 5 if the type is no union.
+
+        >>> DType("union(a@5=i8, b@9=utf8)").tag_to_child_index(9)
+        1
+        """
         given = number_given(tag, "tag")
         if not 0 <= given < 256:
             self.child_index_to_tag(0)  # (It raises the error of a type of another kind.)
@@ -565,7 +625,11 @@ class DType(Object):
         return hash(number(ctypes.c_uint64, native.vlt_dtype_hash, self._slot))
 
     def eq_ignore_nullability(self, other: DType) -> bool:
-        """Returns whether the two types are equal except for nullability, at every depth."""
+        """Returns whether the two types are equal except for nullability, at every depth.
+
+        >>> DType("{a=i8?}").eq_ignore_nullability(DType("{a=i8}?"))
+        True
+        """
         it = instance_given(other, DType, "other")
         return self is it or is_done(native.vlt_dtype_eq_ignore_nullability(self._slot, it._slot))
 
@@ -575,7 +639,11 @@ class DType(Object):
 
     def eq_with_nullability_subset(self, other: DType) -> bool:
         """Returns whether this type is a subset of the other: the two are equal except for nullability, and the
-        other is nullable wherever this type is."""
+        other is nullable wherever this type is.
+
+        >>> DType("{a=i8}").eq_with_nullability_subset(DType("{a=i8?}"))
+        True
+        """
         it = instance_given(other, DType, "other")
         return self is it or is_done(native.vlt_dtype_nullability_subset(self._slot, it._slot))
 
@@ -585,18 +653,30 @@ class DType(Object):
         return self is it or is_done(native.vlt_dtype_nullability_superset(self._slot, it._slot))
 
     def merge_nullability(self, other: DType) -> Optional[DType]:
-        """Returns the least type of which both types are subsets, or None if they differ in more than nullability."""
+        """Returns the least type of which both types are subsets, or None if they differ in more than nullability.
+
+        >>> DType("{a=i8, b=i8?}").merge_nullability(DType("{a=i8?, b=i8}"))
+        DType('{a=i8?, b=i8?}')
+        """
         it = instance_given(other, DType, "other")._other_than(self)
         return found(DType, native.vlt_dtype_merge_nullability, self._slot, it._slot)
 
     def intersect_nullability(self, other: DType) -> Optional[DType]:
-        """Returns the greatest type that is a subset of both, or None if they differ in more than nullability."""
+        """Returns the greatest type that is a subset of both, or None if they differ in more than nullability.
+
+        >>> DType("{a=i8, b=i8?}").intersect_nullability(DType("{a=i8?, b=i8}"))
+        DType('{a=i8, b=i8}')
+        """
         it = instance_given(other, DType, "other")._other_than(self)
         return found(DType, native.vlt_dtype_intersect_nullability, self._slot, it._slot)
 
     def project_paths(self, paths: FieldPathSet) -> Optional[DType]:
         """Returns the part of the type that a reader of these paths opens, or None if none of them exists in the
-        type."""
+        type.
+
+        >>> DType("{a=i8, b={c=i8, d=i8}}").project_paths(FieldPathSet(["b.c", "e"]))
+        DType('{b={c=i8}}')
+        """
         given = instance_given(paths, FieldPathSet, "paths")
         return found(DType, native.vlt_project_paths, self._slot, given._slot)
 
@@ -604,16 +684,28 @@ class DType(Object):
     def from_proto(message: Message, allow_unknown: bool = False) -> DType:
         """Returns the type that a message describes. For a message that describes no type it raises `LibraryError`
         with 100 plus the number of the message's first fault, for example 124 for a message without a kind. An
-        extension raises 135, unless `allow_unknown` is true: then it is kept with its metadata."""
+        extension raises 135, unless `allow_unknown` is true: then it is kept with its metadata.
+
+        >>> DType.from_proto(Message("list { element_type { utf8 {} } }"))
+        DType('list(utf8)')
+        """
         given = instance_given(message, Message, "message")
         return made(DType, native.vlt_message_to_dtype, given._slot, flag_given(allow_unknown, "allow_unknown"))
 
     def to_proto(self) -> Message:
-        """Returns the message that describes the type."""
+        """Returns the message that describes the type.
+
+        >>> DType("utf8?").to_proto() == Message("utf8 { nullable: true }")
+        True
+        """
         return made(Message, native.vlt_dtype_to_message, self._slot)
 
     def to_source(self) -> str:
-        """Returns the text of the type in the form of the console. `DType` reads it as the same type."""
+        """Returns the text of the type in the form of the console. `DType` reads it as the same type.
+
+        >>> DType.struct({"a, b": DType("i8")}).to_source()
+        '{"a, b"=i8}'
+        """
         return text(native.vlt_dtype_to_text, self._slot)
 
     def __str__(self) -> str:
@@ -814,7 +906,11 @@ class FieldPath(Object, Sequence[Step]):
     @staticmethod
     def from_proto(parts: Iterable[Optional[str]]) -> FieldPath:
         """Returns the path that a path message describes. `parts` has the name in each part of the message, or None
-        for a part without a kind. For such a part it raises `LibraryError` 136."""
+        for a part without a kind. For such a part it raises `LibraryError` 136.
+
+        >>> FieldPath.from_proto(["a", "b"])
+        FieldPath('a.b')
+        """
         given = items_given(parts, "parts", "str and None", text_or_none_given, (Object,))
         return made(FieldPath, native.vlt_path_from_message, *joined_names(given))
 
@@ -874,7 +970,11 @@ class FieldPath(Object, Sequence[Step]):
         return len(self) == 0
 
     def push(self, step: Step) -> FieldPath:
-        """Returns the path with one more step at its end."""
+        """Returns the path with one more step at its end.
+
+        >>> FieldPath("a").push("b.c")
+        FieldPath('a."b.c"')
+        """
         given = _step_given(step, "step")
         if given is None:
             return made(FieldPath, native.vlt_path_push_element, self._slot)
@@ -884,16 +984,28 @@ class FieldPath(Object, Sequence[Step]):
         return self.push(step) if step is ELEMENT or isinstance(step, str) else NotImplemented
 
     def join(self, other: Union[FieldPath, str]) -> FieldPath:
-        """Returns the path of the steps of both. A text is read, so `path.join("a.b")` appends two steps."""
+        """Returns the path of the steps of both. A text is read, so `path.join("a.b")` appends two steps.
+
+        >>> FieldPath("a").join("b.c")
+        FieldPath('a.b.c')
+        """
         return FieldPath.from_steps([*self._steps(), *_path_given(other, "other")])
 
     def starts_with(self, other: Union[FieldPath, str]) -> bool:
-        """Returns whether the other path is a prefix of this one, or the same path."""
+        """Returns whether the other path is a prefix of this one, or the same path.
+
+        >>> FieldPath("a.b").starts_with("a"), FieldPath("a.b").starts_with("b")
+        (True, False)
+        """
         steps = _path_given(other, "other")._steps()
         return self._steps()[: len(steps)] == steps
 
     def step_into(self) -> Optional[FieldPath]:
-        """Returns the path without its first step, or None if it is the root."""
+        """Returns the path without its first step, or None if it is the root.
+
+        >>> FieldPath("a.b").step_into()
+        FieldPath('b')
+        """
         return found(FieldPath, native.vlt_path_step_into, self._slot)
 
     def starts_with_name(self, name: str) -> bool:
@@ -902,7 +1014,11 @@ class FieldPath(Object, Sequence[Step]):
         return is_done(native.vlt_path_starts_with_name(self._slot, given, len(given)))
 
     def resolve(self, dtype: DType) -> Optional[DType]:
-        """Returns the type at the path in `dtype`, or None if there is none."""
+        """Returns the type at the path in `dtype`, or None if there is none.
+
+        >>> FieldPath("a.[].b").resolve(DType("{a=list({b=utf8?})}"))
+        DType('utf8?')
+        """
         given = instance_given(dtype, DType, "dtype")
         return found(DType, native.vlt_path_resolve, given._slot, self._slot)
 
@@ -912,7 +1028,11 @@ class FieldPath(Object, Sequence[Step]):
         return is_done(native.vlt_path_exists_in(given._slot, self._slot))
 
     def overlap(self, other: FieldPath) -> bool:
-        """Returns whether one of the two paths is a prefix of the other."""
+        """Returns whether one of the two paths is a prefix of the other.
+
+        >>> FieldPath("a.b").overlap(FieldPath("a")), FieldPath("a.b").overlap(FieldPath("a.c"))
+        (True, False)
+        """
         it = instance_given(other, FieldPath, "other")
         return self is it or is_done(native.vlt_path_overlap(self._slot, it._slot))
 
@@ -1159,17 +1279,28 @@ class FieldPathSet(Object, AbstractSet[FieldPath]):
         return iter(self.members())
 
     def cover(self) -> list[FieldPath]:
-        """Returns the cover: those paths of the set of which no other path of the set is a prefix."""
+        """Returns the cover: those paths of the set of which no other path of the set is a prefix.
+
+        >>> FieldPathSet(["a", "a.b", "c.d"]).cover() == [FieldPath("a"), FieldPath("c.d")]
+        True
+        """
         return made(_Paths, native.vlt_set_cover, self._slot).all()
 
     def unresolved(self, dtype: DType) -> list[FieldPath]:
-        """Returns the paths of the set that don't exist in the type."""
+        """Returns the paths of the set that don't exist in the type.
+
+        >>> FieldPathSet(["a", "a.b", "c"]).unresolved(DType("{a={b=i8}}"))
+        [FieldPath('c')]
+        """
         given = instance_given(dtype, DType, "dtype")
         return made(_Paths, native.vlt_set_unresolved, self._slot, given._slot).all()
 
     def below(self, path: Union[FieldPath, str]) -> Optional[Below]:
-        """Returns how the paths of the set continue after `path`, or None if none of them begins with `path`. For
-        example, the set of `a.b` and `a.c.d` continues after `a` with two names."""
+        """Returns how the paths of the set continue after `path`, or None if none of them begins with `path`.
+
+        >>> FieldPathSet(["a.b", "a.c.d"]).below("a")
+        Below(is_end=False, has_element=False, name_count=2)
+        """
         is_end, has_element, count = ctypes.c_bool(), ctypes.c_bool(), ctypes.c_size_t()
         it = _path_given(path, "path")
         if not is_done(native.vlt_set_below(self._slot, it._slot, is_end, has_element, count)):
@@ -1178,7 +1309,11 @@ class FieldPathSet(Object, AbstractSet[FieldPath]):
 
     def names_below(self, path: Union[FieldPath, str]) -> Optional[list[str]]:
         """Returns the names with which paths of the set continue after `path`, or None if none of them begins with
-        `path`."""
+        `path`.
+
+        >>> sorted(FieldPathSet(["a.b", "a.c.d"]).names_below("a"))
+        ['b', 'c']
+        """
         given = _path_given(path, "path")
         it = found(_Paths, native.vlt_set_names_below, self._slot, given._slot)
         return None if it is None else [str(path[0]) for path in it.all()]
@@ -1200,7 +1335,11 @@ MASK_KINDS = ("all", "prefix", "exact")
 
 
 class FieldMask(Object):
-    """A selection of paths: all paths, a path with every path below it, or one path alone."""
+    """A selection of paths: all paths, a path with every path below it, or one path alone.
+
+    >>> FieldMask.prefix("a.b").step_into(), FieldMask.all().matches_all, FieldMask.exact("a").matches_root
+    (FieldMask.prefix('b'), True, False)
+    """
 
     __slots__ = ()
     _copy = native.vlt_mask_copy
@@ -1246,13 +1385,21 @@ class FieldMask(Object):
         return found(FieldPath, native.vlt_mask_path, self._slot)
 
     def step_into(self) -> FieldMask:
-        """Returns the mask of what is selected below the first step of the mask's path. For example, for `prefix` of
-        `a.b` it is `prefix` of `b`. Raises `LibraryError` 120 for the mask that selects only the root."""
+        """Returns the mask of what is selected below the first step of the mask's path. Raises `LibraryError` 120 for the
+        mask that selects only the root.
+
+        >>> FieldMask.exact("a.b").step_into()
+        FieldMask.exact('b')
+        """
         return made(FieldMask, native.vlt_mask_step_into, self._slot)
 
     def starting_field(self) -> Optional[Step]:
         """Returns the first step of the mask's path, or None if that path is the root. Raises `LibraryError` 121 for
-        the mask of all paths."""
+        the mask of all paths.
+
+        >>> FieldMask.prefix("a.b").starting_field()
+        'a'
+        """
         it = bytes_and_length(native.vlt_mask_starting_field, self._slot)
         return None if it is None else ELEMENT if it[1] == _table.ELEMENT else it[0].decode()
 
@@ -1284,7 +1431,12 @@ class FieldMask(Object):
 
 
 class FlatMessage(NamedTuple):
-    """A message in the flat form, as bytes that another thread or process can read."""
+    """A message in the flat form, as bytes that another process or a program in another language can read.
+
+    >>> flat = DType("{id=u64}").to_proto().to_flat()
+    >>> len(flat.nodes), flat.texts
+    (84, b'id')
+    """
 
     nodes: bytes
     """The nodes as an array of `Node`, each message before its parts."""
@@ -1339,7 +1491,12 @@ class Message(Object):
 
     def normal(self, allow_unknown: bool = False) -> Message:
         """Returns the message that `to_proto` writes for the type that this message describes. It has every child,
-        flag and number, and the metadata of each extension. Raises the same errors as `DType.from_proto`."""
+        flag and number, and the metadata of each extension. Raises the same errors as `DType.from_proto`.
+
+        >>> message = Message('extension { id: "x.tag" storage_dtype { utf8 {} } }')
+        >>> message.normal(allow_unknown=True) == Message('extension { id: "x.tag" storage_dtype { utf8 {} } metadata: "" }')
+        True
+        """
         return made(Message, native.vlt_message_normal, self._slot, flag_given(allow_unknown, "allow_unknown"))
 
     def __eq__(self, other: object) -> bool:

@@ -200,6 +200,12 @@ class Calls(unittest.TestCase):
         self.assertEqual(runner.failures, 0)
         self.assertGreater(runner.tries, 45)
 
+    def test_public_classes_are_of_the_package(self):
+        for name in vortex_logical_types.__all__:
+            it = getattr(vortex_logical_types, name)
+            if isinstance(it, type):
+                self.assertEqual((it.__module__, it.__qualname__), ("vortex_logical_types", name))
+
     def test_every_class_has_an_example(self):
         for name in vortex_logical_types.__all__:
             it = getattr(vortex_logical_types, name)

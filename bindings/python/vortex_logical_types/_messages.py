@@ -1,0 +1,110 @@
+# SPDX-License-Identifier: Apache-2.0
+# SPDX-FileCopyrightText: Copyright the Vortex contributors
+
+"""Messages of types."""
+
+from __future__ import annotations
+
+import ctypes
+from typing import Callable, Iterable, NamedTuple
+
+from . import _table
+from ._arguments import bytes_given, flag_given, instance_given, items_given, text_given
+from ._native import Object, T, error_of, is_done, made, native, read, text
+from ._table import Node
+
+
+class FlatMessage(NamedTuple):
+    """A message in the flat form, as bytes that another process or a program in another language can read.
+
+    >>> flat = DType("{id=u64}").to_proto().to_flat()
+    >>> len(flat.nodes), flat.texts
+    (84, b'id')
+    """
+
+    nodes: bytes
+    """The nodes as an array of `Node`, each message before its parts."""
+    texts: bytes
+    """The bytes of the texts, in the order of their nodes."""
+
+
+class Message(Object):
+    """The message of a type. `Message("list { element_type { utf8 {} } }")` reads protobuf's text format."""
+
+    __slots__ = ()
+    _copy = native.vlt_message_copy
+
+    def __new__(cls: type[T], source: str) -> T:
+        return read(cls, native.vlt_message_from_text, text_given(source, "source"))
+
+    @classmethod
+    def from_nodes(cls: type[T], nodes: Iterable[Node], texts: bytes) -> T:
+        """Returns the message with these nodes and with the bytes of their texts. Use it in a program that has decoded
+        the bytes of a message by itself. Raises `LibraryError` 9 if the nodes and texts aren't those of one message, 6
+        if a message is nested in more than 128 others, and 3 if a name or an id isn't UTF-8.
+
+        >>> message = Message.from_nodes([Node(kind=10, names=1, types=1), Node(kind=14, number=2), Node(kind=3, value=3)], b"id")
+        >>> DType.from_proto(message)
+        DType('{id=u64}')
+        """
+        given = items_given(nodes, "nodes", "Node", _node_given)
+        return _of_nodes(cls, (Node * len(given))(*given), bytes_given(texts, "texts"))
+
+    @classmethod
+    def from_flat(cls: type[T], flat: FlatMessage) -> T:
+        """Returns the message with this flat form. Raises the same errors as `from_nodes`."""
+        it = instance_given(flat, FlatMessage, "flat")
+        nodes, texts = bytes_given(it.nodes, "flat.nodes"), bytes_given(it.texts, "flat.texts")
+        count, rest = divmod(len(nodes), ctypes.sizeof(Node))
+        if rest:
+            raise error_of(_table.RANGE)
+        return _of_nodes(cls, (Node * count).from_buffer_copy(nodes), texts)
+
+    def to_flat(self) -> FlatMessage:
+        """Returns the flat form of the message."""
+        nodes, texts = (Node * 0)(), ctypes.create_string_buffer(0)
+        count, length = ctypes.c_size_t(), ctypes.c_size_t()
+        while True:
+            code = native.vlt_message_to_nodes(self._slot, nodes, len(nodes), count, texts, len(texts), length)
+            if code != _table.SMALL:
+                break
+            nodes, texts = (Node * count.value)(), ctypes.create_string_buffer(length.value)
+        if not is_done(code):
+            raise error_of(code)
+        return FlatMessage(bytes(nodes), texts.raw)
+
+    def normal(self, allow_unknown: bool = False) -> Message:
+        """Returns the message that `to_proto` writes for the type that this message describes. It has every child,
+        flag and number, and the metadata of each extension. Raises the same errors as `DType.from_proto`.
+
+        >>> message = Message('extension { id: "x.tag" storage_dtype { utf8 {} } }')
+        >>> message.normal(allow_unknown=True) == Message('extension { id: "x.tag" storage_dtype { utf8 {} } metadata: "" }')
+        True
+        """
+        return made(Message, native.vlt_message_normal, self._slot, flag_given(allow_unknown, "allow_unknown"))
+
+    def __eq__(self, other: object) -> bool:
+        if not isinstance(other, Message):
+            return NotImplemented
+        return self is other or is_done(native.vlt_message_eq(self._slot, other._slot))
+
+    def __hash__(self) -> int:
+        return hash(self.to_flat())
+
+    def to_source(self) -> str:
+        """Returns the message in protobuf's text format. `Message` reads it as the same message."""
+        return text(native.vlt_message_to_text, self._slot)
+
+    def __repr__(self) -> str:
+        return f"Message({self.to_source()!r})"
+
+    def _made_by(self) -> tuple[Callable[[FlatMessage], Message], tuple[FlatMessage]]:
+        return type(self).from_flat, (self.to_flat(),)
+
+
+def _node_given(it: Node, name: str) -> Node:
+    return instance_given(it, Node, name)
+
+
+def _of_nodes(cls: type[T], nodes: ctypes.Array[Node], texts: bytes) -> T:
+    return made(cls, native.vlt_message_from_nodes, nodes, len(nodes), texts, len(texts))

@@ -1,0 +1,257 @@
+# SPDX-License-Identifier: Apache-2.0
+# SPDX-FileCopyrightText: Copyright the Vortex contributors
+
+"""Sets of paths."""
+
+from __future__ import annotations
+
+import ctypes
+import functools
+from collections.abc import Set as AbstractSet
+from typing import Callable, Iterable, Iterator, NamedTuple, Optional, Union
+
+from ._arguments import instance_given
+from ._native import Object, R, found, is_done, made, native, number
+from ._paths import FieldPath, Paths, path_given, paths_given
+from ._types import DType
+
+
+class Below(NamedTuple):
+    """How the paths of a set continue after a path. `FieldPathSet.below` returns it.
+
+    >>> FieldPathSet(["a", "a.b", "a.c.d"]).below("a")
+    Below(is_end=True, has_element=False, name_count=2)
+    """
+
+    is_end: bool
+    """Whether the path itself is in the set."""
+    has_element: bool
+    """Whether a path of the set continues with the step into an element."""
+    name_count: int
+    """The number of names with which paths of the set continue."""
+
+
+def _of_sets(operator: Callable[[FieldPathSet, FieldPathSet], R]) -> Callable[[FieldPathSet, object], R]:
+    """Makes an operator of a set take each set of paths, Python's own too, and return NotImplemented for what is none."""
+
+    @functools.wraps(operator)
+    def operate(self: FieldPathSet, other: object) -> R:
+        if isinstance(other, FieldPathSet):
+            return operator(self, other)
+        if isinstance(other, AbstractSet) and all(isinstance(path, FieldPath) for path in other):
+            return operator(self, FieldPathSet(other))
+        return NotImplemented
+
+    return operate
+
+
+class FieldPathSet(Object, AbstractSet[FieldPath]):
+    """A set of paths, for example `FieldPathSet(["a.b", FieldPath.root()])`. Iterating over it yields each of its
+    paths once, in no promised order.
+
+    It is a `collections.abc.Set` that paths can be added to, so it isn't hashable. Paths can't be removed: `difference`
+    and `-` make another set. As with Python's own sets, operators take sets, of which each member has to be a
+    `FieldPath`, and methods take any iterables of paths, also of paths as texts:
+
+    >>> paths = FieldPathSet(["a", "b.c"])
+    >>> paths <= {FieldPath("a"), FieldPath("b.c"), FieldPath("d")}, paths.issubset(["a"])
+    (True, False)
+    >>> paths | FieldPathSet(["a.x"]), paths.difference(["a"])
+    (FieldPathSet(['a', 'a.x', 'b.c']), FieldPathSet(['b.c']))
+
+    These are operations on the paths themselves. For example, the sets of `a` and of `a.x` are disjoint, although each
+    field that `a.x` leads to is part of the one that `a` leads to.
+    """
+
+    __slots__ = ()
+    _copy = native.vlt_set_copy
+    _is_mutable = True
+
+    def __init__(self, paths: Iterable[Union[FieldPath, str]] = ()) -> None:
+        it = made(FieldPathSet, native.vlt_set_new)
+        it.extend(paths)
+        it._move_to(self)
+
+    def insert(self, path: Union[FieldPath, str]) -> None:
+        """Inserts the path. If it is in the set already, nothing changes."""
+        it = path_given(path, "path")
+        is_done(native.vlt_set_insert(self._slot, it._slot))
+
+    def add(self, path: Union[FieldPath, str]) -> None:
+        """Inserts the path, as `insert` does."""
+        self.insert(path)
+
+    def extend(self, paths: Iterable[Union[FieldPath, str]]) -> None:
+        """Inserts the paths, in order. All of them are taken from `paths` before the first is inserted."""
+        if isinstance(paths, FieldPathSet):
+            members = made(Paths, native.vlt_set_members, paths._slot)
+            is_done(native.vlt_set_extend_from_list(self._slot, members._slot))
+            return
+        for it in paths_given(paths, "paths"):
+            is_done(native.vlt_set_insert(self._slot, it._slot))
+
+    def update(self, *paths: Iterable[Union[FieldPath, str]]) -> None:
+        """Inserts the paths of each of these iterables. All are taken from them before the first is inserted."""
+        for it in [_set_given(it, "paths") for it in paths]:
+            self.extend(it)
+
+    def __contains__(self, path: object) -> bool:
+        """Returns whether the set contains the path. It contains nothing but paths, so for another object the answer
+        is false. Raises `Unreadable` for a text that isn't one of a path."""
+        if not isinstance(path, (FieldPath, str)):
+            return False
+        it = path_given(path, "path")
+        return is_done(native.vlt_set_contains(self._slot, it._slot))
+
+    def __len__(self) -> int:
+        return number(ctypes.c_size_t, native.vlt_set_len, self._slot) or 0
+
+    # Operators, which take sets of paths.
+
+    @_of_sets
+    def __eq__(self, other: FieldPathSet) -> bool:
+        return self is other or (len(self) == len(other) and self._is_within(other))
+
+    __hash__ = None  # type: ignore[assignment]
+
+    @_of_sets
+    def __le__(self, other: FieldPathSet) -> bool:  # type: ignore[has-type]  # (of the opposite, which comes below)
+        return len(self) <= len(other) and self._is_within(other)
+
+    @_of_sets
+    def __lt__(self, other: FieldPathSet) -> bool:  # type: ignore[has-type]  # (of the opposite, which comes below)
+        return len(self) < len(other) and self._is_within(other)
+
+    @_of_sets
+    def __ge__(self, other: FieldPathSet) -> bool:
+        return len(other) <= len(self) and other._is_within(self)
+
+    @_of_sets
+    def __gt__(self, other: FieldPathSet) -> bool:
+        return len(other) < len(self) and other._is_within(self)
+
+    @_of_sets
+    def __or__(self, other: FieldPathSet) -> FieldPathSet:
+        return self.union(other)
+
+    @_of_sets
+    def __and__(self, other: FieldPathSet) -> FieldPathSet:
+        return self.intersection(other)
+
+    @_of_sets
+    def __sub__(self, other: FieldPathSet) -> FieldPathSet:
+        return self.difference(other)
+
+    @_of_sets
+    def __rsub__(self, other: FieldPathSet) -> FieldPathSet:
+        return other.difference(self)
+
+    @_of_sets
+    def __xor__(self, other: FieldPathSet) -> FieldPathSet:
+        return self.symmetric_difference(other)
+
+    __ror__, __rand__, __rxor__ = __or__, __and__, __xor__
+
+    @_of_sets
+    def __ior__(self, other: FieldPathSet) -> FieldPathSet:
+        self.extend(other)
+        return self
+
+    # The same as methods, which take iterables of paths and of texts.
+
+    def union(self, *others: Iterable[Union[FieldPath, str]]) -> FieldPathSet:
+        """Returns the set of the paths that are in this set or in one of the others."""
+        given = [_set_given(it, "others") for it in others]
+        united = made(FieldPathSet, native.vlt_set_copy, self._slot)
+        united.update(*given)
+        return united
+
+    def intersection(self, *others: Iterable[Union[FieldPath, str]]) -> FieldPathSet:
+        """Returns the set of those paths of this set that are in each of the others."""
+        given = [_set_given(it, "others") for it in others]
+        return FieldPathSet(path for path in self if all(path in it for it in given))
+
+    def difference(self, *others: Iterable[Union[FieldPath, str]]) -> FieldPathSet:
+        """Returns the set of those paths of this set that are in none of the others."""
+        given = [_set_given(it, "others") for it in others]
+        return FieldPathSet(path for path in self if not any(path in it for it in given))
+
+    def symmetric_difference(self, other: Iterable[Union[FieldPath, str]]) -> FieldPathSet:
+        """Returns the set of the paths that are in one of the two sets and not in both."""
+        it = _set_given(other, "other")
+        return self.difference(it).union(it.difference(self))
+
+    def issubset(self, other: Iterable[Union[FieldPath, str]]) -> bool:
+        """Returns whether each path of this set is in the other."""
+        return self <= _set_given(other, "other")
+
+    def issuperset(self, other: Iterable[Union[FieldPath, str]]) -> bool:
+        """Returns whether each path of the other set is in this one."""
+        return _set_given(other, "other") <= self
+
+    def isdisjoint(self, other: Iterable[Union[FieldPath, str]]) -> bool:
+        """Returns whether no path is in both sets."""
+        few, many = sorted((self, _set_given(other, "other")), key=len)
+        return not any(path in many for path in few)
+
+    def _is_within(self, other: FieldPathSet) -> bool:
+        """Returns whether each path of this set is in the other."""
+        return all(path in other for path in self)
+
+    def members(self) -> list[FieldPath]:
+        """Returns the paths of the set, each once, in no promised order."""
+        return made(Paths, native.vlt_set_members, self._slot).all()
+
+    def __iter__(self) -> Iterator[FieldPath]:
+        return iter(self.members())
+
+    def cover(self) -> list[FieldPath]:
+        """Returns the cover: those paths of the set of which no other path of the set is a prefix.
+
+        >>> FieldPathSet(["a", "a.b", "c.d"]).cover() == [FieldPath("a"), FieldPath("c.d")]
+        True
+        """
+        return made(Paths, native.vlt_set_cover, self._slot).all()
+
+    def unresolved(self, dtype: DType) -> list[FieldPath]:
+        """Returns the paths of the set that don't exist in the type.
+
+        >>> FieldPathSet(["a", "a.b", "c"]).unresolved(DType("{a={b=i8}}"))
+        [FieldPath('c')]
+        """
+        given = instance_given(dtype, DType, "dtype")
+        return made(Paths, native.vlt_set_unresolved, self._slot, given._slot).all()
+
+    def below(self, path: Union[FieldPath, str]) -> Optional[Below]:
+        """Returns how the paths of the set continue after `path`, or None if none of them begins with `path`.
+
+        >>> FieldPathSet(["a.b", "a.c.d"]).below("a")
+        Below(is_end=False, has_element=False, name_count=2)
+        """
+        is_end, has_element, count = ctypes.c_bool(), ctypes.c_bool(), ctypes.c_size_t()
+        it = path_given(path, "path")
+        if not is_done(native.vlt_set_below(self._slot, it._slot, is_end, has_element, count)):
+            return None
+        return Below(is_end.value, has_element.value, count.value)
+
+    def names_below(self, path: Union[FieldPath, str]) -> Optional[list[str]]:
+        """Returns the names with which paths of the set continue after `path`, or None if none of them begins with
+        `path`.
+
+        >>> sorted(FieldPathSet(["a.b", "a.c.d"]).names_below("a"))
+        ['b', 'c']
+        """
+        given = path_given(path, "path")
+        it = found(Paths, native.vlt_set_names_below, self._slot, given._slot)
+        return None if it is None else [str(path[0]) for path in it.all()]
+
+    def __repr__(self) -> str:
+        return f"FieldPathSet({[it.to_source() for it in sorted(self)]!r})"
+
+    def _made_by(self) -> tuple[type, tuple[list[str]]]:
+        return type(self), (sorted(it.to_source() for it in self),)
+
+
+def _set_given(it: Iterable[Union[FieldPath, str]], name: str) -> FieldPathSet:
+    """Returns the set of the paths of an iterable."""
+    return it if isinstance(it, FieldPathSet) else FieldPathSet(paths_given(it, name))

@@ -256,15 +256,21 @@ def number(kind: Any, call: Callable[..., int], *arguments: Any) -> Optional[int
     return int(it.value) if is_done(call(*arguments, it)) else None
 
 
+# Room for most texts, so that a call is made once for them.
+Buffer = ctypes.c_char * 256
+
+
 def bytes_and_length(call: Callable[..., int], *arguments: Any) -> Optional[tuple[bytes, int]]:
     """Returns what a call writes into a buffer, with the length that the call writes, or None."""
-    room, length = 256, ctypes.c_size_t()
-    while True:
-        buffer = ctypes.create_string_buffer(room)
-        code = call(*arguments, buffer, room, length)
-        if code != _table.SMALL:
-            return (buffer.raw[: length.value], length.value) if is_done(code) else None
-        room = length.value
+    buffer, length = Buffer(), ctypes.c_size_t()
+    code = call(*arguments, buffer, len(buffer), length)
+    while code == _table.SMALL:
+        buffer = (ctypes.c_char * length.value)()
+        code = call(*arguments, buffer, len(buffer), length)
+    if not is_done(code):
+        return None
+    # (The length is above that of the buffer where it stands for the step into an element. A slice of `c_char` is bytes.)
+    return buffer[: length.value], length.value  # type: ignore[return-value]
 
 
 def bytes_found(call: Callable[..., int], *arguments: Any) -> Optional[bytes]:

@@ -44,6 +44,8 @@ from ._sets import Below, FieldPathSet
 from ._table import Node
 from ._views import AnyView, View
 
+__version__ = "0.2.0"
+
 __all__ = [
     "AnyView",
     "DType",

@@ -112,6 +112,17 @@ def _path() -> str:
     return os.path.join(named, LIBRARY) if os.path.isdir(named) else named
 
 
+def missing_flags(cpuinfo: str) -> list[str]:
+    """Returns what the processor lacks of x86-64-v2, by its flags in the file that Linux describes it in. Where there are
+    none, nothing is known to be missing."""
+    try:
+        with open(cpuinfo, encoding="ascii", errors="replace") as it:
+            flags: list[str] = next((line.split() for line in it if line.startswith("flags")), [])
+    except OSError:
+        return []
+    return [it for it in FLAGS if flags and it not in flags]
+
+
 def _load() -> SimpleNamespace:
     """Returns the functions of the library, by their names."""
     path = _path()
@@ -119,7 +130,14 @@ def _load() -> SimpleNamespace:
         raise ImportError(
             f"there is no {path}: install the wheel of a release, which has it, or set {SETTING} to the library's path"
         )
-    library, functions = ctypes.PyDLL(path), {}
+    missing = missing_flags("/proc/cpuinfo")
+    if missing:
+        raise ImportError(f"{NEEDS}: this processor lacks {', '.join(missing)}")
+    try:
+        library = ctypes.PyDLL(path)
+    except OSError as error:
+        raise ImportError(f"{NEEDS}: {error}") from error
+    functions = {}
     for name, (result, arguments) in _table.FUNCTIONS.items():
         function = getattr(library, name)
         function.restype, function.argtypes = result, arguments
@@ -130,6 +148,9 @@ def _load() -> SimpleNamespace:
     return SimpleNamespace(**functions)
 
 
+# What the library was built for, and the flags of such a processor.
+NEEDS = "the library needs Linux with the GNU C library, on a processor with x86-64-v2"
+FLAGS = ("cx16", "lahf_lm", "popcnt", "sse4_1", "sse4_2", "ssse3")
 ABI_VERSION = 1
 lock = Lock() if needs_lock() else None
 native = _load()

@@ -9,25 +9,50 @@
 //! - A slot is empty, or has what the library put there, since its field is private and nothing else writes it.
 //! - A slot that keeps its object is given to the library as a copy of its pointer. The functions test that no two of a
 //!   call are one, and end the program if the library leaves another pointer in a copy, which it has no reason to do.
-//! - A slot is neither `Send` nor `Sync`, and the library calls nothing of Rust's but `heap`, so no other call is at work
-//!   meanwhile.
+//! - The contracts suppose that no other call is at work on what a call changes. Objects share their parts, and how many
+//!   owners a part has is counted without an atomic instruction. So a call takes the lock of this package, unless it is one
+//!   of two kinds of calls, which `tools/bindings` finds by their contracts and marks below.
+//!   A call that *only reads* keeps each slot that it is given and never returns 100. It is given a copy of the slot's
+//!   pointer, so it writes nothing into the slot. It changes no count of owners, since the library counts an owner only by
+//!   calls that can fail (a count may be at its maximum), and each such failure is its error 0, which is the result 100. So
+//!   it reads what no call changes: a call that changes an object, such as `set_insert`, has its slot behind a `&mut`.
+//!   A call that *is given no object*, only numbers and bytes, has nothing that another call could change. If it makes an
+//!   object, it stores it in an empty slot.
+//! - The library calls nothing of Rust's but `heap`, which calls `malloc`. So no code of the program runs under the lock,
+//!   and nothing panics under it.
 //! - References, slices and their lengths are Rust's own, so they are valid, aligned and never null, and what is written
 //!   through them is behind a `&mut`.
 //! - The bytes that stand for texts may be any: the exports test that they are UTF-8.
 
+use std::mem;
 use std::process;
 use std::ptr;
+use std::sync::{Mutex, MutexGuard, PoisonError};
 
 pub(crate) mod heap;
 
 /// The length that stands for the step into an element, in place of that of a name.
 pub(crate) const ELEMENT: usize = usize::MAX;
 
-/// A place for one object of the library, which it owns, or for none. Its pointer makes it neither `Send` nor `Sync`.
+/// The lock of the package: see the head of this file.
+static LOCK: Mutex<()> = Mutex::new(());
+
+fn lock() -> MutexGuard<'static, ()> {
+    LOCK.lock().unwrap_or_else(PoisonError::into_inner)
+}
+
+/// A place for one object of the library, which it owns, or for none.
 #[repr(C)]
 pub(crate) struct Slot {
     at: *mut u8,
 }
+
+// SAFETY: the library keeps nothing of a thread in an object, and its memory comes from `malloc`, so any thread may use and
+// drop an object.
+unsafe impl Send for Slot {}
+
+// SAFETY: a call that has a shared slot takes the lock or only reads (see the head of this file).
+unsafe impl Sync for Slot {}
 
 /// A copy of the pointer of a slot, which owns nothing.
 #[repr(C)]
@@ -43,6 +68,11 @@ impl Slot {
     /// Whether this is the other: two slots that aren't empty never have the same pointer.
     fn is(&self, other: &Slot) -> bool {
         ptr::eq(self, other) || (self.at == other.at && !self.at.is_null())
+    }
+
+    /// Drops the object, if there is one.
+    fn clear(&mut self) {
+        drop(mem::replace(self, Slot::new()));
     }
 
     fn lent(&self) -> Lent {
@@ -61,6 +91,7 @@ impl Drop for Slot {
     fn drop(&mut self) {
         if !self.at.is_null() {
             let mut lent = self.lent();
+            let _lock = lock();
             // SAFETY: the slot has an object, which nothing uses any more.
             unsafe { vlt_free(&mut lent) }
         }
@@ -339,6 +370,7 @@ unsafe extern "C" {
 /// answer too. For example, if the answer begins with `unreadable at 3: expected`, the call returns 0. Each call begins
 /// without named sets and named sessions.
 pub(crate) fn answer(line: &[u8], buffer: &mut [u8], length: &mut usize) -> u32 {
+    // Is given no object, so it takes no lock.
     // SAFETY: see the head of this file.
     unsafe { vlt_answer(line.as_ptr(), line.len(), buffer.as_mut_ptr(), buffer.len(), length) }
 }
@@ -346,12 +378,14 @@ pub(crate) fn answer(line: &[u8], buffer: &mut [u8], length: &mut usize) -> u32 
 /// Writes the meaning of the result `code` to `buffer` in a few words, for example `a text is not UTF-8` for 3. Returns
 /// 9 if `code` is neither from 0 to 9 nor from 100 to 136.
 pub(crate) fn error_text(code: u32, buffer: &mut [u8], length: &mut usize) -> u32 {
+    // Is given no object, so it takes no lock.
     // SAFETY: see the head of this file.
     unsafe { vlt_error_text(code, buffer.as_mut_ptr(), buffer.len(), length) }
 }
 
 /// Returns the version of this interface, which is 1.
 pub(crate) fn abi_version() -> u32 {
+    // Is given no object, so it takes no lock.
     // SAFETY: see the head of this file.
     unsafe { vlt_abi_version() }
 }
@@ -359,6 +393,7 @@ pub(crate) fn abi_version() -> u32 {
 /// Returns the kind of the object in the slot: 0 if the slot is empty, 1 for a type, 2 for a path, 3 for a set of
 /// paths, 4 for a list of paths, 5 for a mask, and 6 for the message of a type.
 pub(crate) fn kind(slot: &Slot) -> u32 {
+    // Only reads, so it takes no lock.
     let mut lent_slot = slot.lent();
     // SAFETY: see the head of this file.
     let result = unsafe { vlt_kind(&mut lent_slot) };
@@ -368,30 +403,40 @@ pub(crate) fn kind(slot: &Slot) -> u32 {
 
 /// Stores in `out` the null type.
 pub(crate) fn dtype_null(out: &mut Slot) -> u32 {
+    out.clear();
+    // Is given no object, so it takes no lock.
     // SAFETY: see the head of this file.
     unsafe { vlt_dtype_null(out) }
 }
 
 /// Stores in `out` the type of booleans. The type is nullable if `nullable` is true.
 pub(crate) fn dtype_bool(nullable: bool, out: &mut Slot) -> u32 {
+    out.clear();
+    // Is given no object, so it takes no lock.
     // SAFETY: see the head of this file.
     unsafe { vlt_dtype_bool(nullable, out) }
 }
 
 /// Stores in `out` the type of texts. The type is nullable if `nullable` is true.
 pub(crate) fn dtype_utf8(nullable: bool, out: &mut Slot) -> u32 {
+    out.clear();
+    // Is given no object, so it takes no lock.
     // SAFETY: see the head of this file.
     unsafe { vlt_dtype_utf8(nullable, out) }
 }
 
 /// Stores in `out` the type of byte strings. The type is nullable if `nullable` is true.
 pub(crate) fn dtype_binary(nullable: bool, out: &mut Slot) -> u32 {
+    out.clear();
+    // Is given no object, so it takes no lock.
     // SAFETY: see the head of this file.
     unsafe { vlt_dtype_binary(nullable, out) }
 }
 
 /// Stores in `out` the variant type. Its values each carry their own type. The type is nullable if `nullable` is true.
 pub(crate) fn dtype_variant(nullable: bool, out: &mut Slot) -> u32 {
+    out.clear();
+    // Is given no object, so it takes no lock.
     // SAFETY: see the head of this file.
     unsafe { vlt_dtype_variant(nullable, out) }
 }
@@ -400,6 +445,8 @@ pub(crate) fn dtype_variant(nullable: bool, out: &mut Slot) -> u32 {
 /// for i32, 7 for i64, 8 for f16, 9 for f32 and 10 for f64. Returns 9 if the number is above 10. The type is nullable
 /// if `nullable` is true.
 pub(crate) fn dtype_primitive(number: u32, nullable: bool, out: &mut Slot) -> u32 {
+    out.clear();
+    // Is given no object, so it takes no lock.
     // SAFETY: see the head of this file.
     unsafe { vlt_dtype_primitive(number, nullable, out) }
 }
@@ -409,6 +456,8 @@ pub(crate) fn dtype_primitive(number: u32, nullable: bool, out: &mut Slot) -> u3
 /// Returns 101 if the precision is 0, 102 if the precision is above 76, 103 if the scale is above 76, and 104 if the
 /// scale is above the precision. If several of these are so, it returns the first of these numbers.
 pub(crate) fn dtype_decimal(precision: u8, scale: i8, nullable: bool, out: &mut Slot) -> u32 {
+    out.clear();
+    // Is given no object, so it takes no lock.
     // SAFETY: see the head of this file.
     unsafe { vlt_dtype_decimal(precision, scale, nullable, out) }
 }
@@ -416,6 +465,7 @@ pub(crate) fn dtype_decimal(precision: u8, scale: i8, nullable: bool, out: &mut 
 /// Stores in `out` a list type: the lists of any length whose elements are of the type in `element`. The list type is
 /// nullable if `nullable` is true. Returns 6 if the element type has 128 levels.
 pub(crate) fn dtype_list(element: &Slot, nullable: bool, out: &mut Slot) -> u32 {
+    let _lock = lock();
     let mut lent_element = element.lent();
     // SAFETY: see the head of this file.
     let result = unsafe { vlt_dtype_list(&mut lent_element, nullable, out) };
@@ -426,6 +476,7 @@ pub(crate) fn dtype_list(element: &Slot, nullable: bool, out: &mut Slot) -> u32 
 /// Stores in `out` a fixed-size list type: the lists of exactly `size` elements of the type in `element`. The list type
 /// is nullable if `nullable` is true. Returns 6 if the element type has 128 levels.
 pub(crate) fn dtype_fixed_size_list(element: &Slot, size: u32, nullable: bool, out: &mut Slot) -> u32 {
+    let _lock = lock();
     let mut lent_element = element.lent();
     // SAFETY: see the head of this file.
     let result = unsafe { vlt_dtype_fixed_size_list(&mut lent_element, size, nullable, out) };
@@ -448,6 +499,7 @@ pub(crate) fn dtype_struct(
     nullable: bool,
     out: &mut Slot,
 ) -> u32 {
+    let _lock = lock();
     // SAFETY: see the head of this file.
     unsafe {
         vlt_dtype_struct(
@@ -478,6 +530,7 @@ pub(crate) fn dtype_union(
     nullable: bool,
     out: &mut Slot,
 ) -> u32 {
+    let _lock = lock();
     // SAFETY: see the head of this file.
     unsafe {
         vlt_dtype_union(
@@ -509,6 +562,7 @@ pub(crate) fn dtype_union_consecutive(
     nullable: bool,
     out: &mut Slot,
 ) -> u32 {
+    let _lock = lock();
     // SAFETY: see the head of this file.
     unsafe {
         vlt_dtype_union_consecutive(
@@ -526,6 +580,7 @@ pub(crate) fn dtype_union_consecutive(
 
 /// Stores in `out` the message that describes the type.
 pub(crate) fn dtype_to_message(dtype: &Slot, out: &mut Slot) -> u32 {
+    let _lock = lock();
     let mut lent_dtype = dtype.lent();
     // SAFETY: see the head of this file.
     let result = unsafe { vlt_dtype_to_message(&mut lent_dtype, out) };
@@ -537,6 +592,7 @@ pub(crate) fn dtype_to_message(dtype: &Slot, out: &mut Slot) -> u32 {
 /// if it is false. For an extension, the outer nullability of its storage type is changed. Returns 5 if `nullable` is
 /// false and the type can't be made non-nullable, which `vlt_dtype_can_be_nonnullable` tests.
 pub(crate) fn dtype_with_nullability(dtype: &Slot, nullable: bool, out: &mut Slot) -> u32 {
+    let _lock = lock();
     let mut lent_dtype = dtype.lent();
     // SAFETY: see the head of this file.
     let result = unsafe { vlt_dtype_with_nullability(&mut lent_dtype, nullable, out) };
@@ -546,6 +602,7 @@ pub(crate) fn dtype_with_nullability(dtype: &Slot, nullable: bool, out: &mut Slo
 
 /// Stores in `out` the type, made nullable if `nullable` is true. If it is false, the outer nullability stays the same.
 pub(crate) fn dtype_union_nullability(dtype: &Slot, nullable: bool, out: &mut Slot) -> u32 {
+    let _lock = lock();
     let mut lent_dtype = dtype.lent();
     // SAFETY: see the head of this file.
     let result = unsafe { vlt_dtype_union_nullability(&mut lent_dtype, nullable, out) };
@@ -556,6 +613,7 @@ pub(crate) fn dtype_union_nullability(dtype: &Slot, nullable: bool, out: &mut Sl
 /// Writes a hash of the type to `hash`. Equal types have the same hash. The hash of a type may differ between versions
 /// of the library.
 pub(crate) fn dtype_hash(dtype: &Slot, hash: &mut u64) -> u32 {
+    // Only reads, so it takes no lock.
     let mut lent_dtype = dtype.lent();
     // SAFETY: see the head of this file.
     let result = unsafe { vlt_dtype_hash(&mut lent_dtype, hash) };
@@ -566,6 +624,7 @@ pub(crate) fn dtype_hash(dtype: &Slot, hash: &mut u64) -> u32 {
 /// Writes a hash of the type to `hash` for which every nullability in the type is ignored. For example, `list(i32?)`
 /// and `list(i32)?` have the same hash.
 pub(crate) fn dtype_hash_ignore_nullability(dtype: &Slot, hash: &mut u64) -> u32 {
+    // Only reads, so it takes no lock.
     let mut lent_dtype = dtype.lent();
     // SAFETY: see the head of this file.
     let result = unsafe { vlt_dtype_hash_ignore_nullability(&mut lent_dtype, hash) };
@@ -575,6 +634,7 @@ pub(crate) fn dtype_hash_ignore_nullability(dtype: &Slot, hash: &mut u64) -> u32
 
 /// Stores in `out` the element type of a list or of a fixed-size list. Returns 1 if the type is of another kind.
 pub(crate) fn dtype_element(dtype: &Slot, out: &mut Slot) -> u32 {
+    let _lock = lock();
     let mut lent_dtype = dtype.lent();
     // SAFETY: see the head of this file.
     let result = unsafe { vlt_dtype_element(&mut lent_dtype, out) };
@@ -584,6 +644,7 @@ pub(crate) fn dtype_element(dtype: &Slot, out: &mut Slot) -> u32 {
 
 /// Stores in `out` the key type of a map. Returns 1 if the type isn't a map.
 pub(crate) fn dtype_key(dtype: &Slot, out: &mut Slot) -> u32 {
+    let _lock = lock();
     let mut lent_dtype = dtype.lent();
     // SAFETY: see the head of this file.
     let result = unsafe { vlt_dtype_key(&mut lent_dtype, out) };
@@ -593,6 +654,7 @@ pub(crate) fn dtype_key(dtype: &Slot, out: &mut Slot) -> u32 {
 
 /// Stores in `out` the value type of a map. Returns 1 if the type isn't a map.
 pub(crate) fn dtype_value(dtype: &Slot, out: &mut Slot) -> u32 {
+    let _lock = lock();
     let mut lent_dtype = dtype.lent();
     // SAFETY: see the head of this file.
     let result = unsafe { vlt_dtype_value(&mut lent_dtype, out) };
@@ -602,6 +664,7 @@ pub(crate) fn dtype_value(dtype: &Slot, out: &mut Slot) -> u32 {
 
 /// Stores in `out` the storage type of an extension. Returns 1 if the type isn't an extension.
 pub(crate) fn dtype_storage(dtype: &Slot, out: &mut Slot) -> u32 {
+    let _lock = lock();
     let mut lent_dtype = dtype.lent();
     // SAFETY: see the head of this file.
     let result = unsafe { vlt_dtype_storage(&mut lent_dtype, out) };
@@ -612,6 +675,7 @@ pub(crate) fn dtype_storage(dtype: &Slot, out: &mut Slot) -> u32 {
 /// Writes the number of a primitive type to `number`: 0 u8, 1 u16, 2 u32, 3 u64, 4 i8, 5 i16, 6 i32, 7 i64, 8 f16, 9
 /// f32, 10 f64. Returns 1 if the type isn't primitive.
 pub(crate) fn dtype_ptype(dtype: &Slot, number: &mut u32) -> u32 {
+    // Only reads, so it takes no lock.
     let mut lent_dtype = dtype.lent();
     // SAFETY: see the head of this file.
     let result = unsafe { vlt_dtype_ptype(&mut lent_dtype, number) };
@@ -621,6 +685,7 @@ pub(crate) fn dtype_ptype(dtype: &Slot, number: &mut u32) -> u32 {
 
 /// Writes the id of an extension to `buffer`. Returns 1 if the type isn't an extension.
 pub(crate) fn dtype_id(dtype: &Slot, buffer: &mut [u8], length: &mut usize) -> u32 {
+    let _lock = lock();
     let mut lent_dtype = dtype.lent();
     // SAFETY: see the head of this file.
     let result = unsafe { vlt_dtype_id(&mut lent_dtype, buffer.as_mut_ptr(), buffer.len(), length) };
@@ -630,6 +695,7 @@ pub(crate) fn dtype_id(dtype: &Slot, buffer: &mut [u8], length: &mut usize) -> u
 
 /// Writes the metadata of an extension to `buffer`. Returns 1 if the type isn't an extension.
 pub(crate) fn dtype_metadata(dtype: &Slot, buffer: &mut [u8], length: &mut usize) -> u32 {
+    let _lock = lock();
     let mut lent_dtype = dtype.lent();
     // SAFETY: see the head of this file.
     let result = unsafe { vlt_dtype_metadata(&mut lent_dtype, buffer.as_mut_ptr(), buffer.len(), length) };
@@ -639,6 +705,7 @@ pub(crate) fn dtype_metadata(dtype: &Slot, buffer: &mut [u8], length: &mut usize
 
 /// Writes the size of a fixed-size list to `size`. Returns 1 if the type isn't a fixed-size list.
 pub(crate) fn dtype_fixed_size(dtype: &Slot, size: &mut u32) -> u32 {
+    // Only reads, so it takes no lock.
     let mut lent_dtype = dtype.lent();
     // SAFETY: see the head of this file.
     let result = unsafe { vlt_dtype_fixed_size(&mut lent_dtype, size) };
@@ -648,6 +715,7 @@ pub(crate) fn dtype_fixed_size(dtype: &Slot, size: &mut u32) -> u32 {
 
 /// Writes the precision and the scale of a decimal to `precision` and `scale`. Returns 1 if the type isn't a decimal.
 pub(crate) fn dtype_decimal_parts(dtype: &Slot, precision: &mut u8, scale: &mut i8) -> u32 {
+    // Only reads, so it takes no lock.
     let mut lent_dtype = dtype.lent();
     // SAFETY: see the head of this file.
     let result = unsafe { vlt_dtype_decimal_parts(&mut lent_dtype, precision, scale) };
@@ -657,6 +725,7 @@ pub(crate) fn dtype_decimal_parts(dtype: &Slot, precision: &mut u8, scale: &mut 
 
 /// Returns 0 if the keys of the map are declared to be sorted, 1 if they aren't, and 5 if the type isn't a map.
 pub(crate) fn dtype_keys_sorted(dtype: &Slot) -> u32 {
+    // Only reads, so it takes no lock.
     let mut lent_dtype = dtype.lent();
     // SAFETY: see the head of this file.
     let result = unsafe { vlt_dtype_keys_sorted(&mut lent_dtype) };
@@ -675,6 +744,8 @@ pub(crate) fn dtype_keys_sorted(dtype: &Slot) -> u32 {
 /// 112 if it has no variants, 113 if a tag occurs twice, 114 if it has more than 256 variants without tags, and 115 if a
 /// name occurs twice. For example, it returns 101 for `{a=decimal(0,0)}`.
 pub(crate) fn dtype_from_text(text: &[u8], out: &mut Slot, position: &mut usize) -> u32 {
+    out.clear();
+    // Is given no object, so it takes no lock.
     // SAFETY: see the head of this file.
     unsafe { vlt_dtype_from_text(text.as_ptr(), text.len(), out, position) }
 }
@@ -682,6 +753,7 @@ pub(crate) fn dtype_from_text(text: &[u8], out: &mut Slot, position: &mut usize)
 /// Writes the type to `buffer` in the form of the console. `vlt_dtype_from_text` reads the same type from this text,
 /// which is tested and not proved.
 pub(crate) fn dtype_to_text(dtype: &Slot, buffer: &mut [u8], length: &mut usize) -> u32 {
+    let _lock = lock();
     let mut lent_dtype = dtype.lent();
     // SAFETY: see the head of this file.
     let result = unsafe { vlt_dtype_to_text(&mut lent_dtype, buffer.as_mut_ptr(), buffer.len(), length) };
@@ -691,6 +763,7 @@ pub(crate) fn dtype_to_text(dtype: &Slot, buffer: &mut [u8], length: &mut usize)
 
 /// Writes the type to `buffer` as the library displays it, for example `{a=i32, b=list(utf8)?}`.
 pub(crate) fn dtype_display(dtype: &Slot, buffer: &mut [u8], length: &mut usize) -> u32 {
+    let _lock = lock();
     let mut lent_dtype = dtype.lent();
     // SAFETY: see the head of this file.
     let result = unsafe { vlt_dtype_display(&mut lent_dtype, buffer.as_mut_ptr(), buffer.len(), length) };
@@ -700,6 +773,7 @@ pub(crate) fn dtype_display(dtype: &Slot, buffer: &mut [u8], length: &mut usize)
 
 /// Stores in `out` a copy of the type.
 pub(crate) fn dtype_copy(dtype: &Slot, out: &mut Slot) -> u32 {
+    let _lock = lock();
     let mut lent_dtype = dtype.lent();
     // SAFETY: see the head of this file.
     let result = unsafe { vlt_dtype_copy(&mut lent_dtype, out) };
@@ -712,6 +786,7 @@ pub(crate) fn dtype_eq(one: &Slot, other: &Slot) -> u32 {
     if one.is(other) {
         return SAME_SLOT;
     }
+    // Only reads, so it takes no lock.
     let mut lent_one = one.lent();
     let mut lent_other = other.lent();
     // SAFETY: see the head of this file.
@@ -727,6 +802,7 @@ pub(crate) fn dtype_eq_ignore_nullability(one: &Slot, other: &Slot) -> u32 {
     if one.is(other) {
         return SAME_SLOT;
     }
+    // Only reads, so it takes no lock.
     let mut lent_one = one.lent();
     let mut lent_other = other.lent();
     // SAFETY: see the head of this file.
@@ -743,6 +819,7 @@ pub(crate) fn dtype_nullability_subset(one: &Slot, other: &Slot) -> u32 {
     if one.is(other) {
         return SAME_SLOT;
     }
+    // Only reads, so it takes no lock.
     let mut lent_one = one.lent();
     let mut lent_other = other.lent();
     // SAFETY: see the head of this file.
@@ -759,6 +836,7 @@ pub(crate) fn dtype_nullability_superset(one: &Slot, other: &Slot) -> u32 {
     if one.is(other) {
         return SAME_SLOT;
     }
+    // Only reads, so it takes no lock.
     let mut lent_one = one.lent();
     let mut lent_other = other.lent();
     // SAFETY: see the head of this file.
@@ -774,6 +852,7 @@ pub(crate) fn dtype_merge_nullability(one: &Slot, other: &Slot, out: &mut Slot) 
     if one.is(other) {
         return SAME_SLOT;
     }
+    let _lock = lock();
     let mut lent_one = one.lent();
     let mut lent_other = other.lent();
     // SAFETY: see the head of this file.
@@ -789,6 +868,7 @@ pub(crate) fn dtype_intersect_nullability(one: &Slot, other: &Slot, out: &mut Sl
     if one.is(other) {
         return SAME_SLOT;
     }
+    let _lock = lock();
     let mut lent_one = one.lent();
     let mut lent_other = other.lent();
     // SAFETY: see the head of this file.
@@ -801,6 +881,7 @@ pub(crate) fn dtype_intersect_nullability(one: &Slot, other: &Slot, out: &mut Sl
 /// Writes the kind of the type to `number`: 0 null, 1 bool, 2 primitive, 3 decimal, 4 utf8, 5 binary, 6 list, 7
 /// fixed-size list, 8 map, 9 struct, 10 union, 11 variant, 12 extension.
 pub(crate) fn dtype_kind(dtype: &Slot, number: &mut u32) -> u32 {
+    // Only reads, so it takes no lock.
     let mut lent_dtype = dtype.lent();
     // SAFETY: see the head of this file.
     let result = unsafe { vlt_dtype_kind(&mut lent_dtype, number) };
@@ -810,6 +891,7 @@ pub(crate) fn dtype_kind(dtype: &Slot, number: &mut u32) -> u32 {
 
 /// Returns 0 if the type is nullable, so that its values may be null, and 1 if it isn't.
 pub(crate) fn dtype_is_nullable(dtype: &Slot) -> u32 {
+    // Only reads, so it takes no lock.
     let mut lent_dtype = dtype.lent();
     // SAFETY: see the head of this file.
     let result = unsafe { vlt_dtype_is_nullable(&mut lent_dtype) };
@@ -820,6 +902,7 @@ pub(crate) fn dtype_is_nullable(dtype: &Slot) -> u32 {
 /// Returns 0 if the type can be made non-nullable, and 1 if it can't. The null type can't, and an extension can't if
 /// its storage type can't. Every other type can.
 pub(crate) fn dtype_can_be_nonnullable(dtype: &Slot) -> u32 {
+    // Only reads, so it takes no lock.
     let mut lent_dtype = dtype.lent();
     // SAFETY: see the head of this file.
     let result = unsafe { vlt_dtype_can_be_nonnullable(&mut lent_dtype) };
@@ -830,6 +913,7 @@ pub(crate) fn dtype_can_be_nonnullable(dtype: &Slot) -> u32 {
 /// Writes the number of bytes that each value of the type takes to `size`. Returns 1 if the type is of variable width,
 /// and 119 if it is of fixed width and its width, or the width of a part of it, is above 2^64 - 1.
 pub(crate) fn dtype_element_size(dtype: &Slot, size: &mut usize) -> u32 {
+    // Only reads, so it takes no lock.
     let mut lent_dtype = dtype.lent();
     // SAFETY: see the head of this file.
     let result = unsafe { vlt_dtype_element_size(&mut lent_dtype, size) };
@@ -840,6 +924,7 @@ pub(crate) fn dtype_element_size(dtype: &Slot, size: &mut usize) -> u32 {
 /// Stores in `out` the type of the entries of a map: the non-nullable struct with the fields `key` and `value`. Returns
 /// 1 if the type isn't a map.
 pub(crate) fn dtype_entries(dtype: &Slot, out: &mut Slot) -> u32 {
+    let _lock = lock();
     let mut lent_dtype = dtype.lent();
     // SAFETY: see the head of this file.
     let result = unsafe { vlt_dtype_entries(&mut lent_dtype, out) };
@@ -854,6 +939,7 @@ pub(crate) fn dtype_map(one: &Slot, other: &Slot, keys_sorted: bool, nullable: b
     if one.is(other) {
         return SAME_SLOT;
     }
+    let _lock = lock();
     let mut lent_one = one.lent();
     let mut lent_other = other.lent();
     // SAFETY: see the head of this file.
@@ -866,6 +952,7 @@ pub(crate) fn dtype_map(one: &Slot, other: &Slot, keys_sorted: bool, nullable: b
 /// Stores in `out` the extension type with this id, this metadata and this storage type. Returns 3 if the id isn't
 /// UTF-8, and 6 if the storage type has 128 levels.
 pub(crate) fn dtype_extension(id: &[u8], metadata: &[u8], storage: &Slot, out: &mut Slot) -> u32 {
+    let _lock = lock();
     let mut lent_storage = storage.lent();
     // SAFETY: see the head of this file.
     let result = unsafe {
@@ -878,6 +965,7 @@ pub(crate) fn dtype_extension(id: &[u8], metadata: &[u8], storage: &Slot, out: &
 /// Stores in `out` the struct without the field at the position `index`. It has the outer nullability of the original
 /// struct. Returns 5 if the type isn't a struct, and 117 if the position isn't below the number of fields.
 pub(crate) fn struct_without_field(dtype: &Slot, index: usize, out: &mut Slot) -> u32 {
+    let _lock = lock();
     let mut lent_dtype = dtype.lent();
     // SAFETY: see the head of this file.
     let result = unsafe { vlt_struct_without_field(&mut lent_dtype, index, out) };
@@ -892,6 +980,7 @@ pub(crate) fn struct_disjoint_merge(one: &Slot, other: &Slot, out: &mut Slot) ->
     if one.is(other) {
         return SAME_SLOT;
     }
+    let _lock = lock();
     let mut lent_one = one.lent();
     let mut lent_other = other.lent();
     // SAFETY: see the head of this file.
@@ -908,6 +997,7 @@ pub(crate) fn struct_disjoint_merge(one: &Slot, other: &Slot, out: &mut Slot) ->
 /// a struct, 9 if the lengths don't add up to the number of bytes, and 116 if one of the names isn't the name of any
 /// field.
 pub(crate) fn struct_project(dtype: &Slot, names: &[u8], name_lengths: &[usize], out: &mut Slot) -> u32 {
+    let _lock = lock();
     let mut lent_dtype = dtype.lent();
     // SAFETY: see the head of this file.
     let result = unsafe {
@@ -919,6 +1009,7 @@ pub(crate) fn struct_project(dtype: &Slot, names: &[u8], name_lengths: &[usize],
 
 /// Writes the number of fields of the struct to `count`. Returns 5 if the type isn't a struct.
 pub(crate) fn struct_nfields(dtype: &Slot, count: &mut usize) -> u32 {
+    // Only reads, so it takes no lock.
     let mut lent_dtype = dtype.lent();
     // SAFETY: see the head of this file.
     let result = unsafe { vlt_struct_nfields(&mut lent_dtype, count) };
@@ -929,6 +1020,7 @@ pub(crate) fn struct_nfields(dtype: &Slot, count: &mut usize) -> u32 {
 /// Stores in `out` the type of the field at the position `index`. Returns 1 if the position isn't below the number of
 /// fields, and 5 if the type isn't a struct.
 pub(crate) fn struct_field_by_index(dtype: &Slot, index: usize, out: &mut Slot) -> u32 {
+    let _lock = lock();
     let mut lent_dtype = dtype.lent();
     // SAFETY: see the head of this file.
     let result = unsafe { vlt_struct_field_by_index(&mut lent_dtype, index, out) };
@@ -939,6 +1031,7 @@ pub(crate) fn struct_field_by_index(dtype: &Slot, index: usize, out: &mut Slot) 
 /// Writes the position of the first field with this name to `index`. Returns 1 if no field has the name, 3 if the name
 /// isn't UTF-8, and 5 if the type isn't a struct.
 pub(crate) fn struct_find(dtype: &Slot, name: &[u8], index: &mut usize) -> u32 {
+    // Only reads, so it takes no lock.
     let mut lent_dtype = dtype.lent();
     // SAFETY: see the head of this file.
     let result = unsafe { vlt_struct_find(&mut lent_dtype, name.as_ptr(), name.len(), index) };
@@ -949,6 +1042,7 @@ pub(crate) fn struct_find(dtype: &Slot, name: &[u8], index: &mut usize) -> u32 {
 /// Stores in `out` the type of the first field with this name. Returns 1 if no field has the name, 3 if the name isn't
 /// UTF-8, and 5 if the type isn't a struct.
 pub(crate) fn struct_field(dtype: &Slot, name: &[u8], out: &mut Slot) -> u32 {
+    let _lock = lock();
     let mut lent_dtype = dtype.lent();
     // SAFETY: see the head of this file.
     let result = unsafe { vlt_struct_field(&mut lent_dtype, name.as_ptr(), name.len(), out) };
@@ -959,6 +1053,7 @@ pub(crate) fn struct_field(dtype: &Slot, name: &[u8], out: &mut Slot) -> u32 {
 /// Writes the name of the field at the position `index` to `buffer`. Returns 1 if the position isn't below the number
 /// of fields, and 5 if the type isn't a struct.
 pub(crate) fn struct_field_name(dtype: &Slot, index: usize, buffer: &mut [u8], length: &mut usize) -> u32 {
+    let _lock = lock();
     let mut lent_dtype = dtype.lent();
     // SAFETY: see the head of this file.
     let result = unsafe { vlt_struct_field_name(&mut lent_dtype, index, buffer.as_mut_ptr(), buffer.len(), length) };
@@ -969,6 +1064,7 @@ pub(crate) fn struct_field_name(dtype: &Slot, index: usize, buffer: &mut [u8], l
 /// Writes the fields of a struct to `buffer` as indented text, in which each field begins on a new line. Returns 5 if
 /// the type isn't a struct.
 pub(crate) fn struct_indented(dtype: &Slot, buffer: &mut [u8], length: &mut usize) -> u32 {
+    let _lock = lock();
     let mut lent_dtype = dtype.lent();
     // SAFETY: see the head of this file.
     let result = unsafe { vlt_struct_indented(&mut lent_dtype, buffer.as_mut_ptr(), buffer.len(), length) };
@@ -978,6 +1074,7 @@ pub(crate) fn struct_indented(dtype: &Slot, buffer: &mut [u8], length: &mut usiz
 
 /// Writes the number of variants of the union to `count`. Returns 5 if the type isn't a union.
 pub(crate) fn union_len(dtype: &Slot, count: &mut usize) -> u32 {
+    // Only reads, so it takes no lock.
     let mut lent_dtype = dtype.lent();
     // SAFETY: see the head of this file.
     let result = unsafe { vlt_union_len(&mut lent_dtype, count) };
@@ -988,6 +1085,7 @@ pub(crate) fn union_len(dtype: &Slot, count: &mut usize) -> u32 {
 /// Stores in `out` the type of the variant at the position `index`. Returns 1 if the position isn't below the number of
 /// variants, and 5 if the type isn't a union.
 pub(crate) fn union_variant_by_index(dtype: &Slot, index: usize, out: &mut Slot) -> u32 {
+    let _lock = lock();
     let mut lent_dtype = dtype.lent();
     // SAFETY: see the head of this file.
     let result = unsafe { vlt_union_variant_by_index(&mut lent_dtype, index, out) };
@@ -998,6 +1096,7 @@ pub(crate) fn union_variant_by_index(dtype: &Slot, index: usize, out: &mut Slot)
 /// Writes the position of the variant with this name to `index`. Returns 1 if no variant has the name, 3 if the name
 /// isn't UTF-8, and 5 if the type isn't a union.
 pub(crate) fn union_find(dtype: &Slot, name: &[u8], index: &mut usize) -> u32 {
+    // Only reads, so it takes no lock.
     let mut lent_dtype = dtype.lent();
     // SAFETY: see the head of this file.
     let result = unsafe { vlt_union_find(&mut lent_dtype, name.as_ptr(), name.len(), index) };
@@ -1008,6 +1107,7 @@ pub(crate) fn union_find(dtype: &Slot, name: &[u8], index: &mut usize) -> u32 {
 /// Stores in `out` the type of the variant with this name. Returns 1 if no variant has the name, 3 if the name isn't
 /// UTF-8, and 5 if the type isn't a union.
 pub(crate) fn union_variant(dtype: &Slot, name: &[u8], out: &mut Slot) -> u32 {
+    let _lock = lock();
     let mut lent_dtype = dtype.lent();
     // SAFETY: see the head of this file.
     let result = unsafe { vlt_union_variant(&mut lent_dtype, name.as_ptr(), name.len(), out) };
@@ -1018,6 +1118,7 @@ pub(crate) fn union_variant(dtype: &Slot, name: &[u8], out: &mut Slot) -> u32 {
 /// Writes the position of the variant with this tag to `index`. Returns 1 if no variant has the tag, and 5 if the type
 /// isn't a union.
 pub(crate) fn union_tag_to_child_index(dtype: &Slot, tag: u8, index: &mut usize) -> u32 {
+    // Only reads, so it takes no lock.
     let mut lent_dtype = dtype.lent();
     // SAFETY: see the head of this file.
     let result = unsafe { vlt_union_tag_to_child_index(&mut lent_dtype, tag, index) };
@@ -1028,6 +1129,7 @@ pub(crate) fn union_tag_to_child_index(dtype: &Slot, tag: u8, index: &mut usize)
 /// Writes the tag of the variant at the position `index` to `tag`. Returns 1 if the position isn't below the number of
 /// variants, and 5 if the type isn't a union.
 pub(crate) fn union_child_index_to_tag(dtype: &Slot, index: usize, tag: &mut u8) -> u32 {
+    // Only reads, so it takes no lock.
     let mut lent_dtype = dtype.lent();
     // SAFETY: see the head of this file.
     let result = unsafe { vlt_union_child_index_to_tag(&mut lent_dtype, index, tag) };
@@ -1038,6 +1140,7 @@ pub(crate) fn union_child_index_to_tag(dtype: &Slot, index: usize, tag: &mut u8)
 /// Writes the name of the variant at the position `index` to `buffer`. Returns 1 if the position isn't below the number
 /// of variants, and 5 if the type isn't a union.
 pub(crate) fn union_variant_name(dtype: &Slot, index: usize, buffer: &mut [u8], length: &mut usize) -> u32 {
+    let _lock = lock();
     let mut lent_dtype = dtype.lent();
     // SAFETY: see the head of this file.
     let result = unsafe { vlt_union_variant_name(&mut lent_dtype, index, buffer.as_mut_ptr(), buffer.len(), length) };
@@ -1048,6 +1151,7 @@ pub(crate) fn union_variant_name(dtype: &Slot, index: usize, buffer: &mut [u8], 
 /// Returns 0 if the tags are 0, 1, 2 and so on in the order of the variants, 1 if they aren't, and 5 if the type isn't
 /// a union.
 pub(crate) fn union_is_consecutive(dtype: &Slot) -> u32 {
+    // Only reads, so it takes no lock.
     let mut lent_dtype = dtype.lent();
     // SAFETY: see the head of this file.
     let result = unsafe { vlt_union_is_consecutive(&mut lent_dtype) };
@@ -1060,6 +1164,8 @@ pub(crate) fn union_is_consecutive(dtype: &Slot) -> u32 {
 /// message that has such a part describes no path, and the call returns 136. Returns 3 if a name isn't UTF-8, and 9 if
 /// the lengths don't add up to the number of bytes.
 pub(crate) fn path_from_message(names: &[u8], name_lengths: &[usize], out: &mut Slot) -> u32 {
+    out.clear();
+    // Is given no object, so it takes no lock.
     // SAFETY: see the head of this file.
     unsafe { vlt_path_from_message(names.as_ptr(), names.len(), name_lengths.as_ptr(), name_lengths.len(), out) }
 }
@@ -1071,6 +1177,8 @@ pub(crate) fn path_from_message(names: &[u8], name_lengths: &[usize], out: &mut 
 /// Returns 3 if the text isn't UTF-8. If the text can't be read, the call returns 4 and writes the position of the
 /// byte at which reading failed, counted from 1, to `position`. At an unknown word this is its first byte.
 pub(crate) fn path_from_message_text(text: &[u8], out: &mut Slot, position: &mut usize) -> u32 {
+    out.clear();
+    // Is given no object, so it takes no lock.
     // SAFETY: see the head of this file.
     unsafe { vlt_path_from_message_text(text.as_ptr(), text.len(), out, position) }
 }
@@ -1081,6 +1189,8 @@ pub(crate) fn path_from_message_text(text: &[u8], out: &mut Slot, position: &mut
 /// Returns 3 if the text isn't UTF-8. If the text can't be read, the call returns 4 and writes the position of the
 /// byte at which reading failed, counted from 1, to `position`. At an unknown word this is its first byte.
 pub(crate) fn path_from_text(text: &[u8], out: &mut Slot, position: &mut usize) -> u32 {
+    out.clear();
+    // Is given no object, so it takes no lock.
     // SAFETY: see the head of this file.
     unsafe { vlt_path_from_text(text.as_ptr(), text.len(), out, position) }
 }
@@ -1088,6 +1198,7 @@ pub(crate) fn path_from_text(text: &[u8], out: &mut Slot, position: &mut usize) 
 /// Writes the path to `buffer` in the form of the console, for example `a.[].b`. `vlt_path_from_text` reads the same
 /// path from this text, which is tested and not proved.
 pub(crate) fn path_to_text(path: &Slot, buffer: &mut [u8], length: &mut usize) -> u32 {
+    let _lock = lock();
     let mut lent_path = path.lent();
     // SAFETY: see the head of this file.
     let result = unsafe { vlt_path_to_text(&mut lent_path, buffer.as_mut_ptr(), buffer.len(), length) };
@@ -1097,12 +1208,15 @@ pub(crate) fn path_to_text(path: &Slot, buffer: &mut [u8], length: &mut usize) -
 
 /// Stores in `out` the root, which is the path without steps.
 pub(crate) fn path_root(out: &mut Slot) -> u32 {
+    out.clear();
+    // Is given no object, so it takes no lock.
     // SAFETY: see the head of this file.
     unsafe { vlt_path_root(out) }
 }
 
 /// Writes the number of steps of the path to `count`.
 pub(crate) fn path_len(path: &Slot, count: &mut usize) -> u32 {
+    // Only reads, so it takes no lock.
     let mut lent_path = path.lent();
     // SAFETY: see the head of this file.
     let result = unsafe { vlt_path_len(&mut lent_path, count) };
@@ -1114,6 +1228,7 @@ pub(crate) fn path_len(path: &Slot, count: &mut usize) -> u32 {
 /// their number to `length`. For the step to the element, it writes only a length, which is 2^64 - 1 (`VLT_ELEMENT` in C).
 /// Returns 1 if the position isn't below the number of steps.
 pub(crate) fn path_step(path: &Slot, index: usize, buffer: &mut [u8], length: &mut usize) -> u32 {
+    // Only reads, so it takes no lock.
     let mut lent_path = path.lent();
     // SAFETY: see the head of this file.
     let result = unsafe { vlt_path_step(&mut lent_path, index, buffer.as_mut_ptr(), buffer.len(), length) };
@@ -1124,6 +1239,7 @@ pub(crate) fn path_step(path: &Slot, index: usize, buffer: &mut [u8], length: &m
 /// Stores in `out` the path with one more step at its end: the step to the field with this name. Returns 3 if the name
 /// isn't UTF-8.
 pub(crate) fn path_push_name(path: &Slot, name: &[u8], out: &mut Slot) -> u32 {
+    let _lock = lock();
     let mut lent_path = path.lent();
     // SAFETY: see the head of this file.
     let result = unsafe { vlt_path_push_name(&mut lent_path, name.as_ptr(), name.len(), out) };
@@ -1133,6 +1249,7 @@ pub(crate) fn path_push_name(path: &Slot, name: &[u8], out: &mut Slot) -> u32 {
 
 /// Stores in `out` the path with one more step at its end: the step to the element of a list.
 pub(crate) fn path_push_element(path: &Slot, out: &mut Slot) -> u32 {
+    let _lock = lock();
     let mut lent_path = path.lent();
     // SAFETY: see the head of this file.
     let result = unsafe { vlt_path_push_element(&mut lent_path, out) };
@@ -1142,6 +1259,7 @@ pub(crate) fn path_push_element(path: &Slot, out: &mut Slot) -> u32 {
 
 /// Stores in `out` the path without its first step. Returns 1 if the path is the root, which has no steps.
 pub(crate) fn path_step_into(path: &Slot, out: &mut Slot) -> u32 {
+    let _lock = lock();
     let mut lent_path = path.lent();
     // SAFETY: see the head of this file.
     let result = unsafe { vlt_path_step_into(&mut lent_path, out) };
@@ -1151,6 +1269,7 @@ pub(crate) fn path_step_into(path: &Slot, out: &mut Slot) -> u32 {
 
 /// Stores in `out` a copy of the path.
 pub(crate) fn path_copy(path: &Slot, out: &mut Slot) -> u32 {
+    let _lock = lock();
     let mut lent_path = path.lent();
     // SAFETY: see the head of this file.
     let result = unsafe { vlt_path_copy(&mut lent_path, out) };
@@ -1163,6 +1282,7 @@ pub(crate) fn path_eq(one: &Slot, other: &Slot) -> u32 {
     if one.is(other) {
         return SAME_SLOT;
     }
+    // Only reads, so it takes no lock.
     let mut lent_one = one.lent();
     let mut lent_other = other.lent();
     // SAFETY: see the head of this file.
@@ -1178,6 +1298,7 @@ pub(crate) fn path_overlap(one: &Slot, other: &Slot) -> u32 {
     if one.is(other) {
         return SAME_SLOT;
     }
+    // Only reads, so it takes no lock.
     let mut lent_one = one.lent();
     let mut lent_other = other.lent();
     // SAFETY: see the head of this file.
@@ -1193,6 +1314,7 @@ pub(crate) fn path_resolve(dtype: &Slot, path: &Slot, out: &mut Slot) -> u32 {
     if dtype.is(path) {
         return SAME_SLOT;
     }
+    let _lock = lock();
     let mut lent_dtype = dtype.lent();
     let mut lent_path = path.lent();
     // SAFETY: see the head of this file.
@@ -1207,6 +1329,7 @@ pub(crate) fn path_exists_in(dtype: &Slot, path: &Slot) -> u32 {
     if dtype.is(path) {
         return SAME_SLOT;
     }
+    // Only reads, so it takes no lock.
     let mut lent_dtype = dtype.lent();
     let mut lent_path = path.lent();
     // SAFETY: see the head of this file.
@@ -1218,6 +1341,7 @@ pub(crate) fn path_exists_in(dtype: &Slot, path: &Slot) -> u32 {
 
 /// Writes the path to `buffer` as the library displays it, for example `$a.[].$b`.
 pub(crate) fn path_display(path: &Slot, buffer: &mut [u8], length: &mut usize) -> u32 {
+    let _lock = lock();
     let mut lent_path = path.lent();
     // SAFETY: see the head of this file.
     let result = unsafe { vlt_path_display(&mut lent_path, buffer.as_mut_ptr(), buffer.len(), length) };
@@ -1228,6 +1352,7 @@ pub(crate) fn path_display(path: &Slot, buffer: &mut [u8], length: &mut usize) -
 /// Returns 0 if the first step of the path is the step to the field with this name. Returns 1 if it is the step to
 /// another field, or if the path is the root. Returns 5 if it is the step to the element.
 pub(crate) fn path_starts_with_name(path: &Slot, name: &[u8]) -> u32 {
+    // Only reads, so it takes no lock.
     let mut lent_path = path.lent();
     // SAFETY: see the head of this file.
     let result = unsafe { vlt_path_starts_with_name(&mut lent_path, name.as_ptr(), name.len()) };
@@ -1238,6 +1363,7 @@ pub(crate) fn path_starts_with_name(path: &Slot, name: &[u8]) -> u32 {
 /// Writes a hash of the path to `hash`. Equal paths have the same hash. The hash of a path may differ between versions
 /// of the library.
 pub(crate) fn path_hash(path: &Slot, hash: &mut u64) -> u32 {
+    // Only reads, so it takes no lock.
     let mut lent_path = path.lent();
     // SAFETY: see the head of this file.
     let result = unsafe { vlt_path_hash(&mut lent_path, hash) };
@@ -1250,6 +1376,8 @@ pub(crate) fn path_hash(path: &Slot, hash: &mut u64) -> u32 {
 /// stands for the step to the element, which has no bytes in `names`. Returns 3 if a name isn't UTF-8, and 9 if the
 /// lengths don't add up to the number of bytes.
 pub(crate) fn path_from_steps(names: &[u8], name_lengths: &[usize], out: &mut Slot) -> u32 {
+    out.clear();
+    // Is given no object, so it takes no lock.
     // SAFETY: see the head of this file.
     unsafe { vlt_path_from_steps(names.as_ptr(), names.len(), name_lengths.as_ptr(), name_lengths.len(), out) }
 }
@@ -1268,6 +1396,7 @@ pub(crate) fn set_below(
     if paths.is(path) {
         return SAME_SLOT;
     }
+    // Only reads, so it takes no lock.
     let mut lent_paths = paths.lent();
     let mut lent_path = path.lent();
     // SAFETY: see the head of this file.
@@ -1284,6 +1413,7 @@ pub(crate) fn set_names_below(paths: &Slot, path: &Slot, out: &mut Slot) -> u32 
     if paths.is(path) {
         return SAME_SLOT;
     }
+    let _lock = lock();
     let mut lent_paths = paths.lent();
     let mut lent_path = path.lent();
     // SAFETY: see the head of this file.
@@ -1295,15 +1425,18 @@ pub(crate) fn set_names_below(paths: &Slot, path: &Slot, out: &mut Slot) -> u32 
 
 /// Stores in `out` the empty set.
 pub(crate) fn set_new(out: &mut Slot) -> u32 {
+    out.clear();
+    // Is given no object, so it takes no lock.
     // SAFETY: see the head of this file.
     unsafe { vlt_set_new(out) }
 }
 
 /// Inserts a copy of the path into the set. If the call doesn't return 0, the set is unchanged.
-pub(crate) fn set_insert(paths: &Slot, path: &Slot) -> u32 {
+pub(crate) fn set_insert(paths: &mut Slot, path: &Slot) -> u32 {
     if paths.is(path) {
         return SAME_SLOT;
     }
+    let _lock = lock();
     let mut lent_paths = paths.lent();
     let mut lent_path = path.lent();
     // SAFETY: see the head of this file.
@@ -1318,6 +1451,7 @@ pub(crate) fn set_contains(paths: &Slot, path: &Slot) -> u32 {
     if paths.is(path) {
         return SAME_SLOT;
     }
+    // Only reads, so it takes no lock.
     let mut lent_paths = paths.lent();
     let mut lent_path = path.lent();
     // SAFETY: see the head of this file.
@@ -1329,6 +1463,7 @@ pub(crate) fn set_contains(paths: &Slot, path: &Slot) -> u32 {
 
 /// Stores in `out` a copy of the set.
 pub(crate) fn set_copy(paths: &Slot, out: &mut Slot) -> u32 {
+    let _lock = lock();
     let mut lent_paths = paths.lent();
     // SAFETY: see the head of this file.
     let result = unsafe { vlt_set_copy(&mut lent_paths, out) };
@@ -1340,6 +1475,7 @@ pub(crate) fn set_copy(paths: &Slot, out: &mut Slot) -> u32 {
 /// set is a prefix. They are the fewest paths that cover what the set covers. For example, the only least path of the
 /// set of `a` and `a.b` is `a`. Each path is in the list once, in no particular order.
 pub(crate) fn set_cover(paths: &Slot, out: &mut Slot) -> u32 {
+    let _lock = lock();
     let mut lent_paths = paths.lent();
     // SAFETY: see the head of this file.
     let result = unsafe { vlt_set_cover(&mut lent_paths, out) };
@@ -1349,6 +1485,7 @@ pub(crate) fn set_cover(paths: &Slot, out: &mut Slot) -> u32 {
 
 /// Stores in `out` the list of the paths of the set. Each path is in the list once, in no particular order.
 pub(crate) fn set_members(paths: &Slot, out: &mut Slot) -> u32 {
+    let _lock = lock();
     let mut lent_paths = paths.lent();
     // SAFETY: see the head of this file.
     let result = unsafe { vlt_set_members(&mut lent_paths, out) };
@@ -1362,6 +1499,7 @@ pub(crate) fn set_unresolved(paths: &Slot, dtype: &Slot, out: &mut Slot) -> u32 
     if paths.is(dtype) {
         return SAME_SLOT;
     }
+    let _lock = lock();
     let mut lent_paths = paths.lent();
     let mut lent_dtype = dtype.lent();
     // SAFETY: see the head of this file.
@@ -1373,6 +1511,7 @@ pub(crate) fn set_unresolved(paths: &Slot, dtype: &Slot, out: &mut Slot) -> u32 
 
 /// Writes the number of paths of the set to `count`.
 pub(crate) fn set_len(paths: &Slot, count: &mut usize) -> u32 {
+    let _lock = lock();
     let mut lent_paths = paths.lent();
     // SAFETY: see the head of this file.
     let result = unsafe { vlt_set_len(&mut lent_paths, count) };
@@ -1383,7 +1522,8 @@ pub(crate) fn set_len(paths: &Slot, count: &mut usize) -> u32 {
 /// Inserts copies of the paths in these slots into the set, in order, and writes to `inserted` how many were inserted.
 /// If a slot contains no path, the call stops there and returns 2. If memory runs out, it stops there and returns 100. The
 /// paths before it stay inserted.
-pub(crate) fn set_extend(set: &Slot, paths: &mut [Slot], inserted: &mut usize) -> u32 {
+pub(crate) fn set_extend(set: &mut Slot, paths: &mut [Slot], inserted: &mut usize) -> u32 {
+    let _lock = lock();
     let mut lent_set = set.lent();
     // SAFETY: see the head of this file.
     let result = unsafe { vlt_set_extend(&mut lent_set, paths.as_mut_ptr(), paths.len(), inserted) };
@@ -1393,10 +1533,11 @@ pub(crate) fn set_extend(set: &Slot, paths: &mut [Slot], inserted: &mut usize) -
 
 /// Inserts copies of the paths of the list into the set, in order. If memory runs out, the call stops there and returns
 /// 100. The paths that it inserted before stay in the set.
-pub(crate) fn set_extend_from_list(paths: &Slot, list: &Slot) -> u32 {
+pub(crate) fn set_extend_from_list(paths: &mut Slot, list: &Slot) -> u32 {
     if paths.is(list) {
         return SAME_SLOT;
     }
+    let _lock = lock();
     let mut lent_paths = paths.lent();
     let mut lent_list = list.lent();
     // SAFETY: see the head of this file.
@@ -1408,6 +1549,7 @@ pub(crate) fn set_extend_from_list(paths: &Slot, list: &Slot) -> u32 {
 
 /// Writes the number of paths of the list to `count`.
 pub(crate) fn paths_len(paths: &Slot, count: &mut usize) -> u32 {
+    // Only reads, so it takes no lock.
     let mut lent_paths = paths.lent();
     // SAFETY: see the head of this file.
     let result = unsafe { vlt_paths_len(&mut lent_paths, count) };
@@ -1418,6 +1560,7 @@ pub(crate) fn paths_len(paths: &Slot, count: &mut usize) -> u32 {
 /// Stores in `out` a copy of the path at the position `index` of the list. Returns 1 if the position isn't below the
 /// length of the list.
 pub(crate) fn paths_get(paths: &Slot, index: usize, out: &mut Slot) -> u32 {
+    let _lock = lock();
     let mut lent_paths = paths.lent();
     // SAFETY: see the head of this file.
     let result = unsafe { vlt_paths_get(&mut lent_paths, index, out) };
@@ -1431,6 +1574,7 @@ pub(crate) fn project_paths(dtype: &Slot, set: &Slot, out: &mut Slot) -> u32 {
     if dtype.is(set) {
         return SAME_SLOT;
     }
+    let _lock = lock();
     let mut lent_dtype = dtype.lent();
     let mut lent_set = set.lent();
     // SAFETY: see the head of this file.
@@ -1442,12 +1586,15 @@ pub(crate) fn project_paths(dtype: &Slot, set: &Slot, out: &mut Slot) -> u32 {
 
 /// Stores in `out` the mask that selects every path.
 pub(crate) fn mask_all(out: &mut Slot) -> u32 {
+    out.clear();
+    // Is given no object, so it takes no lock.
     // SAFETY: see the head of this file.
     unsafe { vlt_mask_all(out) }
 }
 
 /// Stores in `out` the mask that selects the path and every path that begins with it.
 pub(crate) fn mask_prefix(path: &Slot, out: &mut Slot) -> u32 {
+    let _lock = lock();
     let mut lent_path = path.lent();
     // SAFETY: see the head of this file.
     let result = unsafe { vlt_mask_prefix(&mut lent_path, out) };
@@ -1457,6 +1604,7 @@ pub(crate) fn mask_prefix(path: &Slot, out: &mut Slot) -> u32 {
 
 /// Stores in `out` the mask that selects only the path.
 pub(crate) fn mask_exact(path: &Slot, out: &mut Slot) -> u32 {
+    let _lock = lock();
     let mut lent_path = path.lent();
     // SAFETY: see the head of this file.
     let result = unsafe { vlt_mask_exact(&mut lent_path, out) };
@@ -1468,6 +1616,7 @@ pub(crate) fn mask_exact(path: &Slot, out: &mut Slot) -> u32 {
 /// `vlt_mask_prefix`, which selects a path and every path that begins with it; and 2 for a mask of `vlt_mask_exact`,
 /// which selects only one path.
 pub(crate) fn mask_kind(mask: &Slot, kind: &mut u32) -> u32 {
+    // Only reads, so it takes no lock.
     let mut lent_mask = mask.lent();
     // SAFETY: see the head of this file.
     let result = unsafe { vlt_mask_kind(&mut lent_mask, kind) };
@@ -1477,6 +1626,7 @@ pub(crate) fn mask_kind(mask: &Slot, kind: &mut u32) -> u32 {
 
 /// Stores in `out` the path of the mask. Returns 1 if the mask is the one of `vlt_mask_all`, which has no path.
 pub(crate) fn mask_path(mask: &Slot, out: &mut Slot) -> u32 {
+    let _lock = lock();
     let mut lent_mask = mask.lent();
     // SAFETY: see the head of this file.
     let result = unsafe { vlt_mask_path(&mut lent_mask, out) };
@@ -1486,6 +1636,7 @@ pub(crate) fn mask_path(mask: &Slot, out: &mut Slot) -> u32 {
 
 /// Stores in `out` a copy of the mask.
 pub(crate) fn mask_copy(mask: &Slot, out: &mut Slot) -> u32 {
+    let _lock = lock();
     let mut lent_mask = mask.lent();
     // SAFETY: see the head of this file.
     let result = unsafe { vlt_mask_copy(&mut lent_mask, out) };
@@ -1497,6 +1648,7 @@ pub(crate) fn mask_copy(mask: &Slot, out: &mut Slot) -> u32 {
 /// `vlt_mask_prefix` makes of `a.b`, it is the mask that `vlt_mask_prefix` makes of `b`. Returns 120 if the mask
 /// selects only the root.
 pub(crate) fn mask_step_into(mask: &Slot, out: &mut Slot) -> u32 {
+    let _lock = lock();
     let mut lent_mask = mask.lent();
     // SAFETY: see the head of this file.
     let result = unsafe { vlt_mask_step_into(&mut lent_mask, out) };
@@ -1507,6 +1659,7 @@ pub(crate) fn mask_step_into(mask: &Slot, out: &mut Slot) -> u32 {
 /// Writes the first step of the path of the mask, in the same way as `vlt_path_step` writes a step. Returns 1 if the
 /// path is the root, and 121 if the mask is the one of `vlt_mask_all`, which has no path.
 pub(crate) fn mask_starting_field(mask: &Slot, buffer: &mut [u8], length: &mut usize) -> u32 {
+    // Only reads, so it takes no lock.
     let mut lent_mask = mask.lent();
     // SAFETY: see the head of this file.
     let result = unsafe { vlt_mask_starting_field(&mut lent_mask, buffer.as_mut_ptr(), buffer.len(), length) };
@@ -1516,6 +1669,7 @@ pub(crate) fn mask_starting_field(mask: &Slot, buffer: &mut [u8], length: &mut u
 
 /// Returns 0 if the mask selects every path, and 1 if it doesn't.
 pub(crate) fn mask_matches_all(mask: &Slot) -> u32 {
+    // Only reads, so it takes no lock.
     let mut lent_mask = mask.lent();
     // SAFETY: see the head of this file.
     let result = unsafe { vlt_mask_matches_all(&mut lent_mask) };
@@ -1525,6 +1679,7 @@ pub(crate) fn mask_matches_all(mask: &Slot) -> u32 {
 
 /// Returns 0 if the mask selects the root, and 1 if it doesn't.
 pub(crate) fn mask_matches_root(mask: &Slot) -> u32 {
+    // Only reads, so it takes no lock.
     let mut lent_mask = mask.lent();
     // SAFETY: see the head of this file.
     let result = unsafe { vlt_mask_matches_root(&mut lent_mask) };
@@ -1537,6 +1692,7 @@ pub(crate) fn mask_eq(one: &Slot, other: &Slot) -> u32 {
     if one.is(other) {
         return SAME_SLOT;
     }
+    // Only reads, so it takes no lock.
     let mut lent_one = one.lent();
     let mut lent_other = other.lent();
     // SAFETY: see the head of this file.
@@ -1553,6 +1709,8 @@ pub(crate) fn mask_eq(one: &Slot, other: &Slot) -> u32 {
 /// byte at which reading failed, counted from 1, to `position`. At an unknown word this is its first byte. A text that is
 /// nested more than 128 levels deep can't be read.
 pub(crate) fn message_from_text(text: &[u8], out: &mut Slot, position: &mut usize) -> u32 {
+    out.clear();
+    // Is given no object, so it takes no lock.
     // SAFETY: see the head of this file.
     unsafe { vlt_message_from_text(text.as_ptr(), text.len(), out, position) }
 }
@@ -1560,6 +1718,7 @@ pub(crate) fn message_from_text(text: &[u8], out: &mut Slot, position: &mut usiz
 /// Writes the message to `buffer` in the form of the console. `vlt_message_from_text` reads the same message from this
 /// text, which is tested and not proved.
 pub(crate) fn message_to_text(message: &Slot, buffer: &mut [u8], length: &mut usize) -> u32 {
+    let _lock = lock();
     let mut lent_message = message.lent();
     // SAFETY: see the head of this file.
     let result = unsafe { vlt_message_to_text(&mut lent_message, buffer.as_mut_ptr(), buffer.len(), length) };
@@ -1569,6 +1728,7 @@ pub(crate) fn message_to_text(message: &Slot, buffer: &mut [u8], length: &mut us
 
 /// Stores in `out` a copy of the message.
 pub(crate) fn message_copy(message: &Slot, out: &mut Slot) -> u32 {
+    let _lock = lock();
     let mut lent_message = message.lent();
     // SAFETY: see the head of this file.
     let result = unsafe { vlt_message_copy(&mut lent_message, out) };
@@ -1581,6 +1741,7 @@ pub(crate) fn message_eq(one: &Slot, other: &Slot) -> u32 {
     if one.is(other) {
         return SAME_SLOT;
     }
+    // Only reads, so it takes no lock.
     let mut lent_one = one.lent();
     let mut lent_other = other.lent();
     // SAFETY: see the head of this file.
@@ -1596,6 +1757,7 @@ pub(crate) fn message_eq(one: &Slot, other: &Slot) -> u32 {
 /// 101 to 104 for a decimal, 109 for a map, and 110 to 113 or 115 for a union. For example, it returns 124 for a message
 /// without a kind.
 pub(crate) fn message_to_dtype(message: &Slot, allow_unknown: bool, out: &mut Slot) -> u32 {
+    let _lock = lock();
     let mut lent_message = message.lent();
     // SAFETY: see the head of this file.
     let result = unsafe { vlt_message_to_dtype(&mut lent_message, allow_unknown, out) };
@@ -1607,6 +1769,7 @@ pub(crate) fn message_to_dtype(message: &Slot, allow_unknown: bool, out: &mut Sl
 /// `vlt_dtype_to_message` makes of this type. It has every child, flag and number, and the metadata of each extension,
 /// even if the metadata is empty. `allow_unknown` and the errors are those of `vlt_message_to_dtype`.
 pub(crate) fn message_normal(message: &Slot, allow_unknown: bool, out: &mut Slot) -> u32 {
+    let _lock = lock();
     let mut lent_message = message.lent();
     // SAFETY: see the head of this file.
     let result = unsafe { vlt_message_normal(&mut lent_message, allow_unknown, out) };
@@ -1618,6 +1781,8 @@ pub(crate) fn message_normal(message: &Slot, allow_unknown: bool, out: &mut Slot
 /// UTF-8, 6 if a message is nested in more than 128 others, and 9 if the nodes and the texts aren't those of one
 /// message.
 pub(crate) fn message_from_nodes(nodes: &[Node], texts: &[u8], out: &mut Slot) -> u32 {
+    out.clear();
+    // Is given no object, so it takes no lock.
     // SAFETY: see the head of this file.
     unsafe { vlt_message_from_nodes(nodes.as_ptr(), nodes.len(), texts.as_ptr(), texts.len(), out) }
 }
@@ -1635,6 +1800,7 @@ pub(crate) fn message_to_nodes(
     texts: &mut [u8],
     text_length: &mut usize,
 ) -> u32 {
+    let _lock = lock();
     let mut lent_message = message.lent();
     // SAFETY: see the head of this file.
     let result = unsafe {

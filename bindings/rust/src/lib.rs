@@ -79,35 +79,35 @@
 //!
 //! # Threads
 //!
-//! Types share their parts, and the owners of a part are counted without a lock. So an object stays on the thread that
-//! made it, and the compiler refuses a program that sends or shares one:
-//!
-//! ```compile_fail,E0277
-//! let dtype: vortex_logical_types::DType = "i32".parse().unwrap();
-//! std::thread::spawn(move || dtype.to_string());
-//! ```
-//!
-//! ```compile_fail,E0277
-//! let path = vortex_logical_types::FieldPath::root();
-//! std::thread::scope(|scope| { scope.spawn(|| path.is_root()); });
-//! ```
-//!
-//! To take a type to another thread, send its text. The other thread reads a type of its own from it:
+//! All objects may be used, shared and dropped on any thread:
 //!
 //! ```
-//! use vortex_logical_types::DType;
+//! use std::sync::LazyLock;
+//! use vortex_logical_types::{DType, FieldPath};
 //!
-//! let dtype: DType = "{a=list(i32?), b=utf8}".parse()?;
-//! let sent = dtype.to_source();
-//! let width = std::thread::spawn(move || {
-//!     let dtype: DType = sent.parse()?;
-//!     Ok::<_, vortex_logical_types::Error>(dtype.as_struct_fields_opt().map(|fields| fields.nfields()))
+//! static ORDERS: LazyLock<DType> = LazyLock::new(|| "{id=u64, customer={city=utf8?}}".parse().expect("a type"));
+//!
+//! let city: FieldPath = "customer.city".parse()?;
+//! std::thread::scope(|scope| {
+//!     scope.spawn(|| assert_eq!(city.resolve(&ORDERS), Some("utf8?".parse().unwrap())));
+//!     scope.spawn(|| assert!(city.exists_in(&ORDERS)));
 //! });
-//! assert_eq!(width.join().unwrap()?, Some(2));
 //! # Ok::<(), vortex_logical_types::Error>(())
 //! ```
 //!
-//! The flat form of its message can be sent too: see [`FlatMessage`].
+//! The parts of types and paths are shared, and the library counts the owners of a part without atomic instructions. So
+//! this package has one lock, and a call that makes, copies, changes or drops an object holds it while it is in the
+//! library. A call that only reads takes no lock and doesn't wait: it compares, hashes, looks up or counts. Neither does
+//! a call that is given no object, such as `parse`. Which calls these are follows from their contracts. On one thread,
+//! taking and releasing the lock costs about 10 ns. On several threads, calls that take it wait for one another.
+//!
+//! No code of your program runs while the lock is held: iterators are read to their end before it is taken, and the
+//! library allocates by `malloc` and not by the program's `#[global_allocator]`. A panic can't poison it. Two rules remain
+//! for the program:
+//!
+//! - If it replaces `malloc` itself, the replacement must not call this package.
+//! - A child that `fork` makes of a process with several threads must not call this package before `exec`, because another
+//!   thread may have held the lock.
 //!
 //! # Messages
 //!
@@ -143,3 +143,18 @@ mod parts;
 mod paths;
 mod scalars;
 mod sets;
+
+/// Fails to compile unless every public type can be used on every thread.
+const _: () = {
+    const fn is_for_all_threads<T: Send + Sync + 'static>() {}
+    is_for_all_threads::<DType>();
+    is_for_all_threads::<StructFields<'static>>();
+    is_for_all_threads::<UnionVariants<'static>>();
+    is_for_all_threads::<MapDType<'static>>();
+    is_for_all_threads::<ExtDTypeRef<'static>>();
+    is_for_all_threads::<(Kind, PType, DecimalDType, Nullability)>();
+    is_for_all_threads::<(Field, FieldPath, FieldPathSet, Paths, Below)>();
+    is_for_all_threads::<(FieldMask, MaskKind)>();
+    is_for_all_threads::<(Message, FlatMessage, Node, UnknownIds)>();
+    is_for_all_threads::<(Error, LibraryError)>();
+};

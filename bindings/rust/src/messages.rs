@@ -38,8 +38,8 @@ pub enum UnknownIds {
 }
 
 /// A message in the flat form: its nodes in pre-order, and the bytes of its texts, one text directly after the other. Both
-/// are plain data, so a flat message can be sent to another thread, and a program that has decoded the bytes of a message
-/// can write the nodes by itself. [`Node`] explains the fields of a node.
+/// are plain data, so a flat message can be stored or sent to another process, and a program that has decoded the bytes of a
+/// message can write the nodes by itself. [`Node`] explains the fields of a node.
 ///
 /// ```
 /// use vortex_logical_types::{DType, FlatMessage, Message, Node, UnknownIds};
@@ -53,22 +53,6 @@ pub enum UnknownIds {
 /// let message = Message::from_nodes(&nodes, b"id")?;
 /// assert_eq!(DType::from_proto(&message, UnknownIds::Refuse)?, "{id=u64}".parse()?);
 /// assert_eq!(message.to_flat()?, FlatMessage { nodes: nodes.to_vec(), texts: b"id".to_vec() });
-/// # Ok::<(), vortex_logical_types::Error>(())
-/// ```
-///
-/// A type is sent as its flat message:
-///
-/// ```
-/// use vortex_logical_types::{DType, Message, UnknownIds};
-///
-/// let dtype: DType = "{a=list(i32?), b=utf8}".parse()?;
-/// let sent = dtype.to_proto().to_flat()?;
-/// let width = std::thread::spawn(move || {
-///     let message = Message::from_flat(&sent)?;
-///     let dtype = DType::from_proto(&message, UnknownIds::Allow)?;
-///     Ok::<_, vortex_logical_types::Error>(dtype.as_struct_fields_opt().map(|fields| fields.nfields()))
-/// });
-/// assert_eq!(width.join().unwrap()?, Some(2));
 /// # Ok::<(), vortex_logical_types::Error>(())
 /// ```
 #[derive(Debug, Clone, PartialEq, Eq, Default)]

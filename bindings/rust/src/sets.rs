@@ -68,7 +68,7 @@ impl FieldPathSet {
 
     /// Inserts a path. If memory runs out, the call returns [`Error::OutOfMemory`] and the set is unchanged.
     pub fn try_insert(&mut self, path: impl Borrow<FieldPath>) -> Result<(), Error> {
-        inserted(ffi::set_insert(&self.slot, &path.borrow().slot))
+        inserted(ffi::set_insert(&mut self.slot, &path.borrow().slot))
     }
 
     /// Inserts paths in order, after the iterator has yielded all of them. If memory runs out, the call returns
@@ -78,7 +78,7 @@ impl FieldPathSet {
         for path in paths {
             pushed(&mut given, path)?;
         }
-        given.iter().try_for_each(|path| inserted(ffi::set_insert(&self.slot, &path.borrow().slot)))
+        given.iter().try_for_each(|path| inserted(ffi::set_insert(&mut self.slot, &path.borrow().slot)))
     }
 
     /// Returns whether the path is in the set.

@@ -25,8 +25,25 @@ pub struct Pair {
 /// Returns 1 if there is none.
 #[unsafe(no_mangle)]
 pub extern "C" fn vlt_find(alloc: Global, dtype: &mut Slot, name: &[u8], index: &mut usize) -> u32
-    ensures { result ≡ 0 }
+    ensures finds { Finds result dtype.old.value index.old index.new }
+    ensures kept { dtype.new.value ≡ dtype.old.value }
 {
+    0
+}
+
+/// Copies a type.
+#[unsafe(no_mangle)]
+pub extern "C" fn vlt_copy(alloc: Global, dtype: &mut Slot, changed: &mut Slot) -> u32
+    ensures made { Finds result dtype.old.value 0 1 }
+    ensures kept { dtype.new.value ≡ dtype.old.value }
+    ensures unchanged { (result ≡ 0) ⊎ (changed.new.value ≡ changed.old.value) }
+{
+    0
+}
+
+/// Makes a type.
+#[unsafe(no_mangle)]
+pub extern "C" fn vlt_new(alloc: Global, out: &mut Slot) -> u32 {
     0
 }
 
@@ -42,6 +59,19 @@ pub extern "C" fn vlt_free(alloc: Global, slot: &mut Slot) {}
 
 pub fn is_not_exported(alloc: Global) {}
 '''
+# What `vlt_find` returns, in definitions that follow one another. Each change of CHANGES makes its number unknown, or
+# lets it run out of memory.
+SPECS = '''-- what is returned
+abbrev pub Finds : ℕ → Option Object → ℕ → ℕ → Type 0
+Finds code None old new = (code ≡ 2) × (new ≡ old)
+Finds code (Some o) old new = Within o (λ c. code ≡ c) (λ p. (code ≡ 0) × (new ≡ p))
+
+abbrev pub Within : Object → (ℕ → Type 0) → (ℕ → Type 0) → Type 0
+Within None refused P = refused 5
+Within (Some x) refused P = P x ⊎ refused 1
+'''
+CHANGES = [("refused 5", "refused 100"), ("(code ≡ 0) × (new ≡ p)", "new ≡ p"), ("P x ⊎ refused 1", "P x ⊎ Unknown x"),
+           ("code ≡ 2", "code ≢ 2"), ("code ≡ 2", "code ≡ 100 + number_of o"), ("code ≡ 2", "old ≡ 0 → code ≡ 2")]
 HEADER, RUST, PYTHON = ("bindings/c/vortex_logical_types.h", "bindings/rust/src/ffi.rs",
                         "bindings/python/vortex_logical_types/_table.py")
 # What each file has to have of these.
@@ -53,7 +83,9 @@ WRITTEN = {
              "    if (!name && name_len)\n        return VLT_RANGE;"],
     RUST: ["/// Looks a name up.\n///\n/// Returns 1 if there is none.\npub(crate) fn find("
            "dtype: &Slot, name: &[u8], index: &mut usize) -> u32 {", "more: &mut [Slot],", "out: &mut Slot,",
-           "if one.is(other) {", "    /// The first.\n    pub one_of: u32,"],
+           "if one.is(other) {", "index: &mut usize) -> u32 {\n    // Only reads, so it takes no lock.\n",
+           "pub(crate) fn copy(dtype: &Slot, changed: &mut Slot) -> u32 {\n    if dtype.is(changed) {\n        return SAME_SLOT;\n"
+           "    }\n    let _lock = lock();\n", "    out.clear();\n    // Is given no object, so it takes no lock.\n", "    /// The first.\n    pub one_of: u32,"],
     PYTHON: ['    "vlt_find": (ctypes.c_uint32, [\n        ctypes.POINTER(Slot),\n        ctypes.c_char_p,\n'
              "        ctypes.c_size_t,\n        ctypes.POINTER(ctypes.c_size_t),\n    ]),", '        ("other", ctypes.c_int8),',
              "class Pair(Numbers):", "    one_of: int\n    other: int\n", "        self._put(one_of=one_of, other=other)",
@@ -66,6 +98,7 @@ class Bindings(Planted):
         super().setUp()
         shutil.rmtree(f"{self.top}/{os.path.dirname(SOURCES)}", ignore_errors=True)
         self.write(f"{SOURCES}/lib.rt", EXPORTS)
+        self.write(f"{os.path.dirname(SOURCES)}/specs/Found.antt", SPECS)
         crates = [it for it in self.read("crates.txt").splitlines() if not it.startswith("vortex_logical_types")]
         self.write("crates.txt", "\n".join([*crates, "vortex_logical_types staticlib: dtype_base", ""]))
         self.assertEqual(self.run_tool("bindings"), (0, ""))
@@ -89,6 +122,16 @@ class Bindings(Planted):
         self.assertEqual((self.run_tool("bindings")[0], self.run_tool("bindings", "--check")[0]), (0, 0))
         self.change(RUST, "pub one_of: u32", "pub one_of: u16")
         self.assertEqual(self.run_tool("bindings", "--check"), (1, f"{told[1]}3 passed, 1 failed\n"))
+
+    def test_takes_a_lock_where_no_clause_excludes_that_memory_runs_out(self):
+        only_reads = "name: &[u8], index: &mut usize) -> u32 {\n    // Only reads, so it takes no lock.\n"
+        for old, new in CHANGES:
+            self.write(f"{os.path.dirname(SOURCES)}/specs/Found.antt", SPECS.replace(old, new))
+            self.assertEqual(self.run_tool("bindings")[0], 0)
+            self.assertNotIn(only_reads, self.read(RUST), new)
+        self.write(f"{os.path.dirname(SOURCES)}/specs/Found.antt", SPECS)
+        self.run_tool("bindings")
+        self.assertIn(only_reads, self.read(RUST))
 
     def test_tells_what_a_comment_leaves_out(self):
         self.write("bindings/c/tests/calls.c", "IS(VLT_NONE, vlt_find(&s, 0, 0, &at)); IS(VLT_KIND, vlt_find(&s, 0, 0, &at));\n")

@@ -77,10 +77,16 @@ fn bytes(call: impl Fn(&mut [u8], &mut usize) -> u32) -> Result<(Vec<u8>, usize,
 
 /// A vector of so many zeros.
 pub(crate) fn room<T: Clone + Default>(length: usize) -> Result<Vec<T>, Error> {
-    let mut room = Vec::new();
-    room.try_reserve_exact(length).map_err(|_| Error::OutOfMemory)?;
+    let mut room = reserved(length)?;
     room.resize(length, T::default());
     Ok(room)
+}
+
+/// An empty vector with room for so many items.
+pub(crate) fn reserved<T>(count: usize) -> Result<Vec<T>, Error> {
+    let mut items = Vec::new();
+    items.try_reserve_exact(count).map_err(|_| Error::OutOfMemory)?;
+    Ok(items)
 }
 
 /// Puts an item behind the others of a vector.
@@ -91,8 +97,7 @@ pub(crate) fn pushed<T>(items: &mut Vec<T>, item: T) -> Result<(), Error> {
 }
 
 fn copied(bytes: &[u8]) -> Result<Vec<u8>, Error> {
-    let mut copy = Vec::new();
-    copy.try_reserve_exact(bytes.len()).map_err(|_| Error::OutOfMemory)?;
+    let mut copy = reserved(bytes.len())?;
     copy.extend_from_slice(bytes);
     Ok(copy)
 }
@@ -154,5 +159,41 @@ impl Names {
 
     fn push_length(&mut self, length: usize) -> Result<(), Error> {
         pushed(&mut self.lengths, length)
+    }
+}
+
+/// Texts, one behind the other.
+#[derive(Default)]
+pub(crate) struct Texts {
+    text: String,
+    ends: Vec<usize>,
+}
+
+impl Texts {
+    /// The texts that a call writes for each index below the count.
+    pub(crate) fn read(count: usize, call: impl Fn(usize, &mut [u8], &mut usize) -> u32) -> Result<Texts, Error> {
+        let (mut all, mut ends) = (Vec::new(), reserved(count)?);
+        let (mut short, mut length) = ([0; SHORT], 0);
+        for index in 0..count {
+            let begin = all.len();
+            let mut code = call(index, &mut short, &mut length);
+            all.try_reserve(length).map_err(|_| Error::OutOfMemory)?;
+            if code == ffi::SMALL {
+                all.resize(begin + length, 0);
+                code = call(index, &mut all[begin..], &mut length);
+            } else {
+                all.extend_from_slice(short.get(..length).unwrap_or(&[]));
+            }
+            if !done(code)? {
+                return Err(Error::OutOfRange);
+            }
+            ends.push(all.len());
+        }
+        Ok(Texts { text: String::from_utf8(all).map_err(|_| Error::NotUtf8)?, ends })
+    }
+
+    pub(crate) fn get(&self, index: usize) -> Option<&str> {
+        let begin = if index == 0 { 0 } else { *self.ends.get(index - 1)? };
+        self.text.get(begin..*self.ends.get(index)?)
     }
 }

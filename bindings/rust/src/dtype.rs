@@ -2,16 +2,17 @@
 // SPDX-FileCopyrightText: Copyright the Vortex contributors
 
 //! Types.
-use crate::calls::{self, Names, found, holds, made, or_abort, plain, pushed, read, value};
+use crate::calls::{self, Names, found, holds, made, or_abort, plain, pushed, read, reserved, value};
 use crate::error::Error;
 use crate::ffi::{self, Slot};
-use crate::parts::{ExtDTypeRef, MapDType, StructFields, UnionVariants};
+use crate::parts::{ExtDTypeRef, MapDType, Parts, StructFields, UnionVariants};
 use crate::scalars::{DecimalDType, Kind, Nullability, PType};
 use crate::sets::FieldPathSet;
+use crate::shared::{Shared, remembered};
 use std::fmt;
 use std::hash::{Hash, Hasher};
-use std::ptr;
 use std::str::FromStr;
+use std::sync::OnceLock;
 
 /// A logical type: of columns, and of the values in them.
 ///
@@ -24,13 +25,63 @@ use std::str::FromStr;
 /// assert_eq!(format!("{order}"), "{id=u64, price=decimal(10,2)?}");
 /// # Ok::<(), vortex_logical_types::Error>(())
 /// ```
+#[derive(Clone)]
 pub struct DType {
-    pub(crate) slot: Slot,
+    whole: Shared<Whole>,
+}
+
+/// An object of the library, with what is known of it from the beginning, and what is remembered of its parts.
+struct Whole {
+    slot: Slot,
+    kind: Kind,
+    nullability: Nullability,
+    parts: OnceLock<Shared<Parts>>,
 }
 
 impl DType {
-    pub(crate) fn of(slot: Slot) -> DType {
-        DType { slot }
+    pub(crate) fn of(slot: Slot) -> Result<DType, Error> {
+        let kind = Kind::of(plain(|kind| ffi::dtype_kind(&slot, kind)));
+        let nullability = holds(ffi::dtype_is_nullable(&slot)).into();
+        Ok(DType { whole: Shared::try_new(Whole { slot, kind, nullability, parts: OnceLock::new() })? })
+    }
+
+    /// The type in a slot, if there is one.
+    pub(crate) fn of_found(slot: Option<Slot>) -> Result<Option<DType>, Error> {
+        slot.map(DType::of).transpose()
+    }
+
+    pub(crate) fn slot(&self) -> &Slot {
+        &self.whole.slot
+    }
+
+    /// The object, or a copy of it if it is shared.
+    fn into_slot(self) -> Result<Slot, Error> {
+        match self.whole.into_inner() {
+            Ok(whole) => Ok(whole.slot),
+            Err(shared) => made(|out| ffi::dtype_copy(&shared.slot, out)),
+        }
+    }
+
+    /// Whether both are one object of the library.
+    pub(crate) fn is(&self, other: &DType) -> bool {
+        self.whole.is(&other.whole)
+    }
+
+    /// A copy of the other object if both are one, since two slots of a call may not be the same.
+    pub(crate) fn apart_from(&self, other: &DType) -> Result<Option<Slot>, Error> {
+        if self.is(other) { made(|out| ffi::dtype_copy(self.slot(), out)).map(Some) } else { Ok(None) }
+    }
+
+    /// What is remembered of the parts.
+    pub(crate) fn parts(&self) -> Result<&Parts, Error> {
+        let shared = remembered(&self.whole.parts, || {
+            Shared::try_new(Parts::of(match self.kind() {
+                Kind::Struct => plain(|count| ffi::struct_nfields(self.slot(), count)),
+                Kind::Union => plain(|count| ffi::union_len(self.slot(), count)),
+                _ => 0,
+            })?)
+        })?;
+        Ok(shared)
     }
 
     /// Returns the null type.
@@ -40,7 +91,7 @@ impl DType {
 
     /// Returns the null type, or [`Error::OutOfMemory`].
     pub fn try_null() -> Result<DType, Error> {
-        made(ffi::dtype_null).map(DType::of)
+        made(ffi::dtype_null).and_then(DType::of)
     }
 
     /// Returns the type of booleans.
@@ -50,7 +101,7 @@ impl DType {
 
     /// Returns the type of booleans, or [`Error::OutOfMemory`].
     pub fn try_bool(nullability: Nullability) -> Result<DType, Error> {
-        made(|out| ffi::dtype_bool(nullability.into(), out)).map(DType::of)
+        made(|out| ffi::dtype_bool(nullability.into(), out)).and_then(DType::of)
     }
 
     /// Returns a primitive type.
@@ -60,7 +111,7 @@ impl DType {
 
     /// Returns a primitive type, or [`Error::OutOfMemory`].
     pub fn try_primitive(ptype: PType, nullability: Nullability) -> Result<DType, Error> {
-        made(|out| ffi::dtype_primitive(ptype.number(), nullability.into(), out)).map(DType::of)
+        made(|out| ffi::dtype_primitive(ptype.number(), nullability.into(), out)).and_then(DType::of)
     }
 
     /// Returns a decimal type.
@@ -69,7 +120,7 @@ impl DType {
     /// The library's errors 1 to 4, if the precision isn't from 1 to 76, or the scale is above 76 or above the precision,
     /// and [`Error::OutOfMemory`].
     pub fn decimal(precision: u8, scale: i8, nullability: Nullability) -> Result<DType, Error> {
-        made(|out| ffi::dtype_decimal(precision, scale, nullability.into(), out)).map(DType::of)
+        made(|out| ffi::dtype_decimal(precision, scale, nullability.into(), out)).and_then(DType::of)
     }
 
     /// Returns the type of UTF-8 strings.
@@ -79,7 +130,7 @@ impl DType {
 
     /// Returns the type of UTF-8 strings, or [`Error::OutOfMemory`].
     pub fn try_utf8(nullability: Nullability) -> Result<DType, Error> {
-        made(|out| ffi::dtype_utf8(nullability.into(), out)).map(DType::of)
+        made(|out| ffi::dtype_utf8(nullability.into(), out)).and_then(DType::of)
     }
 
     /// Returns the type of byte strings.
@@ -89,7 +140,7 @@ impl DType {
 
     /// Returns the type of byte strings, or [`Error::OutOfMemory`].
     pub fn try_binary(nullability: Nullability) -> Result<DType, Error> {
-        made(|out| ffi::dtype_binary(nullability.into(), out)).map(DType::of)
+        made(|out| ffi::dtype_binary(nullability.into(), out)).and_then(DType::of)
     }
 
     /// Returns the type of variants.
@@ -99,7 +150,7 @@ impl DType {
 
     /// Returns the type of variants, or [`Error::OutOfMemory`].
     pub fn try_variant(nullability: Nullability) -> Result<DType, Error> {
-        made(|out| ffi::dtype_variant(nullability.into(), out)).map(DType::of)
+        made(|out| ffi::dtype_variant(nullability.into(), out)).and_then(DType::of)
     }
 
     /// Returns the type of lists with this element type.
@@ -107,7 +158,7 @@ impl DType {
     /// # Errors
     /// [`Error::TooDeep`] if the element is 128 levels deep, and [`Error::OutOfMemory`].
     pub fn list(element: &DType, nullability: Nullability) -> Result<DType, Error> {
-        made(|out| ffi::dtype_list(&element.slot, nullability.into(), out)).map(DType::of)
+        made(|out| ffi::dtype_list(element.slot(), nullability.into(), out)).and_then(DType::of)
     }
 
     /// Returns the type of lists with this element type that have exactly `size` elements.
@@ -115,7 +166,7 @@ impl DType {
     /// # Errors
     /// As [`DType::list`].
     pub fn fixed_size_list(element: &DType, size: u32, nullability: Nullability) -> Result<DType, Error> {
-        made(|out| ffi::dtype_fixed_size_list(&element.slot, size, nullability.into(), out)).map(DType::of)
+        made(|out| ffi::dtype_fixed_size_list(element.slot(), size, nullability.into(), out)).and_then(DType::of)
     }
 
     /// Returns the type of maps with these key and value types. `key` and `value` may be the same object.
@@ -123,10 +174,9 @@ impl DType {
     /// # Errors
     /// The library's error 9 if the key is nullable; [`Error::TooDeep`]; [`Error::OutOfMemory`].
     pub fn map(key: &DType, value: &DType, keys_sorted: bool, nullability: Nullability) -> Result<DType, Error> {
-        if ptr::eq(key, value) {
-            return DType::map(key, &value.try_clone()?, keys_sorted, nullability);
-        }
-        made(|out| ffi::dtype_map(&key.slot, &value.slot, keys_sorted, nullability.into(), out)).map(DType::of)
+        let copy = key.apart_from(value)?;
+        let value = copy.as_ref().unwrap_or(value.slot());
+        made(|out| ffi::dtype_map(key.slot(), value, keys_sorted, nullability.into(), out)).and_then(DType::of)
     }
 
     /// Returns a struct of these fields. All items are taken from the iterator before the library is called.
@@ -138,7 +188,8 @@ impl DType {
         nullability: Nullability,
     ) -> Result<DType, Error> {
         let (names, mut dtypes) = taken_apart(fields)?;
-        made(|out| ffi::dtype_struct(&names.text, &names.lengths, &mut dtypes, nullability.into(), out)).map(DType::of)
+        made(|out| ffi::dtype_struct(&names.text, &names.lengths, &mut dtypes, nullability.into(), out))
+            .and_then(DType::of)
     }
 
     /// Returns a union of these variants, with the tags 0, 1, 2 and so on. All items are taken from the iterator before the
@@ -155,7 +206,7 @@ impl DType {
     ) -> Result<DType, Error> {
         let (names, mut dtypes) = taken_apart(variants)?;
         made(|out| ffi::dtype_union_consecutive(&names.text, &names.lengths, &mut dtypes, nullability.into(), out))
-            .map(DType::of)
+            .and_then(DType::of)
     }
 
     /// Returns a union of these variants, each with its tag. All items are taken from the iterator before the library is
@@ -173,11 +224,12 @@ impl DType {
         let (mut names, mut dtypes, mut tags) = (Names::default(), Vec::new(), Vec::new());
         for (name, tag, dtype) in variants {
             names.push(name.as_ref())?;
-            pushed(&mut dtypes, dtype.slot)?;
+            pushed(&mut dtypes, dtype)?;
             pushed(&mut tags, tag)?;
         }
+        let mut dtypes = slots_of(dtypes)?;
         made(|out| ffi::dtype_union(&names.text, &names.lengths, &mut dtypes, &tags, nullability.into(), out))
-            .map(DType::of)
+            .and_then(DType::of)
     }
 
     /// Returns an extension type: an id, metadata that only the extension understands, and the type in which it is stored.
@@ -185,27 +237,27 @@ impl DType {
     /// # Errors
     /// [`Error::TooDeep`] if the storage type is 128 levels deep, and [`Error::OutOfMemory`].
     pub fn extension(id: &str, metadata: &[u8], storage: &DType) -> Result<DType, Error> {
-        made(|out| ffi::dtype_extension(id.as_bytes(), metadata, &storage.slot, out)).map(DType::of)
+        made(|out| ffi::dtype_extension(id.as_bytes(), metadata, storage.slot(), out)).and_then(DType::of)
     }
 
     /// Returns which kind of type it is.
     pub fn kind(&self) -> Kind {
-        Kind::of(plain(|kind| ffi::dtype_kind(&self.slot, kind)))
+        self.whole.kind
     }
 
     /// Returns whether values may be null.
     pub fn is_nullable(&self) -> bool {
-        holds(ffi::dtype_is_nullable(&self.slot))
+        self.nullability().is_nullable()
     }
 
     /// Returns whether values may be null.
     pub fn nullability(&self) -> Nullability {
-        self.is_nullable().into()
+        self.whole.nullability
     }
 
     /// Returns whether the type can be made non-nullable. This is true of all types except null and extensions over null.
     pub fn can_be_nonnullable(&self) -> bool {
-        holds(ffi::dtype_can_be_nonnullable(&self.slot))
+        holds(ffi::dtype_can_be_nonnullable(self.slot()))
     }
 
     /// Returns the type with this outer nullability. The types inside it keep their nullabilities. For example, `list(i32)`
@@ -216,7 +268,7 @@ impl DType {
     /// [`Error::Precondition`] if `nullability` is [`Nullability::NonNullable`] and the type can't be made non-nullable,
     /// which [`DType::can_be_nonnullable`] tests; and [`Error::OutOfMemory`].
     pub fn with_nullability(&self, nullability: Nullability) -> Result<DType, Error> {
-        made(|out| ffi::dtype_with_nullability(&self.slot, nullability.into(), out)).map(DType::of)
+        made(|out| ffi::dtype_with_nullability(self.slot(), nullability.into(), out)).and_then(DType::of)
     }
 
     /// Returns the type as a nullable one.
@@ -244,33 +296,33 @@ impl DType {
 
     /// Returns what [`DType::union_nullability`] returns, or [`Error::OutOfMemory`].
     pub fn try_union_nullability(&self, nullability: Nullability) -> Result<DType, Error> {
-        made(|out| ffi::dtype_union_nullability(&self.slot, nullability.into(), out)).map(DType::of)
+        made(|out| ffi::dtype_union_nullability(self.slot(), nullability.into(), out)).and_then(DType::of)
     }
 
-    /// Returns a copy, or [`Error::OutOfMemory`].
+    /// Returns the same as `clone`, which doesn't allocate and so can't fail.
     pub fn try_clone(&self) -> Result<DType, Error> {
-        made(|out| ffi::dtype_copy(&self.slot, out)).map(DType::of)
+        Ok(self.clone())
     }
 
     /// Returns whether the two types are equal except for nullability, at every depth.
     pub fn eq_ignore_nullability(&self, other: &DType) -> bool {
-        ptr::eq(self, other) || holds(ffi::dtype_eq_ignore_nullability(&self.slot, &other.slot))
+        self.is(other) || holds(ffi::dtype_eq_ignore_nullability(self.slot(), other.slot()))
     }
 
     /// Feeds the hasher a hash that is the same for all types that are equal except for nullability.
     pub fn hash_ignore_nullability<H: Hasher>(&self, state: &mut H) {
-        state.write_u64(plain(|hash| ffi::dtype_hash_ignore_nullability(&self.slot, hash)));
+        state.write_u64(plain(|hash| ffi::dtype_hash_ignore_nullability(self.slot(), hash)));
     }
 
     /// Returns whether this type is a subset of `other`: the two are equal except for nullability, and `other` is nullable
     /// wherever this type is.
     pub fn eq_with_nullability_subset(&self, other: &DType) -> bool {
-        ptr::eq(self, other) || holds(ffi::dtype_nullability_subset(&self.slot, &other.slot))
+        self.is(other) || holds(ffi::dtype_nullability_subset(self.slot(), other.slot()))
     }
 
     /// Returns whether `other` is a subset of this type, as [`DType::eq_with_nullability_subset`] defines it.
     pub fn eq_with_nullability_superset(&self, other: &DType) -> bool {
-        ptr::eq(self, other) || holds(ffi::dtype_nullability_superset(&self.slot, &other.slot))
+        self.is(other) || holds(ffi::dtype_nullability_superset(self.slot(), other.slot()))
     }
 
     /// Returns the least type of which both types are subsets, as [`DType::eq_with_nullability_subset`] defines it, or `None`
@@ -308,14 +360,14 @@ impl DType {
     }
 
     /// What a call makes of two types, which may be one.
-    pub(crate) fn with_other(
+    fn with_other(
         &self,
         other: &DType,
         call: impl FnOnce(&Slot, &Slot, &mut Slot) -> u32,
     ) -> Result<Option<DType>, Error> {
-        let copy = if ptr::eq(self, other) { Some(other.try_clone()?) } else { None };
-        let other = copy.as_ref().unwrap_or(other);
-        Ok(found(|out| call(&self.slot, &other.slot, out))?.map(DType::of))
+        let copy = self.apart_from(other)?;
+        let other = copy.as_ref().unwrap_or(other.slot());
+        DType::of_found(found(|out| call(self.slot(), other, out))?)
     }
 
     /// Returns the part of the type that a reader of the paths opens, or `None` if no path of the set exists in the type.
@@ -327,7 +379,7 @@ impl DType {
 
     /// Returns what [`DType::project_paths`] returns, or [`Error::OutOfMemory`].
     pub fn try_project_paths(&self, set: &FieldPathSet) -> Result<Option<DType>, Error> {
-        Ok(found(|out| ffi::project_paths(&self.slot, &set.slot, out))?.map(DType::of))
+        DType::of_found(found(|out| ffi::project_paths(self.slot(), &set.slot, out))?)
     }
 
     /// Returns whether it is the type of booleans.
@@ -412,38 +464,49 @@ impl DType {
 
     /// Returns the primitive type, if it is one.
     pub fn as_ptype_opt(&self) -> Option<PType> {
-        or_abort(value(|ptype| ffi::dtype_ptype(&self.slot, ptype))).map(PType::of)
+        or_abort(value(|ptype| ffi::dtype_ptype(self.slot(), ptype))).map(PType::of)
     }
 
     /// Returns the precision and the scale of a decimal type.
     pub fn as_decimal_opt(&self) -> Option<DecimalDType> {
         let mut decimal = DecimalDType { precision: 0, scale: 0 };
-        holds(ffi::dtype_decimal_parts(&self.slot, &mut decimal.precision, &mut decimal.scale)).then_some(decimal)
+        holds(ffi::dtype_decimal_parts(self.slot(), &mut decimal.precision, &mut decimal.scale)).then_some(decimal)
     }
 
-    /// Returns the element type of a list.
-    pub fn as_list_element_opt(&self) -> Option<DType> {
+    /// Returns the element type of a list. Returns `None` for every other type, also for a list of a fixed size.
+    ///
+    /// ```
+    /// # use vortex_logical_types::DType;
+    /// let dtype: DType = "list(list(i32?))".parse()?;
+    /// let innermost = dtype.as_list_element_opt().and_then(DType::as_list_element_opt);
+    /// assert_eq!(innermost, Some(&"i32?".parse()?));
+    /// # Ok::<(), vortex_logical_types::Error>(())
+    /// ```
+    pub fn as_list_element_opt(&self) -> Option<&DType> {
         if self.is_list() { self.as_any_size_list_element_opt() } else { None }
     }
 
-    /// Returns the element type of a list of a fixed size.
-    pub fn as_fixed_size_list_element_opt(&self) -> Option<DType> {
+    /// Returns the element type of a list of a fixed size. Returns `None` for every other type.
+    pub fn as_fixed_size_list_element_opt(&self) -> Option<&DType> {
         if self.is_fixed_size_list() { self.as_any_size_list_element_opt() } else { None }
     }
 
-    /// Returns the element type of a list, of a fixed size or not.
-    pub fn as_any_size_list_element_opt(&self) -> Option<DType> {
+    /// Returns the element type of a list, of a fixed size or not. Returns `None` for every other type.
+    pub fn as_any_size_list_element_opt(&self) -> Option<&DType> {
         or_abort(self.try_as_any_size_list_element_opt())
     }
 
-    /// Returns the element type of a list, of a fixed size or not, or [`Error::OutOfMemory`].
-    pub fn try_as_any_size_list_element_opt(&self) -> Result<Option<DType>, Error> {
-        Ok(found(|out| ffi::dtype_element(&self.slot, out))?.map(DType::of))
+    /// Returns what [`DType::as_any_size_list_element_opt`] returns, or [`Error::OutOfMemory`].
+    pub fn try_as_any_size_list_element_opt(&self) -> Result<Option<&DType>, Error> {
+        if !self.is_list() && !self.is_fixed_size_list() {
+            return Ok(None);
+        }
+        self.parts()?.first(|out| ffi::dtype_element(self.slot(), out)).map(Some)
     }
 
     /// Returns how many elements the lists of a fixed size have.
     pub fn as_fixed_size_opt(&self) -> Option<u32> {
-        or_abort(value(|size| ffi::dtype_fixed_size(&self.slot, size)))
+        or_abort(value(|size| ffi::dtype_fixed_size(self.slot(), size)))
     }
 
     /// Returns the key and value types, if it is the type of maps.
@@ -473,7 +536,7 @@ impl DType {
     /// The library's error 19 if no part of the type is of variable width, and the width of the type, or of a part of it,
     /// is above [`usize::MAX`].
     pub fn element_size(&self) -> Result<Option<usize>, Error> {
-        value(|size| ffi::dtype_element_size(&self.slot, size))
+        value(|size| ffi::dtype_element_size(self.slot(), size))
     }
 
     /// Returns the console's text of the type, from which [`FromStr`] reads the same type.
@@ -491,7 +554,7 @@ impl DType {
 
     /// Returns the console's text of the type, or [`Error::OutOfMemory`].
     pub fn try_to_source(&self) -> Result<String, Error> {
-        calls::text(|buffer, length| ffi::dtype_to_text(&self.slot, buffer, length))
+        calls::text(|buffer, length| ffi::dtype_to_text(self.slot(), buffer, length))
     }
 }
 
@@ -500,9 +563,18 @@ fn taken_apart<N: AsRef<str>>(fields: impl IntoIterator<Item = (N, DType)>) -> R
     let (mut names, mut dtypes) = (Names::default(), Vec::new());
     for (name, dtype) in fields {
         names.push(name.as_ref())?;
-        pushed(&mut dtypes, dtype.slot)?;
+        pushed(&mut dtypes, dtype)?;
     }
-    Ok((names, dtypes))
+    Ok((names, slots_of(dtypes)?))
+}
+
+/// The objects of types, no two of which are one.
+fn slots_of(dtypes: Vec<DType>) -> Result<Vec<Slot>, Error> {
+    let mut slots = reserved(dtypes.len())?;
+    for dtype in dtypes {
+        slots.push(dtype.into_slot()?);
+    }
+    Ok(slots)
 }
 
 /// Reads the console's text of a type, such as `{a=list(i32?), "b c"=decimal(10,2)}`.
@@ -514,14 +586,14 @@ impl FromStr for DType {
     type Err = Error;
 
     fn from_str(text: &str) -> Result<DType, Error> {
-        read(text, ffi::dtype_from_text).map(DType::of)
+        read(text, ffi::dtype_from_text).and_then(DType::of)
     }
 }
 
 /// The text that the library displays.
 impl fmt::Display for DType {
     fn fmt(&self, f: &mut fmt::Formatter<'_>) -> fmt::Result {
-        f.pad(&calls::text(|buffer, length| ffi::dtype_display(&self.slot, buffer, length)).map_err(|_| fmt::Error)?)
+        f.pad(&calls::text(|buffer, length| ffi::dtype_display(self.slot(), buffer, length)).map_err(|_| fmt::Error)?)
     }
 }
 
@@ -531,15 +603,9 @@ impl fmt::Debug for DType {
     }
 }
 
-impl Clone for DType {
-    fn clone(&self) -> DType {
-        or_abort(self.try_clone())
-    }
-}
-
 impl PartialEq for DType {
     fn eq(&self, other: &DType) -> bool {
-        ptr::eq(self, other) || holds(ffi::dtype_eq(&self.slot, &other.slot))
+        self.is(other) || holds(ffi::dtype_eq(self.slot(), other.slot()))
     }
 }
 
@@ -547,7 +613,7 @@ impl Eq for DType {}
 
 impl Hash for DType {
     fn hash<H: Hasher>(&self, state: &mut H) {
-        state.write_u64(plain(|hash| ffi::dtype_hash(&self.slot, hash)));
+        state.write_u64(plain(|hash| ffi::dtype_hash(self.slot(), hash)));
     }
 }
 

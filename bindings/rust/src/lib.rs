@@ -4,8 +4,8 @@
 //! The logical types of columnar data, and paths into them: a safe interface to a library that is proved.
 //!
 //! The library is written in Rattle, which is Rust with contracts that a checker proves. In this package, a type, a
-//! path or a set of paths is a pointer to an object that the library made, and a method calls an exported function of
-//! the library. Most methods that also exist in `vortex-array` have the same name in both.
+//! path or a set of paths is a handle of an object that the library made, and a method calls an exported function of the
+//! library. Most methods that also exist in `vortex-array` have the same name in both.
 //!
 //! Each exported function has a contract, and the contracts are proved. They specify which object a call makes or which
 //! value it writes, and for most functions also which error is returned in which case. They don't specify which value a
@@ -43,6 +43,19 @@
 //!   example, `Display` writes a name that contains a comma without quotes.
 //! - `Debug` writes the form of the console, with the name of the Rust type around it, for example `DType(utf8?)`.
 //!
+//! # What is shared, copied and remembered
+//!
+//! A type, a path, a mask or a message doesn't change. Its value in this package is a handle that is shared: `clone` counts
+//! one owner more, and two clones are equal without a look at what is in them. A [`FieldPathSet`] changes, so its `clone`
+//! copies it.
+//!
+//! The kind and the nullability of a type are known from the beginning. The parts of a type are lent: the type of a field,
+//! of a variant or of an element, a key, value or storage type, the names, an id and its metadata. The same is true of the
+//! steps of a path. Each is made when it is asked for first, which allocates, and is then remembered as long as the type or
+//! path lives. The names of all fields of a struct are remembered together when one of them is asked for. So what a type
+//! remembers is at most its own names, and one handle for each part that was asked for. Comparing, hashing, looking up a
+//! name and resolving a path remember nothing.
+//!
 //! # Errors and memory
 //!
 //! A call that can fail for another reason than lack of memory returns a [`Result`] with an [`Error`]. If memory runs
@@ -53,13 +66,15 @@
 //! [`std::alloc::handle_alloc_error`], which aborts the program, as Rust's own collections do. Almost every such call
 //! has a second form, whose name begins with `try_` and which returns the error. For example, [`FieldPath::try_push`] is
 //! the second form of [`FieldPath::push`]. A call of a trait has its second form among the methods of the type. For
-//! example, `try_clone` is that of `clone`, `try_from_iter` that of `collect`, and [`FieldPathSet::try_cover`] that of
-//! `into_iter`. These calls have none:
+//! example, `try_from_iter` is that of `collect`, and [`FieldPathSet::try_cover`] that of `into_iter`. The `clone` of a
+//! type, a path, a mask or a message doesn't allocate. These calls have no second form:
 //!
 //! - [`StructFields::names`]: call [`StructFields::try_field_name`] for each index instead.
 //! - [`StructFields::fields`]: call [`StructFields::try_field_by_index`] for each index instead.
+//! - [`StructFields::iter`]: call both.
 //! - [`UnionVariants::names`]: call [`UnionVariants::try_variant_name`] for each index instead.
 //! - [`UnionVariants::variants`]: call [`UnionVariants::try_variant_by_index`] for each index instead.
+//! - [`UnionVariants::iter`]: call both.
 //! - [`UnionVariants::type_ids`]: call [`UnionVariants::child_index_to_tag`] for each index instead, which doesn't
 //!   allocate.
 //! - [`DType::as_list_element_opt`] and [`DType::as_fixed_size_list_element_opt`]: test [`DType::is_list`] or
@@ -143,6 +158,8 @@ mod parts;
 mod paths;
 mod scalars;
 mod sets;
+#[allow(unsafe_code)]
+mod shared;
 
 /// Fails to compile unless every public type can be used on every thread.
 const _: () = {

@@ -6,8 +6,8 @@ use crate::calls::{self, found, holds, made, or_abort, plain};
 use crate::error::Error;
 use crate::ffi::{self, Slot};
 use crate::paths::{Field, FieldPath};
+use crate::shared::Shared;
 use std::fmt;
-use std::ptr;
 
 /// A selection of paths. It selects all paths, or a path and every path below it, or one path alone. A path *matches* the
 /// mask if the mask selects it.
@@ -22,8 +22,9 @@ use std::ptr;
 /// assert!(FieldMask::exact(&FieldPath::root()).step_into().is_err());
 /// # Ok::<(), vortex_logical_types::Error>(())
 /// ```
+#[derive(Clone)]
 pub struct FieldMask {
-    slot: Slot,
+    slot: Shared<Slot>,
 }
 
 /// Which form a [`FieldMask`] has.
@@ -38,8 +39,8 @@ pub enum MaskKind {
 }
 
 impl FieldMask {
-    fn of(slot: Slot) -> FieldMask {
-        FieldMask { slot }
+    fn of(slot: Slot) -> Result<FieldMask, Error> {
+        Ok(FieldMask { slot: Shared::try_new(slot)? })
     }
 
     /// Returns the mask that all paths match.
@@ -49,7 +50,7 @@ impl FieldMask {
 
     /// Returns the mask that all paths match, or [`Error::OutOfMemory`].
     pub fn try_all() -> Result<FieldMask, Error> {
-        made(ffi::mask_all).map(FieldMask::of)
+        made(ffi::mask_all).and_then(FieldMask::of)
     }
 
     /// Returns the mask that selects `path` and every path that begins with `path`.
@@ -59,7 +60,7 @@ impl FieldMask {
 
     /// Returns the mask that selects `path` and every path that begins with `path`, or [`Error::OutOfMemory`].
     pub fn try_prefix(path: &FieldPath) -> Result<FieldMask, Error> {
-        made(|out| ffi::mask_prefix(&path.slot, out)).map(FieldMask::of)
+        made(|out| ffi::mask_prefix(path.slot(), out)).and_then(FieldMask::of)
     }
 
     /// Returns the mask that this path alone matches.
@@ -69,7 +70,7 @@ impl FieldMask {
 
     /// Returns the mask that this path alone matches, or [`Error::OutOfMemory`].
     pub fn try_exact(path: &FieldPath) -> Result<FieldMask, Error> {
-        made(|out| ffi::mask_exact(&path.slot, out)).map(FieldMask::of)
+        made(|out| ffi::mask_exact(path.slot(), out)).and_then(FieldMask::of)
     }
 
     /// Returns which form it has.
@@ -89,7 +90,7 @@ impl FieldMask {
 
     /// Returns what [`FieldMask::path`] returns, or [`Error::OutOfMemory`].
     pub fn try_path(&self) -> Result<Option<FieldPath>, Error> {
-        Ok(found(|out| ffi::mask_path(&self.slot, out))?.map(FieldPath::of))
+        found(|out| ffi::mask_path(&self.slot, out))?.map(FieldPath::of).transpose()
     }
 
     /// Returns the mask of what is selected below the first step of the mask's path. For example, for the prefix `a.b` it
@@ -99,7 +100,7 @@ impl FieldMask {
     /// # Errors
     /// The library's error 20 for the mask of exactly the root, and [`Error::OutOfMemory`].
     pub fn step_into(&self) -> Result<FieldMask, Error> {
-        made(|out| ffi::mask_step_into(&self.slot, out)).map(FieldMask::of)
+        made(|out| ffi::mask_step_into(&self.slot, out)).and_then(FieldMask::of)
     }
 
     /// Returns the first step of the mask's path, or `None` if that path is the root.
@@ -120,21 +121,15 @@ impl FieldMask {
         holds(ffi::mask_matches_root(&self.slot))
     }
 
-    /// Returns a copy, or [`Error::OutOfMemory`].
+    /// Returns the same as `clone`, which doesn't allocate and so can't fail.
     pub fn try_clone(&self) -> Result<FieldMask, Error> {
-        made(|out| ffi::mask_copy(&self.slot, out)).map(FieldMask::of)
-    }
-}
-
-impl Clone for FieldMask {
-    fn clone(&self) -> FieldMask {
-        or_abort(self.try_clone())
+        Ok(self.clone())
     }
 }
 
 impl PartialEq for FieldMask {
     fn eq(&self, other: &FieldMask) -> bool {
-        ptr::eq(self, other) || holds(ffi::mask_eq(&self.slot, &other.slot))
+        self.slot.is(&other.slot) || holds(ffi::mask_eq(&self.slot, &other.slot))
     }
 }
 

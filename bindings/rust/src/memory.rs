@@ -80,7 +80,16 @@ fn calls() -> usize {
     again(n, || DType::union_with_tags([("x", 3, whole.try_clone()?), ("y", 1, other.try_clone()?)], Nullable));
     let fields = whole.as_struct_fields_opt().expect("a struct");
     assert_eq!(again(n, || fields.project(["d"])).kind(), crate::Kind::Struct);
-    assert_eq!(again(n, || fields.try_field_name(0)).as_deref(), Some("a"));
+    assert_eq!(again(n, || fields.try_field_name(0)), Some("a"));
+    let list = again(n, || fields.try_field("a")).expect("a field");
+    assert!(again(n, || list.try_as_any_size_list_element_opt()).is_some_and(DType::is_struct));
+    let map = again(n, || DType::map(&other, &other.clone(), false, Nullable));
+    let map = map.as_map_opt().expect("a map");
+    assert_eq!((again(n, || map.try_key_dtype()), again(n, || map.try_value_dtype())), (&other, &other));
+    let tagged = again(n, || DType::extension("x.tag", &[0], &whole));
+    let tagged = tagged.as_extension_opt().expect("an extension");
+    assert_eq!((again(n, || tagged.try_id()), again(n, || tagged.try_metadata_bytes())), ("x.tag", &[0][..]));
+    assert_eq!(again(n, || tagged.try_storage_dtype()), &whole);
     let path = again(n, || "a.[].b".parse::<FieldPath>());
     assert_eq!(again(n, || path.try_parts()).len(), 3);
     assert_eq!(again(n, || path.try_resolve(&whole)).map(|it| it.kind()), Some(crate::Kind::Primitive));

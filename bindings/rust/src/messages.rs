@@ -7,8 +7,8 @@ use crate::dtype::DType;
 use crate::error::Error;
 use crate::ffi::{self, Node, Slot};
 use crate::paths::FieldPath;
+use crate::shared::Shared;
 use std::fmt;
-use std::ptr;
 use std::str::FromStr;
 
 /// The message of a type. It is read from protobuf's text format or from the flat form. A message may describe no type.
@@ -23,8 +23,9 @@ use std::str::FromStr;
 /// assert_eq!(dtype.to_proto(), message);
 /// # Ok::<(), vortex_logical_types::Error>(())
 /// ```
+#[derive(Clone)]
 pub struct Message {
-    slot: Slot,
+    slot: Shared<Slot>,
 }
 
 /// What is done with an extension whose id isn't known. No id is known here, because a plugin can't be registered.
@@ -70,8 +71,8 @@ impl UnknownIds {
 }
 
 impl Message {
-    fn of(slot: Slot) -> Message {
-        Message { slot }
+    fn of(slot: Slot) -> Result<Message, Error> {
+        Ok(Message { slot: Shared::try_new(slot)? })
     }
 
     /// Returns the message of these nodes and the bytes of their texts.
@@ -80,7 +81,7 @@ impl Message {
     /// [`Error::OutOfRange`] if they aren't the nodes and texts of one message; [`Error::NotUtf8`] if a name or an id isn't
     /// UTF-8; [`Error::TooDeep`] if a message is nested in more than 128 others; and [`Error::OutOfMemory`].
     pub fn from_nodes(nodes: &[Node], texts: &[u8]) -> Result<Message, Error> {
-        made(|out| ffi::message_from_nodes(nodes, texts, out)).map(Message::of)
+        made(|out| ffi::message_from_nodes(nodes, texts, out)).and_then(Message::of)
     }
 
     /// Returns the message of this flat form.
@@ -126,12 +127,12 @@ impl Message {
     /// # Errors
     /// As [`DType::from_proto`].
     pub fn normal(&self, unknown: UnknownIds) -> Result<Message, Error> {
-        made(|out| ffi::message_normal(&self.slot, unknown.are_allowed(), out)).map(Message::of)
+        made(|out| ffi::message_normal(&self.slot, unknown.are_allowed(), out)).and_then(Message::of)
     }
 
-    /// Returns a copy, or [`Error::OutOfMemory`].
+    /// Returns the same as `clone`, which doesn't allocate and so can't fail.
     pub fn try_clone(&self) -> Result<Message, Error> {
-        made(|out| ffi::message_copy(&self.slot, out)).map(Message::of)
+        Ok(self.clone())
     }
 
     /// Returns protobuf's text format of the message, from which [`FromStr`] reads the same message.
@@ -153,7 +154,7 @@ impl DType {
     /// or 1 to 4 for a decimal, 9 for a map, and 10 to 13 or 15 for a union. For an extension it is 35, if `unknown` is
     /// [`UnknownIds::Refuse`]. And [`Error::OutOfMemory`]. (A message is nested at most as deep as a type may be.)
     pub fn from_proto(message: &Message, unknown: UnknownIds) -> Result<DType, Error> {
-        made(|out| ffi::message_to_dtype(&message.slot, unknown.are_allowed(), out)).map(DType::of)
+        made(|out| ffi::message_to_dtype(&message.slot, unknown.are_allowed(), out)).and_then(DType::of)
     }
 
     /// Returns the message that describes the type.
@@ -163,7 +164,7 @@ impl DType {
 
     /// Returns the message that describes the type, or [`Error::OutOfMemory`].
     pub fn try_to_proto(&self) -> Result<Message, Error> {
-        made(|out| ffi::dtype_to_message(&self.slot, out)).map(Message::of)
+        made(|out| ffi::dtype_to_message(self.slot(), out)).and_then(Message::of)
     }
 }
 
@@ -188,7 +189,7 @@ impl FieldPath {
                 None => names.push_element()?,
             }
         }
-        made(|out| ffi::path_from_message(&names.text, &names.lengths, out)).map(FieldPath::of)
+        made(|out| ffi::path_from_message(&names.text, &names.lengths, out)).and_then(FieldPath::of)
     }
 
     /// Returns the path that the message of a path describes, which is read from protobuf's text format, such as
@@ -197,7 +198,7 @@ impl FieldPath {
     /// # Errors
     /// [`Error::Unreadable`] with the position; the library's error 36 if a part has no kind; and [`Error::OutOfMemory`].
     pub fn from_proto_source(text: &str) -> Result<FieldPath, Error> {
-        read(text, ffi::path_from_message_text).map(FieldPath::of)
+        read(text, ffi::path_from_message_text).and_then(FieldPath::of)
     }
 }
 
@@ -209,7 +210,7 @@ impl FromStr for Message {
     type Err = Error;
 
     fn from_str(text: &str) -> Result<Message, Error> {
-        read(text, ffi::message_from_text).map(Message::of)
+        read(text, ffi::message_from_text).and_then(Message::of)
     }
 }
 
@@ -219,15 +220,9 @@ impl fmt::Debug for Message {
     }
 }
 
-impl Clone for Message {
-    fn clone(&self) -> Message {
-        or_abort(self.try_clone())
-    }
-}
-
 impl PartialEq for Message {
     fn eq(&self, other: &Message) -> bool {
-        ptr::eq(self, other) || holds(ffi::message_eq(&self.slot, &other.slot))
+        self.slot.is(&other.slot) || holds(ffi::message_eq(&self.slot, &other.slot))
     }
 }
 

@@ -2,11 +2,56 @@
 // SPDX-FileCopyrightText: Copyright the Vortex contributors
 
 //! What is in a type: the fields of a struct, the variants of a union, and so on. Each is a view of its type.
-use crate::calls::{self, Names, found, holds, made, or_abort, plain, value};
+use crate::calls::{self, Names, Texts, holds, made, or_abort, plain, reserved, value};
 use crate::dtype::DType;
 use crate::error::Error;
-use crate::ffi;
-use std::ptr;
+use crate::ffi::{self, Slot};
+use crate::shared::remembered;
+use std::sync::OnceLock;
+
+/// What is remembered of the parts of a type, each from the first time that it is asked for.
+pub(crate) struct Parts {
+    /// The element type, the key type or the storage type.
+    first: OnceLock<DType>,
+    /// The value type.
+    second: OnceLock<DType>,
+    /// The names of fields or variants, or the id.
+    names: OnceLock<Texts>,
+    metadata: OnceLock<Vec<u8>>,
+    /// The types of fields or variants.
+    types: Vec<OnceLock<DType>>,
+}
+
+impl Parts {
+    /// Nothing, of a type with so many fields or variants.
+    pub(crate) fn of(count: usize) -> Result<Parts, Error> {
+        let mut types = reserved(count)?;
+        types.resize_with(count, OnceLock::new);
+        let (first, second, names, metadata) = Default::default();
+        Ok(Parts { first, second, names, metadata, types })
+    }
+
+    pub(crate) fn first(&self, call: impl FnOnce(&mut Slot) -> u32) -> Result<&DType, Error> {
+        remembered(&self.first, || made(call).and_then(DType::of))
+    }
+
+    fn second(&self, call: impl FnOnce(&mut Slot) -> u32) -> Result<&DType, Error> {
+        remembered(&self.second, || made(call).and_then(DType::of))
+    }
+
+    /// The type of a field or of a variant, if there is one at the position.
+    fn at(&self, index: usize, call: impl FnOnce(&mut Slot) -> u32) -> Result<Option<&DType>, Error> {
+        let Some(cell) = self.types.get(index) else {
+            return Ok(None);
+        };
+        remembered(cell, || made(call).and_then(DType::of)).map(Some)
+    }
+
+    /// All names, or the id.
+    fn names(&self, count: usize, call: impl Fn(usize, &mut [u8], &mut usize) -> u32) -> Result<&Texts, Error> {
+        remembered(&self.names, || Texts::read(count, call))
+    }
+}
 
 /// The fields of a struct, from [`DType::as_struct_fields_opt`].
 ///
@@ -16,8 +61,10 @@ use std::ptr;
 /// let dtype: DType = "{a=i32, b=utf8?, a=f64}".parse()?;
 /// let fields = dtype.as_struct_fields_opt().expect("a struct");
 /// assert_eq!((fields.nfields(), fields.find("a"), fields.find("c")), (3, Some(0), None));
-/// assert_eq!(fields.field("b"), Some("utf8?".parse()?));
+/// assert_eq!(fields.field("b"), Some(&"utf8?".parse()?));
 /// assert_eq!(fields.project(["b", "a"])?, "{b=utf8?, a=i32}".parse()?);
+/// let floats: Vec<&str> = fields.iter().filter(|(_, dtype)| dtype.is_float()).map(|(name, _)| name).collect();
+/// assert_eq!(floats, ["a"]);
 /// # Ok::<(), vortex_logical_types::Error>(())
 /// ```
 #[derive(Debug, Clone, Copy)]
@@ -28,53 +75,67 @@ pub struct StructFields<'a> {
 impl<'a> StructFields<'a> {
     /// Returns the number of fields.
     pub fn nfields(&self) -> usize {
-        plain(|count| ffi::struct_nfields(&self.dtype.slot, count))
+        plain(|count| ffi::struct_nfields(self.dtype.slot(), count))
     }
 
-    /// Returns the name of the field at the position.
-    pub fn field_name(&self, index: usize) -> Option<String> {
+    fn try_names(&self) -> Result<&'a Texts, Error> {
+        let slot = self.dtype.slot();
+        self.dtype.parts()?.names(self.nfields(), |at, buffer, length| ffi::struct_field_name(slot, at, buffer, length))
+    }
+
+    /// Returns the name of the field at the position, or `None` if the position isn't below the number of fields.
+    pub fn field_name(&self, index: usize) -> Option<&'a str> {
         or_abort(self.try_field_name(index))
     }
 
-    /// Returns the name of the field at the position, or [`Error::OutOfMemory`].
-    pub fn try_field_name(&self, index: usize) -> Result<Option<String>, Error> {
-        calls::text_found(|buffer, length| ffi::struct_field_name(&self.dtype.slot, index, buffer, length))
+    /// Returns what [`StructFields::field_name`] returns, or [`Error::OutOfMemory`].
+    pub fn try_field_name(&self, index: usize) -> Result<Option<&'a str>, Error> {
+        Ok(self.try_names()?.get(index))
     }
 
     /// Returns the names of the fields, in their order.
-    pub fn names(self) -> impl ExactSizeIterator<Item = String> + DoubleEndedIterator + use<'a> {
-        (0..self.nfields()).map(move |index| self.field_name(index).unwrap_or_default())
+    pub fn names(self) -> impl ExactSizeIterator<Item = &'a str> + DoubleEndedIterator + use<'a> {
+        let names = or_abort(self.try_names());
+        (0..self.nfields()).map(|index| names.get(index).unwrap_or_else(|| unreachable!("{index} is a position")))
     }
 
-    /// Returns the position of the first field of the name.
+    /// Returns the position of the first field of the name, or `None` if no field has the name.
     pub fn find(&self, name: &str) -> Option<usize> {
-        or_abort(value(|index| ffi::struct_find(&self.dtype.slot, name.as_bytes(), index)))
+        or_abort(value(|index| ffi::struct_find(self.dtype.slot(), name.as_bytes(), index)))
     }
 
-    /// Returns the type of the first field of the name.
-    pub fn field(&self, name: &str) -> Option<DType> {
+    /// Returns the type of the first field of the name, or `None` if no field has the name.
+    pub fn field(&self, name: &str) -> Option<&'a DType> {
         or_abort(self.try_field(name))
     }
 
-    /// Returns the type of the first field of the name, or [`Error::OutOfMemory`].
-    pub fn try_field(&self, name: &str) -> Result<Option<DType>, Error> {
-        Ok(found(|out| ffi::struct_field(&self.dtype.slot, name.as_bytes(), out))?.map(DType::of))
+    /// Returns what [`StructFields::field`] returns, or [`Error::OutOfMemory`].
+    pub fn try_field(&self, name: &str) -> Result<Option<&'a DType>, Error> {
+        match self.find(name) {
+            Some(index) => self.try_field_by_index(index),
+            None => Ok(None),
+        }
     }
 
-    /// Returns the type of the field at the position.
-    pub fn field_by_index(&self, index: usize) -> Option<DType> {
+    /// Returns the type of the field at the position, or `None` if the position isn't below the number of fields.
+    pub fn field_by_index(&self, index: usize) -> Option<&'a DType> {
         or_abort(self.try_field_by_index(index))
     }
 
-    /// Returns the type of the field at the position, or [`Error::OutOfMemory`].
-    pub fn try_field_by_index(&self, index: usize) -> Result<Option<DType>, Error> {
-        Ok(found(|out| ffi::struct_field_by_index(&self.dtype.slot, index, out))?.map(DType::of))
+    /// Returns what [`StructFields::field_by_index`] returns, or [`Error::OutOfMemory`].
+    pub fn try_field_by_index(&self, index: usize) -> Result<Option<&'a DType>, Error> {
+        self.dtype.parts()?.at(index, |out| ffi::struct_field_by_index(self.dtype.slot(), index, out))
     }
 
     /// Returns the types of the fields, in their order.
-    pub fn fields(self) -> impl ExactSizeIterator<Item = DType> + DoubleEndedIterator + use<'a> {
+    pub fn fields(self) -> impl ExactSizeIterator<Item = &'a DType> + DoubleEndedIterator + use<'a> {
         (0..self.nfields())
             .map(move |index| self.field_by_index(index).unwrap_or_else(|| unreachable!("{index} is a position")))
+    }
+
+    /// Returns the name and the type of each field, in their order.
+    pub fn iter(self) -> impl ExactSizeIterator<Item = (&'a str, &'a DType)> + DoubleEndedIterator + use<'a> {
+        self.names().zip(self.fields())
     }
 
     /// Returns the struct of the fields with these names, in the order of the names, with the nullability of the type. All
@@ -87,7 +148,8 @@ impl<'a> StructFields<'a> {
         for name in names {
             projection.push(name.as_ref())?;
         }
-        made(|out| ffi::struct_project(&self.dtype.slot, &projection.text, &projection.lengths, out)).map(DType::of)
+        made(|out| ffi::struct_project(self.dtype.slot(), &projection.text, &projection.lengths, out))
+            .and_then(DType::of)
     }
 
     /// Returns the struct without the field at the position, with the nullability of the type.
@@ -95,7 +157,7 @@ impl<'a> StructFields<'a> {
     /// # Errors
     /// The library's error 17 if there is no such field, and [`Error::OutOfMemory`].
     pub fn without_field(&self, index: usize) -> Result<DType, Error> {
-        made(|out| ffi::struct_without_field(&self.dtype.slot, index, out)).map(DType::of)
+        made(|out| ffi::struct_without_field(self.dtype.slot(), index, out)).and_then(DType::of)
     }
 
     /// Returns the struct of the fields of both, first those of this struct, with the nullability of this struct.
@@ -103,9 +165,9 @@ impl<'a> StructFields<'a> {
     /// # Errors
     /// The library's error 18 if a name occurs twice among the fields of both, and [`Error::OutOfMemory`].
     pub fn disjoint_merge(&self, other: &StructFields<'_>) -> Result<DType, Error> {
-        let copy = if ptr::eq(self.dtype, other.dtype) { Some(other.dtype.try_clone()?) } else { None };
-        let other = copy.as_ref().unwrap_or(other.dtype);
-        made(|out| ffi::struct_disjoint_merge(&self.dtype.slot, &other.slot, out)).map(DType::of)
+        let copy = self.dtype.apart_from(other.dtype)?;
+        let other = copy.as_ref().unwrap_or(other.dtype.slot());
+        made(|out| ffi::struct_disjoint_merge(self.dtype.slot(), other, out)).and_then(DType::of)
     }
 
     /// Returns the fields as the library indents them, each on a line of its own.
@@ -115,7 +177,7 @@ impl<'a> StructFields<'a> {
 
     /// Returns the fields as the library indents them, or [`Error::OutOfMemory`].
     pub fn try_indented(&self) -> Result<String, Error> {
-        calls::text(|buffer, length| ffi::struct_indented(&self.dtype.slot, buffer, length))
+        calls::text(|buffer, length| ffi::struct_indented(self.dtype.slot(), buffer, length))
     }
 }
 
@@ -127,7 +189,7 @@ impl<'a> StructFields<'a> {
 ///
 /// let dtype: DType = "union(number@5=i64, text@9=utf8)".parse()?;
 /// let variants = dtype.as_union_variants_opt().expect("a union");
-/// assert_eq!(variants.variant("text"), Some("utf8".parse()?));
+/// assert_eq!(variants.variant("text"), Some(&"utf8".parse()?));
 /// assert_eq!((variants.tag_to_child_index(9), variants.child_index_to_tag(0)), (Some(1), Some(5)));
 /// assert!(!variants.is_consecutive());
 /// # Ok::<(), vortex_logical_types::Error>(())
@@ -141,22 +203,28 @@ impl<'a> UnionVariants<'a> {
     /// Returns the number of variants, which isn't 0.
     #[allow(clippy::len_without_is_empty)]
     pub fn len(&self) -> usize {
-        plain(|count| ffi::union_len(&self.dtype.slot, count))
+        plain(|count| ffi::union_len(self.dtype.slot(), count))
     }
 
-    /// Returns the name of the variant at the position.
-    pub fn variant_name(&self, index: usize) -> Option<String> {
+    fn try_names(&self) -> Result<&'a Texts, Error> {
+        let slot = self.dtype.slot();
+        self.dtype.parts()?.names(self.len(), |at, buffer, length| ffi::union_variant_name(slot, at, buffer, length))
+    }
+
+    /// Returns the name of the variant at the position, or `None` if the position isn't below the number of variants.
+    pub fn variant_name(&self, index: usize) -> Option<&'a str> {
         or_abort(self.try_variant_name(index))
     }
 
-    /// Returns the name of the variant at the position, or [`Error::OutOfMemory`].
-    pub fn try_variant_name(&self, index: usize) -> Result<Option<String>, Error> {
-        calls::text_found(|buffer, length| ffi::union_variant_name(&self.dtype.slot, index, buffer, length))
+    /// Returns what [`UnionVariants::variant_name`] returns, or [`Error::OutOfMemory`].
+    pub fn try_variant_name(&self, index: usize) -> Result<Option<&'a str>, Error> {
+        Ok(self.try_names()?.get(index))
     }
 
     /// Returns the names of the variants, in their order.
-    pub fn names(self) -> impl ExactSizeIterator<Item = String> + DoubleEndedIterator + use<'a> {
-        (0..self.len()).map(move |index| self.variant_name(index).unwrap_or_default())
+    pub fn names(self) -> impl ExactSizeIterator<Item = &'a str> + DoubleEndedIterator + use<'a> {
+        let names = or_abort(self.try_names());
+        (0..self.len()).map(|index| names.get(index).unwrap_or_else(|| unreachable!("{index} is a position")))
     }
 
     /// Returns the tags of the variants, in their order.
@@ -164,50 +232,58 @@ impl<'a> UnionVariants<'a> {
         (0..self.len()).filter_map(|index| self.child_index_to_tag(index)).collect()
     }
 
-    /// Returns the position of the variant of the name.
+    /// Returns the position of the variant of the name, or `None` if no variant has the name.
     pub fn find(&self, name: &str) -> Option<usize> {
-        or_abort(value(|index| ffi::union_find(&self.dtype.slot, name.as_bytes(), index)))
+        or_abort(value(|index| ffi::union_find(self.dtype.slot(), name.as_bytes(), index)))
     }
 
-    /// Returns the type of the variant of the name.
-    pub fn variant(&self, name: &str) -> Option<DType> {
+    /// Returns the type of the variant of the name, or `None` if no variant has the name.
+    pub fn variant(&self, name: &str) -> Option<&'a DType> {
         or_abort(self.try_variant(name))
     }
 
-    /// Returns the type of the variant of the name, or [`Error::OutOfMemory`].
-    pub fn try_variant(&self, name: &str) -> Result<Option<DType>, Error> {
-        Ok(found(|out| ffi::union_variant(&self.dtype.slot, name.as_bytes(), out))?.map(DType::of))
+    /// Returns what [`UnionVariants::variant`] returns, or [`Error::OutOfMemory`].
+    pub fn try_variant(&self, name: &str) -> Result<Option<&'a DType>, Error> {
+        match self.find(name) {
+            Some(index) => self.try_variant_by_index(index),
+            None => Ok(None),
+        }
     }
 
-    /// Returns the type of the variant at the position.
-    pub fn variant_by_index(&self, index: usize) -> Option<DType> {
+    /// Returns the type of the variant at the position, or `None` if the position isn't below the number of variants.
+    pub fn variant_by_index(&self, index: usize) -> Option<&'a DType> {
         or_abort(self.try_variant_by_index(index))
     }
 
-    /// Returns the type of the variant at the position, or [`Error::OutOfMemory`].
-    pub fn try_variant_by_index(&self, index: usize) -> Result<Option<DType>, Error> {
-        Ok(found(|out| ffi::union_variant_by_index(&self.dtype.slot, index, out))?.map(DType::of))
+    /// Returns what [`UnionVariants::variant_by_index`] returns, or [`Error::OutOfMemory`].
+    pub fn try_variant_by_index(&self, index: usize) -> Result<Option<&'a DType>, Error> {
+        self.dtype.parts()?.at(index, |out| ffi::union_variant_by_index(self.dtype.slot(), index, out))
     }
 
     /// Returns the types of the variants, in their order.
-    pub fn variants(self) -> impl ExactSizeIterator<Item = DType> + DoubleEndedIterator + use<'a> {
+    pub fn variants(self) -> impl ExactSizeIterator<Item = &'a DType> + DoubleEndedIterator + use<'a> {
         (0..self.len())
             .map(move |index| self.variant_by_index(index).unwrap_or_else(|| unreachable!("{index} is a position")))
     }
 
-    /// Returns the position of the variant that has the tag.
-    pub fn tag_to_child_index(&self, tag: u8) -> Option<usize> {
-        or_abort(value(|index| ffi::union_tag_to_child_index(&self.dtype.slot, tag, index)))
+    /// Returns the name and the type of each variant, in their order.
+    pub fn iter(self) -> impl ExactSizeIterator<Item = (&'a str, &'a DType)> + DoubleEndedIterator + use<'a> {
+        self.names().zip(self.variants())
     }
 
-    /// Returns the tag of the variant at the position.
+    /// Returns the position of the variant that has the tag, or `None` if no variant has it.
+    pub fn tag_to_child_index(&self, tag: u8) -> Option<usize> {
+        or_abort(value(|index| ffi::union_tag_to_child_index(self.dtype.slot(), tag, index)))
+    }
+
+    /// Returns the tag of the variant at the position, or `None` if the position isn't below the number of variants.
     pub fn child_index_to_tag(&self, index: usize) -> Option<u8> {
-        or_abort(value(|tag| ffi::union_child_index_to_tag(&self.dtype.slot, index, tag)))
+        or_abort(value(|tag| ffi::union_child_index_to_tag(self.dtype.slot(), index, tag)))
     }
 
     /// Returns whether the tags are 0, 1, 2 and so on, in order.
     pub fn is_consecutive(&self) -> bool {
-        holds(ffi::union_is_consecutive(&self.dtype.slot))
+        holds(ffi::union_is_consecutive(self.dtype.slot()))
     }
 }
 
@@ -218,7 +294,8 @@ impl<'a> UnionVariants<'a> {
 ///
 /// let dtype: DType = "map(utf8, i32?, keys_sorted=true)".parse()?;
 /// let map = dtype.as_map_opt().expect("a map");
-/// assert_eq!((map.key_dtype(), map.value_dtype(), map.keys_sorted()), ("utf8".parse()?, "i32?".parse()?, true));
+/// assert_eq!((map.key_dtype(), map.value_dtype()), (&"utf8".parse()?, &"i32?".parse()?));
+/// assert!(map.keys_sorted());
 /// # Ok::<(), vortex_logical_types::Error>(())
 /// ```
 #[derive(Debug, Clone, Copy)]
@@ -226,25 +303,25 @@ pub struct MapDType<'a> {
     pub(crate) dtype: &'a DType,
 }
 
-impl MapDType<'_> {
+impl<'a> MapDType<'a> {
     /// Returns the type of the keys.
-    pub fn key_dtype(&self) -> DType {
+    pub fn key_dtype(&self) -> &'a DType {
         or_abort(self.try_key_dtype())
     }
 
     /// Returns the type of the keys, or [`Error::OutOfMemory`].
-    pub fn try_key_dtype(&self) -> Result<DType, Error> {
-        made(|out| ffi::dtype_key(&self.dtype.slot, out)).map(DType::of)
+    pub fn try_key_dtype(&self) -> Result<&'a DType, Error> {
+        self.dtype.parts()?.first(|out| ffi::dtype_key(self.dtype.slot(), out))
     }
 
     /// Returns the type of the values.
-    pub fn value_dtype(&self) -> DType {
+    pub fn value_dtype(&self) -> &'a DType {
         or_abort(self.try_value_dtype())
     }
 
     /// Returns the type of the values, or [`Error::OutOfMemory`].
-    pub fn try_value_dtype(&self) -> Result<DType, Error> {
-        made(|out| ffi::dtype_value(&self.dtype.slot, out)).map(DType::of)
+    pub fn try_value_dtype(&self) -> Result<&'a DType, Error> {
+        self.dtype.parts()?.second(|out| ffi::dtype_value(self.dtype.slot(), out))
     }
 
     /// Returns the type of the entries: a non-nullable struct with the fields `key` and `value`. For example, for
@@ -253,12 +330,12 @@ impl MapDType<'_> {
     /// # Errors
     /// [`Error::OutOfMemory`].
     pub fn entries_dtype(&self) -> Result<DType, Error> {
-        made(|out| ffi::dtype_entries(&self.dtype.slot, out)).map(DType::of)
+        made(|out| ffi::dtype_entries(self.dtype.slot(), out)).and_then(DType::of)
     }
 
     /// Returns whether the keys of each map are declared sorted.
     pub fn keys_sorted(&self) -> bool {
-        holds(ffi::dtype_keys_sorted(&self.dtype.slot))
+        holds(ffi::dtype_keys_sorted(self.dtype.slot()))
     }
 }
 
@@ -269,8 +346,8 @@ impl MapDType<'_> {
 ///
 /// let dtype = DType::extension("geo.point", b"wgs84", &"{x=f64, y=f64}".parse()?)?;
 /// let extension = dtype.as_extension_opt().expect("an extension");
-/// assert_eq!((&*extension.id(), &*extension.metadata_bytes()), ("geo.point", &b"wgs84"[..]));
-/// assert_eq!(extension.storage_dtype(), "{x=f64, y=f64}".parse()?);
+/// assert_eq!((extension.id(), extension.metadata_bytes()), ("geo.point", &b"wgs84"[..]));
+/// assert_eq!(extension.storage_dtype(), &"{x=f64, y=f64}".parse()?);
 /// # Ok::<(), vortex_logical_types::Error>(())
 /// ```
 #[derive(Debug, Clone, Copy)]
@@ -278,35 +355,40 @@ pub struct ExtDTypeRef<'a> {
     pub(crate) dtype: &'a DType,
 }
 
-impl ExtDTypeRef<'_> {
+impl<'a> ExtDTypeRef<'a> {
     /// Returns the id.
-    pub fn id(&self) -> String {
+    pub fn id(&self) -> &'a str {
         or_abort(self.try_id())
     }
 
     /// Returns the id, or [`Error::OutOfMemory`].
-    pub fn try_id(&self) -> Result<String, Error> {
-        calls::text(|buffer, length| ffi::dtype_id(&self.dtype.slot, buffer, length))
+    pub fn try_id(&self) -> Result<&'a str, Error> {
+        let names =
+            self.dtype.parts()?.names(1, |_, buffer, length| ffi::dtype_id(self.dtype.slot(), buffer, length))?;
+        Ok(names.get(0).unwrap_or_default())
     }
 
     /// Returns the bytes of the metadata.
-    pub fn metadata_bytes(&self) -> Vec<u8> {
+    pub fn metadata_bytes(&self) -> &'a [u8] {
         or_abort(self.try_metadata_bytes())
     }
 
     /// Returns the bytes of the metadata, or [`Error::OutOfMemory`].
-    pub fn try_metadata_bytes(&self) -> Result<Vec<u8>, Error> {
-        Ok(calls::bytes_found(|buffer, length| ffi::dtype_metadata(&self.dtype.slot, buffer, length))?
-            .unwrap_or_default())
+    pub fn try_metadata_bytes(&self) -> Result<&'a [u8], Error> {
+        remembered(&self.dtype.parts()?.metadata, || {
+            let bytes = calls::bytes_found(|buffer, length| ffi::dtype_metadata(self.dtype.slot(), buffer, length))?;
+            Ok(bytes.unwrap_or_default())
+        })
+        .map(Vec::as_slice)
     }
 
     /// Returns the type in which values are stored.
-    pub fn storage_dtype(&self) -> DType {
+    pub fn storage_dtype(&self) -> &'a DType {
         or_abort(self.try_storage_dtype())
     }
 
     /// Returns the type in which values are stored, or [`Error::OutOfMemory`].
-    pub fn try_storage_dtype(&self) -> Result<DType, Error> {
-        made(|out| ffi::dtype_storage(&self.dtype.slot, out)).map(DType::of)
+    pub fn try_storage_dtype(&self) -> Result<&'a DType, Error> {
+        self.dtype.parts()?.first(|out| ffi::dtype_storage(self.dtype.slot(), out))
     }
 }

@@ -2,14 +2,15 @@
 // SPDX-FileCopyrightText: Copyright the Vortex contributors
 
 //! Paths into types.
-use crate::calls::{self, Names, found, holds, made, or_abort, plain, read};
+use crate::calls::{self, Names, found, holds, made, or_abort, plain, read, reserved};
 use crate::dtype::DType;
 use crate::error::Error;
 use crate::ffi::{self, Slot};
+use crate::shared::{Shared, remembered};
 use std::fmt;
 use std::hash::{Hash, Hasher};
-use std::ptr;
 use std::str::FromStr;
+use std::sync::OnceLock;
 
 /// A step of a path: into a field of a struct, or into the element of a list.
 #[derive(Debug, Clone, PartialEq, Eq, Hash)]
@@ -61,13 +62,24 @@ impl From<String> for Field {
 /// assert!(!FieldPath::from_name("sku").exists_in(&orders));
 /// # Ok::<(), vortex_logical_types::Error>(())
 /// ```
+#[derive(Clone)]
 pub struct FieldPath {
-    pub(crate) slot: Slot,
+    whole: Shared<Whole>,
+}
+
+/// An object of the library, with what is remembered of its steps.
+struct Whole {
+    slot: Slot,
+    steps: OnceLock<Vec<Field>>,
 }
 
 impl FieldPath {
-    pub(crate) fn of(slot: Slot) -> FieldPath {
-        FieldPath { slot }
+    pub(crate) fn of(slot: Slot) -> Result<FieldPath, Error> {
+        Ok(FieldPath { whole: Shared::try_new(Whole { slot, steps: OnceLock::new() })? })
+    }
+
+    pub(crate) fn slot(&self) -> &Slot {
+        &self.whole.slot
     }
 
     /// Returns the path of no step.
@@ -77,7 +89,7 @@ impl FieldPath {
 
     /// Returns the path of no step, or [`Error::OutOfMemory`].
     pub fn try_root() -> Result<FieldPath, Error> {
-        made(ffi::path_root).map(FieldPath::of)
+        made(ffi::path_root).and_then(FieldPath::of)
     }
 
     /// Returns the path of one step, into the field of this name.
@@ -109,28 +121,35 @@ impl FieldPath {
     }
 
     fn of_steps(names: &[u8], lengths: &[usize]) -> Result<FieldPath, Error> {
-        made(|out| ffi::path_from_steps(names, lengths, out)).map(FieldPath::of)
+        made(|out| ffi::path_from_steps(names, lengths, out)).and_then(FieldPath::of)
     }
 
-    /// Returns the steps.
-    pub fn parts(&self) -> Vec<Field> {
+    /// Returns the steps. They are remembered from the first call, which allocates.
+    pub fn parts(&self) -> &[Field] {
         or_abort(self.try_parts())
     }
 
     /// Returns the steps, or [`Error::OutOfMemory`].
-    pub fn try_parts(&self) -> Result<Vec<Field>, Error> {
-        let mut parts = Vec::new();
-        parts.try_reserve_exact(self.len()).map_err(|_| Error::OutOfMemory)?;
-        for index in 0..self.len() {
-            parts.extend(calls::step_found(|buffer, length| ffi::path_step(&self.slot, index, buffer, length))?);
-        }
-        Ok(parts)
+    pub fn try_parts(&self) -> Result<&[Field], Error> {
+        remembered(&self.whole.steps, || {
+            let mut steps = reserved(self.len())?;
+            for index in 0..self.len() {
+                steps.extend(calls::step_found(|buffer, length| ffi::path_step(self.slot(), index, buffer, length))?);
+            }
+            Ok(steps)
+        })
+        .map(Vec::as_slice)
+    }
+
+    /// The first step of a path that isn't used any more.
+    pub(crate) fn into_first_step(self) -> Result<Option<Field>, Error> {
+        calls::step_found(|buffer, length| ffi::path_step(self.slot(), 0, buffer, length))
     }
 
     /// Returns the number of steps.
     #[allow(clippy::len_without_is_empty)]
     pub fn len(&self) -> usize {
-        plain(|count| ffi::path_len(&self.slot, count))
+        plain(|count| ffi::path_len(self.slot(), count))
     }
 
     /// Returns whether there is no step.
@@ -146,10 +165,10 @@ impl FieldPath {
     /// Returns the path with one more step, or [`Error::OutOfMemory`].
     pub fn try_push(&self, field: impl Into<Field>) -> Result<FieldPath, Error> {
         match field.into() {
-            Field::Name(name) => made(|out| ffi::path_push_name(&self.slot, name.as_bytes(), out)),
-            Field::ElementType => made(|out| ffi::path_push_element(&self.slot, out)),
+            Field::Name(name) => made(|out| ffi::path_push_name(self.slot(), name.as_bytes(), out)),
+            Field::ElementType => made(|out| ffi::path_push_element(self.slot(), out)),
         }
-        .map(FieldPath::of)
+        .and_then(FieldPath::of)
     }
 
     /// Returns whether the first step is this name. For the root it returns false.
@@ -157,7 +176,7 @@ impl FieldPath {
     /// # Errors
     /// [`Error::Precondition`] if the first step is the element.
     pub fn starts_with_name(&self, name: &str) -> Result<bool, Error> {
-        calls::done(ffi::path_starts_with_name(&self.slot, name.as_bytes()))
+        calls::done(ffi::path_starts_with_name(self.slot(), name.as_bytes()))
     }
 
     /// Returns the path without its first step, if it has one.
@@ -167,7 +186,7 @@ impl FieldPath {
 
     /// Returns the path without its first step, if it has one, or [`Error::OutOfMemory`].
     pub fn try_step_into(&self) -> Result<Option<FieldPath>, Error> {
-        Ok(found(|out| ffi::path_step_into(&self.slot, out))?.map(FieldPath::of))
+        found(|out| ffi::path_step_into(self.slot(), out))?.map(FieldPath::of).transpose()
     }
 
     /// Returns the type at the path, if there is one.
@@ -177,22 +196,22 @@ impl FieldPath {
 
     /// Returns the type at the path, if there is one, or [`Error::OutOfMemory`].
     pub fn try_resolve(&self, dtype: &DType) -> Result<Option<DType>, Error> {
-        Ok(found(|out| ffi::path_resolve(&dtype.slot, &self.slot, out))?.map(DType::of))
+        DType::of_found(found(|out| ffi::path_resolve(dtype.slot(), self.slot(), out))?)
     }
 
     /// Returns whether there is a type at the path.
     pub fn exists_in(&self, dtype: &DType) -> bool {
-        holds(ffi::path_exists_in(&dtype.slot, &self.slot))
+        holds(ffi::path_exists_in(dtype.slot(), self.slot()))
     }
 
     /// Returns whether one of the paths is a prefix of the other.
     pub fn overlap(&self, other: &FieldPath) -> bool {
-        ptr::eq(self, other) || holds(ffi::path_overlap(&self.slot, &other.slot))
+        self.whole.is(&other.whole) || holds(ffi::path_overlap(self.slot(), other.slot()))
     }
 
-    /// Returns a copy, or [`Error::OutOfMemory`].
+    /// Returns the same as `clone`, which doesn't allocate and so can't fail.
     pub fn try_clone(&self) -> Result<FieldPath, Error> {
-        made(|out| ffi::path_copy(&self.slot, out)).map(FieldPath::of)
+        Ok(self.clone())
     }
 
     /// Returns the console's text of the path, from which [`FromStr`] reads the same path: `a.[].b`, or `.` for the root.
@@ -202,7 +221,7 @@ impl FieldPath {
 
     /// Returns the console's text of the path, or [`Error::OutOfMemory`].
     pub fn try_to_source(&self) -> Result<String, Error> {
-        calls::text(|buffer, length| ffi::path_to_text(&self.slot, buffer, length))
+        calls::text(|buffer, length| ffi::path_to_text(self.slot(), buffer, length))
     }
 }
 
@@ -214,14 +233,14 @@ impl FromStr for FieldPath {
     type Err = Error;
 
     fn from_str(text: &str) -> Result<FieldPath, Error> {
-        read(text, ffi::path_from_text).map(FieldPath::of)
+        read(text, ffi::path_from_text).and_then(FieldPath::of)
     }
 }
 
 /// The text that the library displays, such as `$a.[].$b`.
 impl fmt::Display for FieldPath {
     fn fmt(&self, f: &mut fmt::Formatter<'_>) -> fmt::Result {
-        f.pad(&calls::text(|buffer, length| ffi::path_display(&self.slot, buffer, length)).map_err(|_| fmt::Error)?)
+        f.pad(&calls::text(|buffer, length| ffi::path_display(self.slot(), buffer, length)).map_err(|_| fmt::Error)?)
     }
 }
 
@@ -231,15 +250,9 @@ impl fmt::Debug for FieldPath {
     }
 }
 
-impl Clone for FieldPath {
-    fn clone(&self) -> FieldPath {
-        or_abort(self.try_clone())
-    }
-}
-
 impl PartialEq for FieldPath {
     fn eq(&self, other: &FieldPath) -> bool {
-        ptr::eq(self, other) || holds(ffi::path_eq(&self.slot, &other.slot))
+        self.whole.is(&other.whole) || holds(ffi::path_eq(self.slot(), other.slot()))
     }
 }
 
@@ -247,7 +260,7 @@ impl Eq for FieldPath {}
 
 impl Hash for FieldPath {
     fn hash<H: Hasher>(&self, state: &mut H) {
-        state.write_u64(plain(|hash| ffi::path_hash(&self.slot, hash)));
+        state.write_u64(plain(|hash| ffi::path_hash(self.slot(), hash)));
     }
 }
 

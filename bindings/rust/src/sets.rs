@@ -2,7 +2,7 @@
 // SPDX-FileCopyrightText: Copyright the Vortex contributors
 
 //! Sets of paths.
-use crate::calls::{done, found, holds, made, or_abort, plain, pushed, value};
+use crate::calls::{done, found, holds, made, or_abort, plain, pushed, reserved, value};
 use crate::dtype::DType;
 use crate::error::Error;
 use crate::ffi::{self, Slot};
@@ -68,7 +68,7 @@ impl FieldPathSet {
 
     /// Inserts a path. If memory runs out, the call returns [`Error::OutOfMemory`] and the set is unchanged.
     pub fn try_insert(&mut self, path: impl Borrow<FieldPath>) -> Result<(), Error> {
-        inserted(ffi::set_insert(&mut self.slot, &path.borrow().slot))
+        inserted(ffi::set_insert(&mut self.slot, path.borrow().slot()))
     }
 
     /// Inserts paths in order, after the iterator has yielded all of them. If memory runs out, the call returns
@@ -78,12 +78,12 @@ impl FieldPathSet {
         for path in paths {
             pushed(&mut given, path)?;
         }
-        given.iter().try_for_each(|path| inserted(ffi::set_insert(&mut self.slot, &path.borrow().slot)))
+        given.iter().try_for_each(|path| inserted(ffi::set_insert(&mut self.slot, path.borrow().slot())))
     }
 
     /// Returns whether the path is in the set.
     pub fn contains(&self, path: &FieldPath) -> bool {
-        holds(ffi::set_contains(&self.slot, &path.slot))
+        holds(ffi::set_contains(&self.slot, path.slot()))
     }
 
     /// Returns the number of paths in the set. The library makes a list of the paths to count them, so this allocates.
@@ -129,7 +129,7 @@ impl FieldPathSet {
 
     /// Returns the paths of the set that don't exist in the type, or [`Error::OutOfMemory`].
     pub fn try_unresolved(&self, dtype: &DType) -> Result<Paths, Error> {
-        made(|out| ffi::set_unresolved(&self.slot, &dtype.slot, out)).map(Paths::of)
+        made(|out| ffi::set_unresolved(&self.slot, dtype.slot(), out)).map(Paths::of)
     }
 
     /// Returns how the paths of the set continue after this path, or `None` if it is a prefix of no path of the set. Nothing
@@ -147,7 +147,7 @@ impl FieldPathSet {
     pub fn below(&self, path: &FieldPath) -> Option<Below> {
         let mut below = Below { is_end: false, has_element: false, name_count: 0 };
         let Below { is_end, has_element, name_count } = &mut below;
-        holds(ffi::set_below(&self.slot, &path.slot, is_end, has_element, name_count)).then_some(below)
+        holds(ffi::set_below(&self.slot, path.slot(), is_end, has_element, name_count)).then_some(below)
     }
 
     /// Returns the names with which paths of the set continue after this path, or `None` if it is a prefix of no path of the
@@ -158,16 +158,14 @@ impl FieldPathSet {
 
     /// Returns the names with which paths of the set continue after this path, or [`Error::OutOfMemory`].
     pub fn try_names_below(&self, path: &FieldPath) -> Result<Option<Vec<String>>, Error> {
-        let Some(paths) = found(|out| ffi::set_names_below(&self.slot, &path.slot, out))?.map(Paths::of) else {
+        let Some(paths) = found(|out| ffi::set_names_below(&self.slot, path.slot(), out))?.map(Paths::of) else {
             return Ok(None);
         };
-        let mut names = Vec::new();
-        names.try_reserve_exact(paths.len()).map_err(|_| Error::OutOfMemory)?;
+        let mut names = reserved(paths.len())?;
         for index in paths.next..paths.end {
-            names.extend(paths.get(index)?.try_parts()?.into_iter().filter_map(|step| match step {
-                Field::Name(name) => Some(name),
-                Field::ElementType => None,
-            }));
+            if let Some(Field::Name(name)) = paths.get(index)?.into_first_step()? {
+                names.push(name);
+            }
         }
         Ok(Some(names))
     }
@@ -243,7 +241,7 @@ impl Paths {
     }
 
     fn get(&self, index: usize) -> Result<FieldPath, Error> {
-        made(|out| ffi::paths_get(&self.list, index, out)).map(FieldPath::of)
+        made(|out| ffi::paths_get(&self.list, index, out)).and_then(FieldPath::of)
     }
 
     /// Returns the next path, or `None` at the end. If memory runs out, the call returns [`Error::OutOfMemory`], and the

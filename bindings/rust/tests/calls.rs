@@ -81,7 +81,7 @@ fn kinds_and_parts() {
         (list.kind(), list.as_fixed_size_opt(), list.as_list_element_opt()),
         (Kind::FixedSizeList, Some(3), None)
     );
-    assert_eq!(list.as_fixed_size_list_element_opt(), Some(dtype("i32?")));
+    assert_eq!(list.as_fixed_size_list_element_opt(), Some(&dtype("i32?")));
     assert_eq!((dtype("i32?").as_ptype_opt(), dtype("utf8").as_ptype_opt()), (Some(PType::I32), None));
     assert!(dtype("i32").is_signed_int() && dtype("u8").is_unsigned_int() && dtype("f16").is_float());
     let decimal = dtype("decimal(10,-2)").as_decimal_opt().unwrap();
@@ -96,18 +96,18 @@ fn kinds_and_parts() {
     let variants = union.as_union_variants_opt().unwrap();
     assert_eq!(
         (variants.len(), variants.type_ids(), variants.names().collect::<Vec<_>>()),
-        (2, vec![5, 9], vec!["a".into(), "b".into()])
+        (2, vec![5, 9], vec!["a", "b"])
     );
-    assert_eq!(variants.variants().collect::<Vec<_>>(), [dtype("i32"), dtype("utf8")]);
+    assert_eq!(variants.variants().cloned().collect::<Vec<_>>(), [dtype("i32"), dtype("utf8")]);
+    assert_eq!(variants.iter().next_back(), Some(("b", &dtype("utf8"))));
     assert_eq!((variants.variant_by_index(2), variants.variant_name(2), variants.find("c")), (None, None, None));
 }
 
-fn names_and_types(dtype: &DType) -> Option<impl Iterator<Item = (String, DType)>> {
-    let fields = dtype.as_struct_fields_opt()?;
-    Some(fields.names().zip(fields.fields()))
+fn names_and_types(dtype: &DType) -> Option<impl ExactSizeIterator<Item = (&str, &DType)> + DoubleEndedIterator> {
+    Some(dtype.as_struct_fields_opt()?.iter())
 }
 
-fn variant_names(dtype: &DType) -> Option<impl ExactSizeIterator<Item = String>> {
+fn variant_names(dtype: &DType) -> Option<impl ExactSizeIterator<Item = &str>> {
     Some(dtype.as_union_variants_opt()?.names())
 }
 
@@ -116,7 +116,7 @@ fn structs() {
     let whole = dtype("{a=i32, b=utf8?, a=f64}?");
     let fields = whole.as_struct_fields_opt().unwrap();
     assert_eq!(fields.names().collect::<Vec<_>>(), ["a", "b", "a"]);
-    assert_eq!(fields.fields().collect::<Vec<_>>(), [dtype("i32"), dtype("utf8?"), dtype("f64")]);
+    assert_eq!(fields.fields().cloned().collect::<Vec<_>>(), [dtype("i32"), dtype("utf8?"), dtype("f64")]);
     assert_eq!((fields.field_name(3), fields.field_by_index(usize::MAX)), (None, None));
     assert_eq!(fields.without_field(0).unwrap(), dtype("{b=utf8?, a=f64}?"));
     assert_eq!(number(fields.without_field(3).unwrap_err()), 17);
@@ -134,13 +134,70 @@ fn structs() {
     // (An iterator lives as long as the type, and not only as long as the view.)
     let names = whole.as_struct_fields_opt().unwrap().names();
     let types = whole.as_struct_fields_opt().unwrap().fields();
-    assert_eq!((names.rev().collect::<Vec<_>>(), types.len()), (vec!["a".into(), "b".into(), "a".to_owned()], 3));
-    assert_eq!(names_and_types(&whole).unwrap().nth(1), Some(("b".into(), dtype("utf8?"))));
+    assert_eq!((names.rev().collect::<Vec<_>>(), types.len()), (vec!["a", "b", "a"], 3));
+    assert_eq!(names_and_types(&whole).unwrap().nth(1), Some(("b", &dtype("utf8?"))));
     assert_eq!(variant_names(&dtype("union(a=i8, b=i16)")).unwrap().collect::<Vec<_>>(), ["a", "b"]);
     let long = "x".repeat(1000);
     let named = DType::struct_([(&long, dtype("i8"))], NonNullable).unwrap();
-    assert_eq!(named.as_struct_fields_opt().unwrap().field_name(0), Some(long.clone()));
+    assert_eq!(named.as_struct_fields_opt().unwrap().field_name(0), Some(&*long));
     assert_eq!(named.as_struct_fields_opt().unwrap().find(&long), Some(0));
+}
+
+#[test]
+fn handles_are_shared_and_remember() {
+    let whole = dtype("{a=list(i32)?, b=map(utf8, i8, keys_sorted=false), c=x.tag[0x00ff](utf8)}");
+    let copy = whole.clone();
+    let fields = [&whole, &copy].map(|it| it.as_struct_fields_opt().unwrap());
+    let of_both = |part: &dyn Fn(&StructFields<'_>) -> usize| part(&fields[0]) == part(&fields[1]);
+    // (A part is made once for all clones, and lent.)
+    for name in ["a", "b", "c"] {
+        assert!(of_both(&|it| it.field(name).unwrap() as *const DType as usize));
+    }
+    assert!(of_both(&|it| it.field_name(1).unwrap().as_ptr() as usize));
+    let map = fields[0].field("b").unwrap().as_map_opt().unwrap();
+    assert!(std::ptr::eq(map.key_dtype(), map.key_dtype()) && !std::ptr::eq(map.key_dtype(), map.value_dtype()));
+    assert_eq!((map.key_dtype(), map.value_dtype()), (&dtype("utf8"), &dtype("i8")));
+    let extension = fields[0].field("c").unwrap().as_extension_opt().unwrap();
+    assert_eq!((extension.id(), extension.metadata_bytes()), ("x.tag", &b"\x00\xff"[..]));
+    assert_eq!(extension.storage_dtype(), &dtype("utf8"));
+    // (What is lent is a type of its own, which stays when the whole is dropped.)
+    let element = fields[0].field("a").unwrap().as_list_element_opt().unwrap().clone();
+    drop((whole, copy));
+    assert_eq!(
+        (element.to_source().as_str(), element.nullability(), element.kind()),
+        ("i32", NonNullable, Kind::Primitive)
+    );
+    let steps = path("a.[].b");
+    assert!(std::ptr::eq(steps.parts(), steps.clone().parts()) && path(".").parts().is_empty());
+    let names = (0..300).map(|at| ("n".repeat(at), dtype("i8"))).collect::<Vec<_>>();
+    let wide = DType::struct_(names.iter().cloned(), NonNullable).unwrap();
+    assert!(wide.as_struct_fields_opt().unwrap().names().eq(names.iter().map(|(name, _)| name)));
+}
+
+/// A call that takes two objects may be given clones of one, which the library takes to be two.
+#[test]
+fn two_clones_of_one_object_may_be_given() {
+    let (utf8, one) = (dtype("utf8"), dtype("{a=i32}"));
+    assert_eq!(DType::map(&utf8, &utf8.clone(), false, NonNullable), Ok(dtype("map(utf8, utf8, keys_sorted=false)")));
+    let fields = [("a", utf8.clone()), ("b", utf8.clone()), ("c", utf8)];
+    assert_eq!(DType::struct_(fields.clone(), NonNullable), Ok(dtype("{a=utf8, b=utf8, c=utf8}")));
+    assert_eq!(DType::union(fields, NonNullable), Ok(dtype("union(a=utf8, b=utf8, c=utf8)")));
+    let other = one.clone();
+    assert_eq!(
+        (one.merge_nullability(&other), one.intersect_nullability(&other)),
+        (Some(one.clone()), Some(one.clone()))
+    );
+    assert!(one.eq_ignore_nullability(&other) && one.eq_with_nullability_subset(&other) && one == other);
+    assert!(one.eq_with_nullability_superset(&other));
+    let (one, other) = (one.as_struct_fields_opt().unwrap(), other.as_struct_fields_opt().unwrap());
+    assert_eq!(number(one.disjoint_merge(&other).unwrap_err()), 18);
+    let (mask, message, steps) = (FieldMask::exact(&path("a")), other.project(["a"]).unwrap().to_proto(), path("a"));
+    assert!(
+        mask == mask.clone() && message == message.clone() && steps == steps.clone() && steps.overlap(&steps.clone())
+    );
+    let mut paths = set(&["a"]);
+    paths.extend([&steps, &steps.clone()]);
+    assert_eq!(paths.len(), 1);
 }
 
 #[test]
@@ -182,7 +239,7 @@ fn paths() {
     let it: FieldPath = steps.iter().cloned().collect();
     assert_eq!(
         (it.to_source(), it.to_string(), it.parts()),
-        ("a.[].\"b c\"".to_owned(), "$a.[].$b c".to_owned(), steps.to_vec())
+        ("a.[].\"b c\"".to_owned(), "$a.[].$b c".to_owned(), &steps[..])
     );
     assert!(FieldPath::root().is_root() && FieldPath::root().step_into().is_none());
     assert_eq!(it.step_into(), Some(path("[].\"b c\"")));

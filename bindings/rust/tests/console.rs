@@ -3,6 +3,7 @@
 
 //! The golden tests of the console, whose answers don't come from the library: each line whose command has a counterpart
 //! in this package, by that call. Without the repository around it this tests nothing.
+use std::borrow::Borrow;
 use std::fs;
 use std::path::Path;
 use vortex_logical_types::*;
@@ -173,8 +174,8 @@ fn shown(text: &str) -> String {
     escaped.collect()
 }
 
-fn sources(dtypes: impl Iterator<Item = DType>) -> String {
-    listed(dtypes.map(|it| it.to_source()))
+fn sources(dtypes: impl Iterator<Item: Borrow<DType>>) -> String {
+    listed(dtypes.map(|it| it.borrow().to_source()))
 }
 
 fn listed(texts: impl Iterator<Item = String>) -> String {
@@ -197,8 +198,8 @@ fn fields_text(made: DType) -> Result<String, Left> {
     Ok(made.as_nonnullable()?.to_source())
 }
 
-fn source_or_none(it: Option<DType>) -> String {
-    or_none(it.map(|it| it.to_source()))
+fn source_or_none(it: Option<impl Borrow<DType>>) -> String {
+    or_none(it.map(|it| it.borrow().to_source()))
 }
 
 fn step_text(field: &Field) -> String {

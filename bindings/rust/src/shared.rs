@@ -1,0 +1,150 @@
+// SPDX-License-Identifier: Apache-2.0
+// SPDX-FileCopyrightText: Copyright the Vortex contributors
+
+//! Values with several owners. (`Arc` of Rust's library would do, if it could say that memory has run out: it aborts.)
+use crate::error::Error;
+use std::alloc::{Layout, alloc};
+use std::marker::PhantomData;
+use std::mem::ManuallyDrop;
+use std::ops::Deref;
+use std::process;
+use std::ptr::NonNull;
+use std::sync::OnceLock;
+use std::sync::atomic::{AtomicUsize, Ordering, fence};
+
+/// A value that has several owners on any threads, and that the last of them drops.
+pub(crate) struct Shared<T> {
+    at: NonNull<Counted<T>>,
+    owns: PhantomData<Counted<T>>,
+}
+
+/// A value, and the number of its owners.
+struct Counted<T> {
+    owners: AtomicUsize,
+    value: T,
+}
+
+/// So many owners can't be, since each takes more than a byte of memory.
+const MOST: usize = isize::MAX as usize;
+
+// SAFETY: the owners share a value and the last drops it, each on any thread, so it has to be both.
+unsafe impl<T: Send + Sync> Send for Shared<T> {}
+// SAFETY: as above, since a shared owner can be cloned.
+unsafe impl<T: Send + Sync> Sync for Shared<T> {}
+
+impl<T> Shared<T> {
+    /// The value, with one owner.
+    pub(crate) fn try_new(value: T) -> Result<Shared<T>, Error> {
+        // SAFETY: the layout isn't empty, since a count is in it.
+        let at = unsafe { alloc(Layout::new::<Counted<T>>()) };
+        let at = NonNull::new(at.cast::<Counted<T>>()).ok_or(Error::OutOfMemory)?;
+        // SAFETY: the block is new, and of the right size and alignment.
+        unsafe { at.write(Counted { owners: AtomicUsize::new(1), value }) }
+        Ok(Shared { at, owns: PhantomData })
+    }
+
+    /// Whether both are owners of one value.
+    pub(crate) fn is(&self, other: &Shared<T>) -> bool {
+        self.at == other.at
+    }
+
+    /// The value if this is its only owner, or else this owner.
+    pub(crate) fn into_inner(self) -> Result<T, Shared<T>> {
+        if self.counted().owners.compare_exchange(1, 0, Ordering::Acquire, Ordering::Relaxed).is_err() {
+            return Err(self);
+        }
+        let only = ManuallyDrop::new(self);
+        // SAFETY: there is no other owner, and this one isn't used any more. `Box` frees by the layout of `try_new`.
+        let counted = unsafe { Box::from_raw(only.at.as_ptr()) };
+        Ok(counted.value)
+    }
+
+    fn counted(&self) -> &Counted<T> {
+        // SAFETY: the value stays until its last owner is dropped, and this is one.
+        unsafe { self.at.as_ref() }
+    }
+}
+
+impl<T> Deref for Shared<T> {
+    type Target = T;
+
+    fn deref(&self) -> &T {
+        &self.counted().value
+    }
+}
+
+impl<T> Clone for Shared<T> {
+    fn clone(&self) -> Shared<T> {
+        // (Whoever has this owner has what happened to it before, so the count needs no order.)
+        if self.counted().owners.fetch_add(1, Ordering::Relaxed) > MOST {
+            process::abort();
+        }
+        Shared { at: self.at, owns: PhantomData }
+    }
+}
+
+impl<T> Drop for Shared<T> {
+    fn drop(&mut self) {
+        if self.counted().owners.fetch_sub(1, Ordering::Release) == 1 {
+            fence(Ordering::Acquire);
+            // SAFETY: this was the last owner, and all that the others did has happened. As to the `Box`: see `into_inner`.
+            drop(unsafe { Box::from_raw(self.at.as_ptr()) });
+        }
+    }
+}
+
+/// What is remembered in the cell, which is made if nothing is yet. If two threads make it, the first value stays.
+pub(crate) fn remembered<T>(cell: &OnceLock<T>, make: impl FnOnce() -> Result<T, Error>) -> Result<&T, Error> {
+    if let Some(value) = cell.get() {
+        return Ok(value);
+    }
+    let made = make()?;
+    Ok(cell.get_or_init(|| made))
+}
+
+#[cfg(test)]
+mod tests {
+    use super::{Shared, remembered};
+    use crate::Error;
+    use std::sync::OnceLock;
+    use std::sync::atomic::{AtomicUsize, Ordering};
+    use std::thread;
+
+    struct Counting<'a>(&'a AtomicUsize);
+
+    impl Drop for Counting<'_> {
+        fn drop(&mut self) {
+            self.0.fetch_add(1, Ordering::Relaxed);
+        }
+    }
+
+    #[test]
+    fn the_last_owner_drops_the_value_once() {
+        let dropped = AtomicUsize::new(0);
+        let first = Shared::try_new(Counting(&dropped)).unwrap();
+        thread::scope(|scope| {
+            for _ in 0..8 {
+                let mut own = first.clone();
+                scope.spawn(move || (0..1000).for_each(|_| own = own.clone()));
+            }
+        });
+        assert_eq!(dropped.load(Ordering::Relaxed), 0);
+        let second = first.clone();
+        assert!(first.is(&second) && !first.is(&Shared::try_new(Counting(&dropped)).unwrap()));
+        assert_eq!(dropped.load(Ordering::Relaxed), 1);
+        let first = first.into_inner().err().expect("two owners");
+        drop(second);
+        let value = first.into_inner().ok().expect("one owner");
+        assert_eq!(dropped.load(Ordering::Relaxed), 1);
+        drop(value);
+        assert_eq!(dropped.load(Ordering::Relaxed), 2);
+    }
+
+    #[test]
+    fn what_is_remembered_is_made_once() {
+        let cell = OnceLock::new();
+        assert_eq!(remembered(&cell, || Err(Error::OutOfMemory)), Err(Error::OutOfMemory));
+        assert_eq!(remembered(&cell, || Ok(1)), Ok(&1));
+        assert_eq!(remembered(&cell, || Ok(2)), Ok(&1));
+    }
+}

@@ -142,6 +142,7 @@ pub use parts::{ExtDTypeRef, MapDType, StructFields, UnionVariants};
 pub use paths::{Field, FieldPath};
 pub use scalars::{DecimalDType, Kind, Nullability, PType};
 pub use sets::{Below, FieldPathSet, Paths};
+pub use view::View;
 
 mod calls;
 mod console;
@@ -160,11 +161,13 @@ mod scalars;
 mod sets;
 #[allow(unsafe_code)]
 mod shared;
+mod view;
 
 /// Fails to compile unless every public type can be used on every thread.
 const _: () = {
     const fn is_for_all_threads<T: Send + Sync + 'static>() {}
     is_for_all_threads::<DType>();
+    is_for_all_threads::<View<'static>>();
     is_for_all_threads::<StructFields<'static>>();
     is_for_all_threads::<UnionVariants<'static>>();
     is_for_all_threads::<MapDType<'static>>();

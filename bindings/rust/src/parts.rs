@@ -392,3 +392,47 @@ impl<'a> ExtDTypeRef<'a> {
         self.dtype.parts()?.first(|out| ffi::dtype_storage(self.dtype.slot(), out))
     }
 }
+
+/// Whether two types are equal but for their outer nullability.
+fn are_equal_inside(one: &DType, other: &DType) -> bool {
+    if one.nullability() == other.nullability() { one == other } else { one.as_nullable() == other.as_nullable() }
+}
+
+/// Two views are equal if they have the same fields: the same names and types, in the same order. The nullability of the
+/// struct isn't compared.
+impl PartialEq for StructFields<'_> {
+    fn eq(&self, other: &StructFields<'_>) -> bool {
+        are_equal_inside(self.dtype, other.dtype)
+    }
+}
+
+impl Eq for StructFields<'_> {}
+
+/// Two views are equal if they have the same variants: the same names, types and tags, in the same order. The nullability
+/// of the union isn't compared.
+impl PartialEq for UnionVariants<'_> {
+    fn eq(&self, other: &UnionVariants<'_>) -> bool {
+        are_equal_inside(self.dtype, other.dtype)
+    }
+}
+
+impl Eq for UnionVariants<'_> {}
+
+/// Two views are equal if they have the same key and value types, and both or none have sorted keys. The nullability of the
+/// map isn't compared.
+impl PartialEq for MapDType<'_> {
+    fn eq(&self, other: &MapDType<'_>) -> bool {
+        are_equal_inside(self.dtype, other.dtype)
+    }
+}
+
+impl Eq for MapDType<'_> {}
+
+/// Two views are equal if they have the same id, metadata and storage type.
+impl PartialEq for ExtDTypeRef<'_> {
+    fn eq(&self, other: &ExtDTypeRef<'_>) -> bool {
+        self.dtype == other.dtype
+    }
+}
+
+impl Eq for ExtDTypeRef<'_> {}

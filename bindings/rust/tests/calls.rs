@@ -174,6 +174,67 @@ fn handles_are_shared_and_remember() {
     assert!(wide.as_struct_fields_opt().unwrap().names().eq(names.iter().map(|(name, _)| name)));
 }
 
+/// The type that a view is of, made of its parts by the constructors.
+fn made_again(dtype: &DType) -> Result<DType, Error> {
+    Ok(match dtype.view() {
+        View::Null => DType::null(),
+        View::Bool(n) => DType::bool(n),
+        View::Primitive(ptype, n) => DType::primitive(ptype, n),
+        View::Decimal(decimal, n) => DType::decimal(decimal.precision(), decimal.scale(), n)?,
+        View::Utf8(n) => DType::utf8(n),
+        View::Binary(n) => DType::binary(n),
+        View::List(element, n) => DType::list(&made_again(element)?, n)?,
+        View::FixedSizeList(element, size, n) => DType::fixed_size_list(&made_again(element)?, size, n)?,
+        View::Map(map, n) => {
+            DType::map(&made_again(map.key_dtype())?, &made_again(map.value_dtype())?, map.keys_sorted(), n)?
+        }
+        View::Struct(fields, n) => {
+            let types = fields.fields().map(made_again).collect::<Result<Vec<_>, _>>()?;
+            DType::struct_(fields.names().zip(types), n)?
+        }
+        View::Union(variants, n) => {
+            let types = variants.variants().map(made_again).collect::<Result<Vec<_>, _>>()?;
+            let tagged = variants.names().zip(variants.type_ids()).zip(types);
+            DType::union_with_tags(tagged.map(|((name, tag), dtype)| (name, tag, dtype)), n)?
+        }
+        View::Variant(n) => DType::variant(n),
+        View::Extension(it) => DType::extension(it.id(), it.metadata_bytes(), &made_again(it.storage_dtype())?)?,
+        other => panic!("{other:?} is new"),
+    })
+}
+
+#[test]
+fn a_view_has_all_that_makes_the_type() {
+    let text = "{a=null, b=bool?, c=f16, d=decimal(76,-2)?, e=utf8, f=binary?, g=list(i8?)?, h=fixed_size_list(u64)[7], \
+                i=map(utf8, i8?, keys_sorted=true)?, j={a=i32, a=i64}?, k=union(x@9=utf8, y@1=null)?, l=variant, \
+                m=x.tag[0x00ff](utf8?)}";
+    let whole = dtype(text);
+    assert_eq!(made_again(&whole).map(|it| it == whole && it.to_source() == text), Ok(true));
+    let fields = whole.as_struct_fields_opt().unwrap();
+    for (_, field) in fields.iter() {
+        assert_eq!(fields.fields().filter(|other| other.view() == field.view()).count(), 1);
+        assert_eq!(dtype(&field.to_source()).view(), field.view());
+    }
+    // (A view of the parts doesn't compare the nullability of the whole.)
+    for (one, other, is_equal) in [
+        ("{a=i8}?", "{a=i8}", true),
+        ("{a=i8}", "{a=i8?}", false),
+        ("{a=i8}", "{b=i8}", false),
+        ("map(i8, i8, keys_sorted=true)?", "map(i8, i8, keys_sorted=true)", true),
+        ("map(i8, i8, keys_sorted=true)", "map(i8, i8, keys_sorted=false)", false),
+        ("union(a=i8)?", "union(a=i8)", true),
+        ("union(a@1=i8)", "union(a=i8)", false),
+        ("x.a[0x](i8)", "x.a[0x](i8?)", false),
+    ] {
+        let (one, other) = (dtype(one), dtype(other));
+        assert_eq!(one.as_struct_fields_opt() == other.as_struct_fields_opt(), is_equal || !one.is_struct());
+        assert_eq!(one.as_map_opt() == other.as_map_opt(), is_equal || !one.is_map());
+        assert_eq!(one.as_union_variants_opt() == other.as_union_variants_opt(), is_equal || !one.is_union());
+        assert_eq!(one.as_extension_opt() == other.as_extension_opt(), is_equal || !one.is_extension());
+        assert!(one.view() != other.view());
+    }
+}
+
 /// A call that takes two objects may be given clones of one, which the library takes to be two.
 #[test]
 fn two_clones_of_one_object_may_be_given() {

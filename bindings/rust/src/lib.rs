@@ -21,15 +21,12 @@
 //! let city: FieldPath = "customer.city".parse()?;
 //! assert_eq!(city.resolve(&orders), Some("utf8?".parse()?));
 //!
-//! let wanted = ["lines.[].price", "lines.[]", "id"].map(str::parse::<FieldPath>);
-//! let wanted: FieldPathSet = wanted.into_iter().collect::<Result<_, _>>()?;
+//! let wanted = FieldPathSet::parse(["lines.[].price", "lines.[]", "id"])?;
 //! let projected = orders.project_paths(&wanted).expect("a column is found");
 //! assert_eq!(projected.to_source(), "{id=u64, lines=list({sku=utf8, price=decimal(10,2)?})}");
-//! // `into_iter` of a set yields its cover, that is, the paths of which no other path of the set is a prefix. Their
-//! // order isn't promised.
-//! let mut cover: Vec<String> = wanted.into_iter().map(|path| path.to_source()).collect();
-//! cover.sort();
-//! assert_eq!(cover, ["id", "lines.[]"]);
+//! // The cover contains the paths of which no other path of the set is a prefix.
+//! let cover: FieldPathSet = wanted.into_cover().collect();
+//! assert_eq!(cover, FieldPathSet::parse(["id", "lines.[]"])?);
 //! # Ok::<(), vortex_logical_types::Error>(())
 //! ```
 //!
@@ -66,7 +63,7 @@
 //! [`std::alloc::handle_alloc_error`], which aborts the program, as Rust's own collections do. Almost every such call
 //! has a second form, whose name begins with `try_` and which returns the error. For example, [`FieldPath::try_push`] is
 //! the second form of [`FieldPath::push`]. A call of a trait has its second form among the methods of the type. For
-//! example, `try_from_iter` is that of `collect`, and [`FieldPathSet::try_cover`] that of `into_iter`. The `clone` of a
+//! example, `try_from_iter` is that of `collect`, and [`FieldPathSet::try_union`] that of `|`. The `clone` of a
 //! type, a path, a mask or a message doesn't allocate. These calls have no second form:
 //!
 //! - [`StructFields::names`]: call [`StructFields::try_field_name`] for each index instead.
@@ -80,6 +77,8 @@
 //! - [`DType::as_list_element_opt`] and [`DType::as_fixed_size_list_element_opt`]: test [`DType::is_list`] or
 //!   [`DType::is_fixed_size_list`], and then call [`DType::try_as_any_size_list_element_opt`].
 //! - [`FieldPathSet::is_empty`]: call [`FieldPathSet::try_len`] instead.
+//! - `==` of sets and [`FieldPathSet::is_superset`]: call [`FieldPathSet::try_is_subset`] and, for `==`, compare the lengths.
+//! - [`FieldPathSet::into_cover`]: call [`FieldPathSet::try_cover`] instead.
 //! - [`FieldPath::from_field`]: call [`FieldPath::try_from_iter`] instead.
 //! - `next_back` of [`Paths`]: call [`Paths::try_next`], which begins at the other end.
 //! - `from` and `clone` of [`Field`], and `clone` of [`FlatMessage`]: these are plain Rust values, whose texts and lists

@@ -104,6 +104,9 @@ fn calls() -> usize {
         longer.insert(again(n, || "d".parse::<FieldPath>()));
     }
     assert_eq!(again(n, || longer.try_len()), 2);
+    assert!(again(n, || set.try_is_subset(&longer)) && !again(n, || set.try_is_disjoint(&longer)));
+    assert_eq!(again(n, || set.try_union(&longer)?.try_len()), 2);
+    assert_eq!(again(n, || FieldPathSet::parse(["a.[].b"])?.try_len()), 1);
     let mut cover = again(n, || longer.try_cover());
     loop {
         match cover.try_next() {

@@ -9,6 +9,8 @@ use crate::ffi::{self, Slot};
 use crate::paths::{Field, FieldPath};
 use std::borrow::Borrow;
 use std::fmt;
+use std::ops::BitOr;
+use std::ptr;
 
 /// A set of paths.
 ///
@@ -21,11 +23,27 @@ use std::fmt;
 /// }
 /// assert_eq!(set.len(), 3);
 /// assert!(set.contains(&FieldPath::from_name("x")));
-/// // The cover contains the paths of which no other path of the set is a prefix. Their order isn't promised.
-/// let mut cover: Vec<String> = set.cover().map(|it| it.to_source()).collect();
-/// cover.sort();
-/// assert_eq!(cover, ["a", "x"]);
+/// assert_eq!(set, FieldPathSet::parse(["x", "a", "a.b"])?);
+/// // (The paths are in no promised order.)
+/// assert_eq!((&set).into_iter().filter(|path| path.len() == 1).count(), 2);
+/// // The cover contains the paths of which no other path of the set is a prefix.
+/// let cover: FieldPathSet = set.cover().collect();
+/// assert_eq!(cover, FieldPathSet::parse(["a", "x"])?);
 /// # Ok::<(), vortex_logical_types::Error>(())
+/// ```
+///
+/// A set isn't an iterator of its own. `for path in &set` yields its paths, and `for path in set.into_cover()` those of its
+/// cover. (In `vortex-array`, `for path in set` yields the cover, which is fewer paths than the set has.)
+///
+/// ```compile_fail,E0277
+/// # use vortex_logical_types::FieldPathSet;
+/// for path in FieldPathSet::new() {}
+/// ```
+///
+/// ```compile_fail
+/// #![deny(deprecated)]
+/// # use vortex_logical_types::FieldPathSet;
+/// FieldPathSet::new().into_iter().count();
 /// ```
 pub struct FieldPathSet {
     pub(crate) slot: Slot,
@@ -101,6 +119,92 @@ impl FieldPathSet {
         self.len() == 0
     }
 
+    /// Returns the set of the paths that these texts are, in the form of the console. All items are taken from the iterator
+    /// before the first path is inserted.
+    ///
+    /// ```
+    /// # use vortex_logical_types::FieldPathSet;
+    /// let set = FieldPathSet::parse(["customer.city", "lines.[].sku"])?;
+    /// assert_eq!(set.len(), 2);
+    /// assert!(FieldPathSet::parse(["a..b"]).is_err());
+    /// # Ok::<(), vortex_logical_types::Error>(())
+    /// ```
+    ///
+    /// # Errors
+    /// [`Error::Unreadable`] with the position in the first text that can't be read, and [`Error::OutOfMemory`].
+    pub fn parse(texts: impl IntoIterator<Item = impl AsRef<str>>) -> Result<FieldPathSet, Error> {
+        let mut paths = Vec::new();
+        for text in texts {
+            pushed(&mut paths, text.as_ref().parse::<FieldPath>()?)?;
+        }
+        FieldPathSet::try_from_iter(paths)
+    }
+
+    /// Returns whether each path of this set is in `other`.
+    ///
+    /// ```
+    /// # use vortex_logical_types::FieldPathSet;
+    /// let (few, many) = (FieldPathSet::parse(["a"])?, FieldPathSet::parse(["a", "a.b"])?);
+    /// assert!(few.is_subset(&many) && many.is_superset(&few) && !many.is_subset(&few));
+    /// // (Paths are compared, and not what they select.)
+    /// assert!(few.is_disjoint(&FieldPathSet::parse(["a.b"])?));
+    /// # Ok::<(), vortex_logical_types::Error>(())
+    /// ```
+    pub fn is_subset(&self, other: &FieldPathSet) -> bool {
+        or_abort(self.try_is_subset(other))
+    }
+
+    /// Returns what [`FieldPathSet::is_subset`] returns, or [`Error::OutOfMemory`].
+    pub fn try_is_subset(&self, other: &FieldPathSet) -> Result<bool, Error> {
+        self.each(|path| other.contains(path))
+    }
+
+    /// Returns whether each path of `other` is in this set.
+    pub fn is_superset(&self, other: &FieldPathSet) -> bool {
+        other.is_subset(self)
+    }
+
+    /// Returns whether no path is in both sets.
+    pub fn is_disjoint(&self, other: &FieldPathSet) -> bool {
+        or_abort(self.try_is_disjoint(other))
+    }
+
+    /// Returns what [`FieldPathSet::is_disjoint`] returns, or [`Error::OutOfMemory`].
+    pub fn try_is_disjoint(&self, other: &FieldPathSet) -> Result<bool, Error> {
+        self.each(|path| !other.contains(path))
+    }
+
+    /// Whether this is true of each path of the set. (The library has no call for subsets, equality and disjointness yet.
+    /// They are made here alone, of its calls `members` and `contains`.)
+    fn each(&self, is_true: impl Fn(&FieldPath) -> bool) -> Result<bool, Error> {
+        let mut paths = self.try_iter()?;
+        while let Some(path) = paths.try_next()? {
+            if !is_true(&path) {
+                return Ok(false);
+            }
+        }
+        Ok(true)
+    }
+
+    /// Returns the set of the paths that are in this set, in `other` or in both. `one | other` of references is the same.
+    ///
+    /// ```
+    /// # use vortex_logical_types::FieldPathSet;
+    /// let (one, other) = (FieldPathSet::parse(["a", "b"])?, FieldPathSet::parse(["b", "c"])?);
+    /// assert_eq!(&one | &other, FieldPathSet::parse(["a", "b", "c"])?);
+    /// # Ok::<(), vortex_logical_types::Error>(())
+    /// ```
+    pub fn union(&self, other: &FieldPathSet) -> FieldPathSet {
+        or_abort(self.try_union(other))
+    }
+
+    /// Returns what [`FieldPathSet::union`] returns, or [`Error::OutOfMemory`].
+    pub fn try_union(&self, other: &FieldPathSet) -> Result<FieldPathSet, Error> {
+        let mut both = self.try_clone()?;
+        inserted(ffi::set_extend_from_list(&mut both.slot, &other.try_iter()?.list))?;
+        Ok(both)
+    }
+
     /// Returns the paths of the set, each once, in no promised order.
     pub fn iter(&self) -> Paths {
         or_abort(self.try_iter())
@@ -120,6 +224,18 @@ impl FieldPathSet {
     /// Returns the cover, or [`Error::OutOfMemory`].
     pub fn try_cover(&self) -> Result<Paths, Error> {
         made(|out| ffi::set_cover(&self.slot, out)).map(Paths::of)
+    }
+
+    /// Returns the cover, as [`FieldPathSet::cover`] does, of a set that isn't used any more.
+    pub fn into_cover(self) -> Paths {
+        self.cover()
+    }
+
+    /// Returns the cover, which is fewer paths than the set has.
+    #[deprecated(note = "call `into_cover` for the paths of the cover, and `iter` for all paths of the set")]
+    #[allow(clippy::should_implement_trait)]
+    pub fn into_iter(self) -> Paths {
+        self.cover()
     }
 
     /// Returns the paths of the set that don't exist in the type, in no promised order.
@@ -217,13 +333,31 @@ impl<P: Borrow<FieldPath>> Extend<P> for FieldPathSet {
     }
 }
 
-/// The cover of the set, as [`FieldPathSet::cover`].
-impl IntoIterator for FieldPathSet {
+/// All paths of the set, each once, in no promised order, as [`FieldPathSet::iter`].
+impl IntoIterator for &FieldPathSet {
     type Item = FieldPath;
     type IntoIter = Paths;
 
     fn into_iter(self) -> Paths {
-        self.cover()
+        self.iter()
+    }
+}
+
+/// Two sets are equal if the same paths are in both.
+impl PartialEq for FieldPathSet {
+    fn eq(&self, other: &FieldPathSet) -> bool {
+        ptr::eq(self, other) || (self.len() == other.len() && self.is_subset(other))
+    }
+}
+
+impl Eq for FieldPathSet {}
+
+/// The paths that are in one of the sets, as [`FieldPathSet::union`].
+impl BitOr for &FieldPathSet {
+    type Output = FieldPathSet;
+
+    fn bitor(self, other: &FieldPathSet) -> FieldPathSet {
+        self.union(other)
     }
 }
 

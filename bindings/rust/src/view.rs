@@ -9,7 +9,6 @@ use crate::parts::{ExtDTypeRef, MapDType, StructFields, UnionVariants};
 use crate::scalars::{DecimalDType, Kind, Nullability, PType};
 
 /// What a type is, with its parts by reference, from [`DType::view`]. The variants are those of `DType` in `vortex-array`.
-/// New variants may be added, so a `match` needs an arm for all others.
 ///
 /// ```
 /// use vortex_logical_types::{DType, Nullability, View};
@@ -28,7 +27,6 @@ use crate::scalars::{DecimalDType, Kind, Nullability, PType};
 /// # Ok::<(), vortex_logical_types::Error>(())
 /// ```
 #[derive(Debug, Clone, Copy, PartialEq, Eq)]
-#[non_exhaustive]
 pub enum View<'a> {
     /// The null type, such as `null`.
     Null,

@@ -199,7 +199,6 @@ fn made_again(dtype: &DType) -> Result<DType, Error> {
         }
         View::Variant(n) => DType::variant(n),
         View::Extension(it) => DType::extension(it.id(), it.metadata_bytes(), &made_again(it.storage_dtype())?)?,
-        other => panic!("{other:?} is new"),
     })
 }
 
@@ -327,13 +326,37 @@ fn sets() {
     assert_eq!(it.below(&path("a")), Some(Below { is_end: true, has_element: true, name_count: 1 }));
     assert_eq!((it.names_below(&path("a")), it.names_below(&path("b"))), (Some(vec!["b".to_owned()]), None));
     assert_eq!(texts(copy.unresolved(&dtype("{a=i32}"))), ["a.[].c", "a.b", "x"]);
-    assert_eq!(texts(copy), ["a", "x"]);
+    assert_eq!(texts(copy.clone().into_cover()), ["a", "x"]);
+    #[allow(deprecated)]
+    let cover = copy.clone().into_iter();
+    assert_eq!((texts(cover), texts(&copy)), (texts(copy.cover()), texts(copy.iter())));
     let mut paths = it.iter();
     let (first, last) = (paths.next(), paths.next_back());
     assert!(first.is_some() && last.is_some() && paths.len() == 4 && paths.count() == 4);
     let whole = dtype("{a=list({c=u32, d=i8})?, y=i64}");
     assert_eq!(whole.project_paths(&set(&["a.[].c"])), Some(dtype("{a=list({c=u32})?}")));
     assert_eq!(whole.project_paths(&FieldPathSet::new()), None);
+}
+
+/// Every two of the sets of these paths, compared as the sets of their texts in Rust's library.
+#[test]
+fn sets_are_compared_like_sets_of_rust() {
+    let all = ["a", "a.b", "a.[]", "."];
+    let subset = |bits: usize| all.into_iter().enumerate().filter(move |(at, _)| bits >> at & 1 == 1).map(|(_, it)| it);
+    for (one, other) in (0..16).flat_map(|one| (0..16).map(move |other| (one, other))) {
+        let (a, b) = (subset(one).collect::<HashSet<_>>(), subset(other).collect::<HashSet<_>>());
+        // (The paths are inserted in another order.)
+        let (x, y) = (set(&subset(one).collect::<Vec<_>>()), subset(other).collect::<Vec<_>>());
+        let y: FieldPathSet = y.iter().rev().map(|it| path(it)).collect();
+        assert_eq!((x == y, x.is_disjoint(&y)), (a == b, a.is_disjoint(&b)));
+        assert_eq!((x.is_subset(&y), x.is_superset(&y)), (a.is_subset(&b), a.is_superset(&b)));
+        let mut both: Vec<_> = a.union(&b).map(|it| it.to_string()).collect();
+        both.sort();
+        assert_eq!((texts(&(&x | &y)), x.union(&y)), (both.clone(), FieldPathSet::parse(&both).unwrap()));
+        assert_eq!((x.len(), y.len()), (a.len(), b.len()));
+    }
+    assert_eq!(FieldPathSet::parse(["a", "b..c"]), Err(Error::Unreadable { position: 3 }));
+    assert_eq!(FieldPathSet::parse([""; 0]), Ok(FieldPathSet::new()));
 }
 
 #[test]

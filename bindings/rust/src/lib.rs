@@ -80,6 +80,9 @@
 //! - `==` of sets and [`FieldPathSet::is_superset`]: call [`FieldPathSet::try_is_subset`] and, for `==`, compare the lengths.
 //! - [`FieldPathSet::into_cover`]: call [`FieldPathSet::try_cover`] instead.
 //! - [`FieldPath::from_field`]: call [`FieldPath::try_from_iter`] instead.
+//! - The order of paths, `for step in &path` and [`FieldPath::iter`]: call [`FieldPath::try_parts`] first, which remembers the
+//!   steps.
+//! - `hash` of a [`FieldMask`] or a [`Message`].
 //! - `next_back` of [`Paths`]: call [`Paths::try_next`], which begins at the other end.
 //! - `from` and `clone` of [`Field`], and `clone` of [`FlatMessage`]: these are plain Rust values, whose texts and lists
 //!   Rust's own allocator makes. If you pass a text to [`FieldPath::try_push`] or [`FieldPath::try_from_iter`], these make a

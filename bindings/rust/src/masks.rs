@@ -8,6 +8,7 @@ use crate::ffi::{self, Slot};
 use crate::paths::{Field, FieldPath};
 use crate::shared::Shared;
 use std::fmt;
+use std::hash::{Hash, Hasher};
 
 /// A selection of paths. It selects all paths, or a path and every path below it, or one path alone. A path *matches* the
 /// mask if the mask selects it.
@@ -134,6 +135,13 @@ impl PartialEq for FieldMask {
 }
 
 impl Eq for FieldMask {}
+
+impl Hash for FieldMask {
+    fn hash<H: Hasher>(&self, state: &mut H) {
+        self.kind().hash(state);
+        self.path().hash(state);
+    }
+}
 
 impl fmt::Debug for FieldMask {
     fn fmt(&self, f: &mut fmt::Formatter<'_>) -> fmt::Result {

@@ -9,6 +9,7 @@ use crate::ffi::{self, Node, Slot};
 use crate::paths::FieldPath;
 use crate::shared::Shared;
 use std::fmt;
+use std::hash::{Hash, Hasher};
 use std::str::FromStr;
 
 /// The message of a type. It is read from protobuf's text format or from the flat form. A message may describe no type.
@@ -227,6 +228,21 @@ impl PartialEq for Message {
 }
 
 impl Eq for Message {}
+
+/// (Equal messages have the same text.)
+impl Hash for Message {
+    fn hash<H: Hasher>(&self, state: &mut H) {
+        self.to_source().hash(state);
+    }
+}
+
+impl TryFrom<&str> for Message {
+    type Error = Error;
+
+    fn try_from(text: &str) -> Result<Message, Error> {
+        text.parse()
+    }
+}
 
 impl From<&DType> for Message {
     fn from(dtype: &DType) -> Message {

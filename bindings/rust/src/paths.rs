@@ -7,12 +7,14 @@ use crate::dtype::DType;
 use crate::error::Error;
 use crate::ffi::{self, Slot};
 use crate::shared::{Shared, remembered};
+use std::cmp::Ordering;
 use std::fmt;
 use std::hash::{Hash, Hasher};
 use std::str::FromStr;
 use std::sync::OnceLock;
 
-/// A step of a path: into a field of a struct, or into the element of a list.
+/// A step of a path: into a field of a struct, or into the element of a list. The element is before all names, and names
+/// are ordered by their bytes.
 #[derive(Debug, Clone, PartialEq, Eq, Hash)]
 pub enum Field {
     /// Into the field of this name.
@@ -36,6 +38,29 @@ impl Field {
     }
 }
 
+impl PartialOrd for Field {
+    fn partial_cmp(&self, other: &Field) -> Option<Ordering> {
+        Some(self.cmp(other))
+    }
+}
+
+impl Ord for Field {
+    fn cmp(&self, other: &Field) -> Ordering {
+        // (`None`, of the element, is before each `Some`, and texts are compared by their bytes.)
+        self.as_name().cmp(&other.as_name())
+    }
+}
+
+/// The text that the library displays for the step in a path: `$a` for the name `a`, and `[]` for the element.
+impl fmt::Display for Field {
+    fn fmt(&self, f: &mut fmt::Formatter<'_>) -> fmt::Result {
+        match self {
+            Field::Name(name) => write!(f, "${name}"),
+            Field::ElementType => f.write_str("[]"),
+        }
+    }
+}
+
 impl From<&str> for Field {
     fn from(name: &str) -> Field {
         Field::Name(name.to_owned())
@@ -48,7 +73,8 @@ impl From<String> for Field {
     }
 }
 
-/// A path into a type: steps, from the root.
+/// A path into a type: steps, from the root. Paths are ordered step by step, so a path is before the paths that it is a
+/// prefix of.
 ///
 /// ```
 /// use vortex_logical_types::{DType, Field, FieldPath};
@@ -120,6 +146,17 @@ impl FieldPath {
         FieldPath::of_steps(&steps.text, &steps.lengths)
     }
 
+    fn of_parts<'a>(parts: impl Iterator<Item = &'a Field>) -> Result<FieldPath, Error> {
+        let mut steps = Names::default();
+        for part in parts {
+            match part {
+                Field::Name(name) => steps.push(name)?,
+                Field::ElementType => steps.push_element()?,
+            }
+        }
+        FieldPath::of_steps(&steps.text, &steps.lengths)
+    }
+
     fn of_steps(names: &[u8], lengths: &[usize]) -> Result<FieldPath, Error> {
         made(|out| ffi::path_from_steps(names, lengths, out)).and_then(FieldPath::of)
     }
@@ -146,15 +183,71 @@ impl FieldPath {
         calls::step_found(|buffer, length| ffi::path_step(self.slot(), 0, buffer, length))
     }
 
+    /// Returns the steps, from the root on. `parts` returns the same as a slice.
+    pub fn iter(&self) -> std::slice::Iter<'_, Field> {
+        self.parts().iter()
+    }
+
+    /// Returns the path with the steps of `other` behind its own.
+    ///
+    /// ```
+    /// # use vortex_logical_types::field_path;
+    /// assert_eq!(field_path!("a", []).join(&field_path!("b")), field_path!("a", [], "b"));
+    /// ```
+    #[must_use]
+    pub fn join(&self, other: &FieldPath) -> FieldPath {
+        or_abort(self.try_join(other))
+    }
+
+    /// Returns what [`FieldPath::join`] returns, or [`Error::OutOfMemory`].
+    pub fn try_join(&self, other: &FieldPath) -> Result<FieldPath, Error> {
+        FieldPath::of_parts(self.try_parts()?.iter().chain(other.try_parts()?))
+    }
+
+    /// Returns the path without its last step, or `None` for the root.
+    ///
+    /// ```
+    /// # use vortex_logical_types::{FieldPath, field_path};
+    /// assert_eq!(field_path!("a", []).parent(), Some(field_path!("a")));
+    /// assert_eq!(FieldPath::root().parent(), None);
+    /// ```
+    pub fn parent(&self) -> Option<FieldPath> {
+        or_abort(self.try_parent())
+    }
+
+    /// Returns what [`FieldPath::parent`] returns, or [`Error::OutOfMemory`].
+    pub fn try_parent(&self) -> Result<Option<FieldPath>, Error> {
+        match self.try_parts()?.split_last() {
+            Some((_, parts)) => FieldPath::of_parts(parts.iter()).map(Some),
+            None => Ok(None),
+        }
+    }
+
+    /// Returns whether the path begins with the steps of `other`, that is, whether `other` is a prefix of it. Each path
+    /// begins with the root and with itself.
+    ///
+    /// ```
+    /// # use vortex_logical_types::field_path;
+    /// assert!(field_path!("a", "b").starts_with(&field_path!("a")));
+    /// assert!(!field_path!("ab").starts_with(&field_path!("a")));
+    /// ```
+    pub fn starts_with(&self, other: &FieldPath) -> bool {
+        other.len() <= self.len() && self.overlap(other)
+    }
+
+    /// Returns whether there is no step, as [`FieldPath::is_root`] does.
+    pub fn is_empty(&self) -> bool {
+        self.len() == 0
+    }
+
     /// Returns the number of steps.
-    #[allow(clippy::len_without_is_empty)]
     pub fn len(&self) -> usize {
         plain(|count| ffi::path_len(self.slot(), count))
     }
 
     /// Returns whether there is no step.
     pub fn is_root(&self) -> bool {
-        self.len() == 0
+        self.is_empty()
     }
 
     /// Returns the path with one more step.
@@ -258,6 +351,36 @@ impl PartialEq for FieldPath {
 
 impl Eq for FieldPath {}
 
+impl PartialOrd for FieldPath {
+    fn partial_cmp(&self, other: &FieldPath) -> Option<Ordering> {
+        Some(self.cmp(other))
+    }
+}
+
+impl Ord for FieldPath {
+    fn cmp(&self, other: &FieldPath) -> Ordering {
+        if self.whole.is(&other.whole) { Ordering::Equal } else { self.parts().cmp(other.parts()) }
+    }
+}
+
+/// The steps, from the root on.
+impl<'a> IntoIterator for &'a FieldPath {
+    type Item = &'a Field;
+    type IntoIter = std::slice::Iter<'a, Field>;
+
+    fn into_iter(self) -> Self::IntoIter {
+        self.iter()
+    }
+}
+
+impl TryFrom<&str> for FieldPath {
+    type Error = Error;
+
+    fn try_from(text: &str) -> Result<FieldPath, Error> {
+        text.parse()
+    }
+}
+
 impl Hash for FieldPath {
     fn hash<H: Hasher>(&self, state: &mut H) {
         state.write_u64(plain(|hash| ffi::path_hash(self.slot(), hash)));
@@ -275,4 +398,27 @@ impl<F: Into<Field>> FromIterator<F> for FieldPath {
     fn from_iter<I: IntoIterator<Item = F>>(parts: I) -> FieldPath {
         or_abort(FieldPath::try_from_iter(parts))
     }
+}
+
+/// Makes a [`FieldPath`] of its steps: a text for the field of this name, and `[]` for the element.
+///
+/// As in `vortex-array`, the names can also be written as identifiers with points between them.
+///
+/// ```
+/// use vortex_logical_types::{FieldPath, field_path};
+///
+/// assert_eq!(field_path!("lines", [], "unit price"), r#"lines.[]."unit price""#.parse()?);
+/// assert_eq!(field_path!(customer.city), "customer.city".parse()?);
+/// assert_eq!(field_path!(), FieldPath::root());
+/// # Ok::<(), vortex_logical_types::Error>(())
+/// ```
+#[macro_export]
+macro_rules! field_path {
+    (@step []) => { $crate::Field::ElementType };
+    (@step $name:literal) => { $crate::Field::from($name) };
+    () => { $crate::FieldPath::root() };
+    ($first:ident $(. $rest:ident)*) => {
+        [stringify!($first) $(, stringify!($rest))*].into_iter().collect::<$crate::FieldPath>()
+    };
+    ($($step:tt),+ $(,)?) => { [$($crate::field_path!(@step $step)),+].into_iter().collect::<$crate::FieldPath>() };
 }

@@ -2,8 +2,10 @@
 // SPDX-FileCopyrightText: Copyright the Vortex contributors
 
 //! Values without parts: nullability, primitive types, decimals, kinds of types. They are plain Rust, and no call is made.
+use crate::error::Error;
 use std::fmt;
 use std::ops::{BitOr, BitOrAssign};
+use std::str::FromStr;
 
 /// Whether values may be null.
 #[derive(Debug, Clone, Copy, PartialEq, Eq, Hash, Default)]
@@ -137,7 +139,7 @@ impl PType {
 /// The name in lower case, such as `u8`.
 impl fmt::Display for PType {
     fn fmt(&self, f: &mut fmt::Formatter<'_>) -> fmt::Result {
-        f.write_str(match self {
+        f.pad(match self {
             PType::U8 => "u8",
             PType::U16 => "u16",
             PType::U32 => "u32",
@@ -150,6 +152,42 @@ impl fmt::Display for PType {
             PType::F32 => "f32",
             PType::F64 => "f64",
         })
+    }
+}
+
+/// The one of these values that is displayed as the text.
+fn named<T: Copy + fmt::Display>(all: &[T], text: &str) -> Result<T, Error> {
+    struct Same<'a>(&'a str);
+    impl fmt::Write for Same<'_> {
+        fn write_str(&mut self, part: &str) -> fmt::Result {
+            self.0 = self.0.strip_prefix(part).ok_or(fmt::Error)?;
+            Ok(())
+        }
+    }
+    let is_named = |it: &&T| {
+        let mut left = Same(text);
+        fmt::write(&mut left, format_args!("{it}")).is_ok() && left.0.is_empty()
+    };
+    all.iter().find(is_named).copied().ok_or(Error::Unreadable { position: 1 })
+}
+
+/// Reads the name that `Display` writes, such as `u8`.
+///
+/// # Errors
+/// [`Error::Unreadable`] at byte 1 if no primitive type has the name.
+impl FromStr for PType {
+    type Err = Error;
+
+    fn from_str(text: &str) -> Result<PType, Error> {
+        named(&PType::ALL, text)
+    }
+}
+
+impl TryFrom<&str> for PType {
+    type Error = Error;
+
+    fn try_from(text: &str) -> Result<PType, Error> {
+        text.parse()
     }
 }
 
@@ -201,7 +239,8 @@ pub enum Kind {
 }
 
 impl Kind {
-    const ALL: [Kind; 13] = [
+    /// All kinds, in the order of their numbers.
+    pub const ALL: [Kind; 13] = [
         Kind::Null,
         Kind::Bool,
         Kind::Primitive,
@@ -219,5 +258,46 @@ impl Kind {
 
     pub(crate) fn of(number: u32) -> Kind {
         Kind::ALL[number as usize]
+    }
+}
+
+/// The name in lower case, such as `fixed_size_list`.
+impl fmt::Display for Kind {
+    fn fmt(&self, f: &mut fmt::Formatter<'_>) -> fmt::Result {
+        f.pad(match self {
+            Kind::Null => "null",
+            Kind::Bool => "bool",
+            Kind::Primitive => "primitive",
+            Kind::Decimal => "decimal",
+            Kind::Utf8 => "utf8",
+            Kind::Binary => "binary",
+            Kind::List => "list",
+            Kind::FixedSizeList => "fixed_size_list",
+            Kind::Map => "map",
+            Kind::Struct => "struct",
+            Kind::Union => "union",
+            Kind::Variant => "variant",
+            Kind::Extension => "extension",
+        })
+    }
+}
+
+/// Reads the name that `Display` writes, such as `list`.
+///
+/// # Errors
+/// [`Error::Unreadable`] at byte 1 if no kind has the name.
+impl FromStr for Kind {
+    type Err = Error;
+
+    fn from_str(text: &str) -> Result<Kind, Error> {
+        named(&Kind::ALL, text)
+    }
+}
+
+impl TryFrom<&str> for Kind {
+    type Error = Error;
+
+    fn try_from(text: &str) -> Result<Kind, Error> {
+        text.parse()
     }
 }

@@ -314,6 +314,56 @@ fn paths() {
 }
 
 #[test]
+fn paths_are_joined_ordered_and_walked() {
+    let ordered = [".", "[]", "[].a", "a", "a.[]", "a.[].b", "a.b", "ab", "b", "\"é\""].map(path);
+    assert!(ordered.is_sorted() && ordered.windows(2).all(|two| two[0] < two[1]));
+    for one in &ordered {
+        for other in &ordered {
+            let joined = one.join(other);
+            assert!(joined.starts_with(one) && joined.iter().eq(one.iter().chain(other)));
+            assert_eq!(one.starts_with(other), one.parts().starts_with(other.parts()));
+            assert_eq!((one.cmp(other).is_eq(), joined.is_empty()), (one == other, one.is_root() && other.is_root()));
+        }
+        let last = one.parts().last().cloned();
+        assert_eq!(
+            one.parent().zip(last).map(|(parent, last)| parent.push(last)),
+            (!one.is_root()).then(|| one.clone())
+        );
+        assert_eq!(one.to_string(), one.iter().map(Field::to_string).collect::<Vec<_>>().join("."));
+    }
+    assert_eq!(field_path!("a", [], "b c", []), path("a.[].\"b c\".[]"));
+    assert_eq!((field_path!(a.b), field_path!([]), field_path!("a",)), (path("a.b"), path("[]"), path("a")));
+    assert_eq!((FieldPath::try_from("a.b"), field_path!()), (Ok(path("a.b")), FieldPath::root()));
+}
+
+#[test]
+fn names_of_primitive_types_and_kinds() {
+    for ptype in PType::ALL {
+        assert_eq!((ptype.to_string().parse(), PType::try_from(&*ptype.to_string())), (Ok(ptype), Ok(ptype)));
+        assert_eq!(dtype(&ptype.to_string()), ptype.into());
+    }
+    for kind in Kind::ALL {
+        assert_eq!((kind.to_string().parse(), Kind::try_from(&*kind.to_string())), (Ok(kind), Ok(kind)));
+    }
+    let kinds = ["null", "i8", "list(i8)", "{}", "x.a[0x](i8)"].map(|it| dtype(it).kind().to_string());
+    assert_eq!(kinds, ["null", "primitive", "list", "struct", "extension"]);
+    for text in ["", "u", "u88", "U8", " u8", "lists"] {
+        assert_eq!((text.parse::<PType>().is_err(), text.parse::<Kind>().is_err()), (true, true), "{text}");
+    }
+    assert_eq!((format!("{:>4}", PType::U8), format!("{:5}", Kind::Map)), ("  u8".into(), "map  ".into()));
+}
+
+#[test]
+fn masks_and_messages_are_keys() {
+    let masks = ["a", "a.[]", "a"].map(path);
+    let masks = masks.iter().flat_map(|it| [FieldMask::exact(it), FieldMask::prefix(it), FieldMask::all()]);
+    assert_eq!(masks.collect::<HashSet<_>>().len(), 5);
+    let messages = ["i32", "i32?", "{a=i32}", "i32"].map(|it| dtype(it).to_proto());
+    assert_eq!(messages.iter().collect::<HashSet<_>>().len(), 3);
+    assert_eq!(Message::try_from("utf8 {}"), Ok(dtype("utf8").to_proto()));
+}
+
+#[test]
 fn sets() {
     let mut it = set(&["a.b", "x", "a", "a.[].c", "a"]);
     assert_eq!(

@@ -2,8 +2,8 @@
 // SPDX-FileCopyrightText: Copyright the Vortex contributors
 
 //! Finds the proved library, which this package only calls: the file or the folder that `VORTEX_LOGICAL_TYPES_LIB`
-//! names, else `native/` in this package, else where `rt lib` writes it in the repository. The library of a release calls
-//! its heap by names of its own, which `src/ffi/heap.rs` then has.
+//! names, else `native/` in this package, else where `rt lib` writes it in the repository. Without the library, only the
+//! documentation can be built. The library of a release calls its heap by names of its own, which `src/ffi/heap.rs` then has.
 use std::path::{Path, PathBuf};
 use std::{env, fs};
 
@@ -14,10 +14,13 @@ const RENAMED: &[u8] = b"\0vortex_logical_types_alloc\0";
 
 fn main() {
     println!("cargo::rerun-if-env-changed={SETTING}");
-    println!("cargo::rustc-check-cfg=cfg(renamed_heap)");
+    println!("cargo::rustc-check-cfg=cfg(renamed_heap, without_library)");
     let target = env::var("TARGET").unwrap_or_default();
-    if !target.starts_with("x86_64-") || !target.contains("-linux-") {
-        println!("cargo::error=the library is built for Linux on x86-64 alone, and the target is {target}");
+    if !target.starts_with("x86_64-") || !target.ends_with("-linux-gnu") {
+        println!(
+            "cargo::error=the library of this package is built only for Linux on x86-64 with the GNU C library \
+             (x86_64-unknown-linux-gnu), and the target is {target}"
+        );
         return;
     }
     match archive() {
@@ -30,10 +33,14 @@ fn main() {
                 println!("cargo::rustc-cfg=renamed_heap");
             }
         }
-        Err(looked_for) => println!(
-            "cargo::error=there is no {ARCHIVE} ({looked_for}): take the package of a release, which has it in native/, \
-             or run `rt lib` in crates/vortex_logical_types of the repository, or set {SETTING} to its path"
-        ),
+        Err(looked_for) => {
+            println!("cargo::rustc-cfg=without_library");
+            println!(
+                "cargo::rustc-env=WITHOUT_LIBRARY=there is no {ARCHIVE} ({looked_for}): take the package of a release, which \
+                 has it in native/, or run `rt lib` in crates/vortex_logical_types of the repository, or set {SETTING} to \
+                 its path"
+            );
+        }
     }
 }
 

@@ -85,6 +85,7 @@ impl DType {
     }
 
     /// Returns the null type.
+    #[must_use]
     pub fn null() -> DType {
         or_abort(DType::try_null())
     }
@@ -95,6 +96,7 @@ impl DType {
     }
 
     /// Returns the type of booleans.
+    #[must_use]
     pub fn bool(nullability: Nullability) -> DType {
         or_abort(DType::try_bool(nullability))
     }
@@ -105,6 +107,7 @@ impl DType {
     }
 
     /// Returns a primitive type.
+    #[must_use]
     pub fn primitive(ptype: PType, nullability: Nullability) -> DType {
         or_abort(DType::try_primitive(ptype, nullability))
     }
@@ -124,6 +127,7 @@ impl DType {
     }
 
     /// Returns the type of UTF-8 strings.
+    #[must_use]
     pub fn utf8(nullability: Nullability) -> DType {
         or_abort(DType::try_utf8(nullability))
     }
@@ -134,6 +138,7 @@ impl DType {
     }
 
     /// Returns the type of byte strings.
+    #[must_use]
     pub fn binary(nullability: Nullability) -> DType {
         or_abort(DType::try_binary(nullability))
     }
@@ -144,6 +149,7 @@ impl DType {
     }
 
     /// Returns the type of variants.
+    #[must_use]
     pub fn variant(nullability: Nullability) -> DType {
         or_abort(DType::try_variant(nullability))
     }
@@ -241,21 +247,25 @@ impl DType {
     }
 
     /// Returns which kind of type it is.
+    #[must_use]
     pub fn kind(&self) -> Kind {
         self.whole.kind
     }
 
     /// Returns whether values may be null.
+    #[must_use]
     pub fn is_nullable(&self) -> bool {
         self.nullability().is_nullable()
     }
 
     /// Returns whether values may be null.
+    #[must_use]
     pub fn nullability(&self) -> Nullability {
         self.whole.nullability
     }
 
     /// Returns whether the type can be made non-nullable. This is true of all types except null and extensions over null.
+    #[must_use]
     pub fn can_be_nonnullable(&self) -> bool {
         holds(ffi::dtype_can_be_nonnullable(self.slot()))
     }
@@ -272,6 +282,7 @@ impl DType {
     }
 
     /// Returns the type as a nullable one.
+    #[must_use]
     pub fn as_nullable(&self) -> DType {
         or_abort(self.try_as_nullable())
     }
@@ -290,6 +301,7 @@ impl DType {
     }
 
     /// Returns the type, which is nullable if it was nullable or if `nullability` is [`Nullability::Nullable`].
+    #[must_use]
     pub fn union_nullability(&self, nullability: Nullability) -> DType {
         or_abort(self.try_union_nullability(nullability))
     }
@@ -305,6 +317,7 @@ impl DType {
     }
 
     /// Returns whether the two types are equal except for nullability, at every depth.
+    #[must_use]
     pub fn eq_ignore_nullability(&self, other: &DType) -> bool {
         self.is(other) || holds(ffi::dtype_eq_ignore_nullability(self.slot(), other.slot()))
     }
@@ -316,11 +329,13 @@ impl DType {
 
     /// Returns whether this type is a subset of `other`: the two are equal except for nullability, and `other` is nullable
     /// wherever this type is.
+    #[must_use]
     pub fn eq_with_nullability_subset(&self, other: &DType) -> bool {
         self.is(other) || holds(ffi::dtype_nullability_subset(self.slot(), other.slot()))
     }
 
     /// Returns whether `other` is a subset of this type, as [`DType::eq_with_nullability_subset`] defines it.
+    #[must_use]
     pub fn eq_with_nullability_superset(&self, other: &DType) -> bool {
         self.is(other) || holds(ffi::dtype_nullability_superset(self.slot(), other.slot()))
     }
@@ -338,6 +353,7 @@ impl DType {
     /// assert_eq!(one.merge_nullability(&one), Some(one.clone()));
     /// # Ok::<(), vortex_logical_types::Error>(())
     /// ```
+    #[must_use]
     pub fn merge_nullability(&self, other: &DType) -> Option<DType> {
         or_abort(self.try_merge_nullability(other))
     }
@@ -350,6 +366,7 @@ impl DType {
     /// Returns the greatest type that is a subset of both types, as [`DType::eq_with_nullability_subset`] defines it, or
     /// `None` if the two differ in more than nullability. It is nullable only where both are. For example, it is `i32` for
     /// `i32` and `i32?`.
+    #[must_use]
     pub fn intersect_nullability(&self, other: &DType) -> Option<DType> {
         or_abort(self.try_intersect_nullability(other))
     }
@@ -373,6 +390,7 @@ impl DType {
     /// Returns the part of the type that a reader of the paths opens, or `None` if no path of the set exists in the type.
     /// The fields of the part are in the order of this type. For example, the part of `{a=i32, b={c=u8, d=u8}}` for the
     /// path `b.c` is `{b={c=u8}}`.
+    #[must_use]
     pub fn project_paths(&self, set: &FieldPathSet) -> Option<DType> {
         or_abort(self.try_project_paths(set))
     }
@@ -383,91 +401,109 @@ impl DType {
     }
 
     /// Returns whether it is the type of booleans.
+    #[must_use]
     pub fn is_boolean(&self) -> bool {
         self.kind() == Kind::Bool
     }
 
     /// Returns whether it is a primitive type.
+    #[must_use]
     pub fn is_primitive(&self) -> bool {
         self.kind() == Kind::Primitive
     }
 
     /// Returns whether it is the type of an unsigned integer.
+    #[must_use]
     pub fn is_unsigned_int(&self) -> bool {
         self.as_ptype_opt().is_some_and(PType::is_unsigned_int)
     }
 
     /// Returns whether it is the type of a signed integer.
+    #[must_use]
     pub fn is_signed_int(&self) -> bool {
         self.as_ptype_opt().is_some_and(PType::is_signed_int)
     }
 
     /// Returns whether it is the type of an integer.
+    #[must_use]
     pub fn is_int(&self) -> bool {
         self.as_ptype_opt().is_some_and(PType::is_int)
     }
 
     /// Returns whether it is the type of a floating-point number.
+    #[must_use]
     pub fn is_float(&self) -> bool {
         self.as_ptype_opt().is_some_and(PType::is_float)
     }
 
     /// Returns whether it is a decimal type.
+    #[must_use]
     pub fn is_decimal(&self) -> bool {
         self.kind() == Kind::Decimal
     }
 
     /// Returns whether it is the type of UTF-8 strings.
+    #[must_use]
     pub fn is_utf8(&self) -> bool {
         self.kind() == Kind::Utf8
     }
 
     /// Returns whether it is the type of byte strings.
+    #[must_use]
     pub fn is_binary(&self) -> bool {
         self.kind() == Kind::Binary
     }
 
     /// Returns whether it is the type of lists.
+    #[must_use]
     pub fn is_list(&self) -> bool {
         self.kind() == Kind::List
     }
 
     /// Returns whether it is the type of lists of a fixed size.
+    #[must_use]
     pub fn is_fixed_size_list(&self) -> bool {
         self.kind() == Kind::FixedSizeList
     }
 
     /// Returns whether it is the type of maps.
+    #[must_use]
     pub fn is_map(&self) -> bool {
         self.kind() == Kind::Map
     }
 
     /// Returns whether it is a struct.
+    #[must_use]
     pub fn is_struct(&self) -> bool {
         self.kind() == Kind::Struct
     }
 
     /// Returns whether it is a union.
+    #[must_use]
     pub fn is_union(&self) -> bool {
         self.kind() == Kind::Union
     }
 
     /// Returns whether it is the type of variants.
+    #[must_use]
     pub fn is_variant(&self) -> bool {
         self.kind() == Kind::Variant
     }
 
     /// Returns whether it is an extension type.
+    #[must_use]
     pub fn is_extension(&self) -> bool {
         self.kind() == Kind::Extension
     }
 
-    /// Returns the primitive type, if it is one.
+    /// Returns the primitive type, or `None` if the type isn't primitive.
+    #[must_use]
     pub fn as_ptype_opt(&self) -> Option<PType> {
         or_abort(value(|ptype| ffi::dtype_ptype(self.slot(), ptype))).map(PType::of)
     }
 
-    /// Returns the precision and the scale of a decimal type.
+    /// Returns the precision and the scale of a decimal type, or `None` for every other type.
+    #[must_use]
     pub fn as_decimal_opt(&self) -> Option<DecimalDType> {
         let mut decimal = DecimalDType { precision: 0, scale: 0 };
         holds(ffi::dtype_decimal_parts(self.slot(), &mut decimal.precision, &mut decimal.scale)).then_some(decimal)
@@ -482,16 +518,19 @@ impl DType {
     /// assert_eq!(innermost, Some(&"i32?".parse()?));
     /// # Ok::<(), vortex_logical_types::Error>(())
     /// ```
+    #[must_use]
     pub fn as_list_element_opt(&self) -> Option<&DType> {
         if self.is_list() { self.as_any_size_list_element_opt() } else { None }
     }
 
     /// Returns the element type of a list of a fixed size. Returns `None` for every other type.
+    #[must_use]
     pub fn as_fixed_size_list_element_opt(&self) -> Option<&DType> {
         if self.is_fixed_size_list() { self.as_any_size_list_element_opt() } else { None }
     }
 
     /// Returns the element type of a list, of a fixed size or not. Returns `None` for every other type.
+    #[must_use]
     pub fn as_any_size_list_element_opt(&self) -> Option<&DType> {
         or_abort(self.try_as_any_size_list_element_opt())
     }
@@ -504,27 +543,32 @@ impl DType {
         self.parts()?.first(|out| ffi::dtype_element(self.slot(), out)).map(Some)
     }
 
-    /// Returns how many elements the lists of a fixed size have.
+    /// Returns how many elements the lists of a fixed size have, or `None` if the type isn't that of such lists.
+    #[must_use]
     pub fn as_fixed_size_opt(&self) -> Option<u32> {
         or_abort(value(|size| ffi::dtype_fixed_size(self.slot(), size)))
     }
 
-    /// Returns the key and value types, if it is the type of maps.
+    /// Returns a view of the key and value types of a map, or `None` for every other type.
+    #[must_use]
     pub fn as_map_opt(&self) -> Option<MapDType<'_>> {
         self.is_map().then_some(MapDType { dtype: self })
     }
 
-    /// Returns the fields, if it is a struct.
+    /// Returns a view of the fields of a struct, or `None` for every other type.
+    #[must_use]
     pub fn as_struct_fields_opt(&self) -> Option<StructFields<'_>> {
         self.is_struct().then_some(StructFields { dtype: self })
     }
 
-    /// Returns the variants, if it is a union.
+    /// Returns a view of the variants of a union, or `None` for every other type.
+    #[must_use]
     pub fn as_union_variants_opt(&self) -> Option<UnionVariants<'_>> {
         self.is_union().then_some(UnionVariants { dtype: self })
     }
 
-    /// Returns the id, the metadata and the storage type, if it is an extension type.
+    /// Returns a view of the id, the metadata and the storage type of an extension, or `None` for every other type.
+    #[must_use]
     pub fn as_extension_opt(&self) -> Option<ExtDTypeRef<'_>> {
         self.is_extension().then_some(ExtDTypeRef { dtype: self })
     }
@@ -548,6 +592,7 @@ impl DType {
     /// assert_eq!(dtype.to_string(), "{a, b=null}?");
     /// # Ok::<(), vortex_logical_types::Error>(())
     /// ```
+    #[must_use]
     pub fn to_source(&self) -> String {
         or_abort(self.try_to_source())
     }

@@ -36,6 +36,7 @@ pub struct LibraryError {
 
 impl LibraryError {
     /// Returns the error's number, from 1 to 36, as in the table of errors in `docs/GUIDE.md` of the repository.
+    #[must_use]
     pub fn number(&self) -> u8 {
         self.number
     }
@@ -43,6 +44,7 @@ impl LibraryError {
 
 impl Error {
     /// Returns the number that the C interface returns for the error, such as 100 for [`Error::OutOfMemory`].
+    #[must_use]
     pub fn code(&self) -> u32 {
         match self {
             Error::OutOfMemory => ffi::LIBRARY,

@@ -126,6 +126,24 @@
 //! - A child that `fork` makes of a process with several threads must not call this package before `exec`, because another
 //!   thread may have held the lock.
 //!
+//! # With serde
+//!
+//! This package depends on no other. To serialize a type as its text, put these lines into your program and write
+//! `#[serde(with = "dtype_text")]` above a field of the type [`DType`]. For a [`FieldPath`] they are the same:
+//!
+//! ```ignore
+//! mod dtype_text {
+//!     pub fn serialize<S: serde::Serializer>(dtype: &super::DType, to: S) -> Result<S::Ok, S::Error> {
+//!         to.serialize_str(&dtype.to_source())
+//!     }
+//!
+//!     pub fn deserialize<'de, D: serde::Deserializer<'de>>(from: D) -> Result<super::DType, D::Error> {
+//!         let text: String = serde::Deserialize::deserialize(from)?;
+//!         text.parse().map_err(serde::de::Error::custom)
+//!     }
+//! }
+//! ```
+//!
 //! # Messages
 //!
 //! [`Message`] is the protobuf message of a type. This package doesn't read or write the bytes of protobuf. If your
@@ -133,6 +151,9 @@
 //! both to [`Message::from_nodes`]. Then [`DType::from_proto`] returns the type that the message describes, or an error
 //! that says what is wrong with the message.
 #![deny(unsafe_code, missing_docs, missing_debug_implementations)]
+
+#[cfg(all(without_library, not(doc)))]
+compile_error!(env!("WITHOUT_LIBRARY"));
 
 pub use console::answer;
 pub use dtype::DType;

@@ -45,6 +45,7 @@ impl FieldMask {
     }
 
     /// Returns the mask that all paths match.
+    #[must_use]
     pub fn all() -> FieldMask {
         or_abort(FieldMask::try_all())
     }
@@ -55,6 +56,7 @@ impl FieldMask {
     }
 
     /// Returns the mask that selects `path` and every path that begins with `path`.
+    #[must_use]
     pub fn prefix(path: &FieldPath) -> FieldMask {
         or_abort(FieldMask::try_prefix(path))
     }
@@ -65,6 +67,7 @@ impl FieldMask {
     }
 
     /// Returns the mask that this path alone matches.
+    #[must_use]
     pub fn exact(path: &FieldPath) -> FieldMask {
         or_abort(FieldMask::try_exact(path))
     }
@@ -75,6 +78,7 @@ impl FieldMask {
     }
 
     /// Returns which form it has.
+    #[must_use]
     pub fn kind(&self) -> MaskKind {
         match plain(|kind: &mut u32| ffi::mask_kind(&self.slot, kind)) {
             0 => MaskKind::All,
@@ -85,6 +89,7 @@ impl FieldMask {
 
     /// Returns the path of the mask, or `None` if its kind is [`MaskKind::All`], because such a mask has no path. For the
     /// prefix of the root the call returns the root, although all paths match that mask too.
+    #[must_use]
     pub fn path(&self) -> Option<FieldPath> {
         or_abort(self.try_path())
     }
@@ -113,11 +118,13 @@ impl FieldMask {
     }
 
     /// Returns whether all paths match.
+    #[must_use]
     pub fn matches_all(&self) -> bool {
         holds(ffi::mask_matches_all(&self.slot))
     }
 
     /// Returns whether the root matches.
+    #[must_use]
     pub fn matches_root(&self) -> bool {
         holds(ffi::mask_matches_root(&self.slot))
     }

@@ -93,7 +93,9 @@ fn calls() -> usize {
     let path = again(n, || "a.[].b".parse::<FieldPath>());
     assert_eq!(again(n, || path.try_parts()).len(), 3);
     assert_eq!(again(n, || path.try_resolve(&whole)).map(|it| it.kind()), Some(crate::Kind::Primitive));
-    again(n, || path.try_push("x"));
+    again(n, || path.try_push(Field::ElementType));
+    assert_eq!(again(n, || path.try_join(&path)).len(), 6);
+    assert_eq!(again(n, || path.try_parent()).map(|it| it.len()), Some(2));
     again(n, || path.try_step_into());
     again(n, || FieldPath::try_from_name("x"));
     let set = again(n, || FieldPathSet::try_from_iter([&path]));

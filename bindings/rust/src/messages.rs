@@ -137,6 +137,7 @@ impl Message {
     }
 
     /// Returns protobuf's text format of the message, from which [`FromStr`] reads the same message.
+    #[must_use]
     pub fn to_source(&self) -> String {
         or_abort(self.try_to_source())
     }
@@ -159,6 +160,7 @@ impl DType {
     }
 
     /// Returns the message that describes the type.
+    #[must_use]
     pub fn to_proto(&self) -> Message {
         or_abort(self.try_to_proto())
     }

@@ -74,6 +74,7 @@ pub struct StructFields<'a> {
 
 impl<'a> StructFields<'a> {
     /// Returns the number of fields.
+    #[must_use]
     pub fn nfields(&self) -> usize {
         plain(|count| ffi::struct_nfields(self.dtype.slot(), count))
     }
@@ -84,6 +85,7 @@ impl<'a> StructFields<'a> {
     }
 
     /// Returns the name of the field at the position, or `None` if the position isn't below the number of fields.
+    #[must_use]
     pub fn field_name(&self, index: usize) -> Option<&'a str> {
         or_abort(self.try_field_name(index))
     }
@@ -100,11 +102,13 @@ impl<'a> StructFields<'a> {
     }
 
     /// Returns the position of the first field of the name, or `None` if no field has the name.
+    #[must_use]
     pub fn find(&self, name: &str) -> Option<usize> {
         or_abort(value(|index| ffi::struct_find(self.dtype.slot(), name.as_bytes(), index)))
     }
 
     /// Returns the type of the first field of the name, or `None` if no field has the name.
+    #[must_use]
     pub fn field(&self, name: &str) -> Option<&'a DType> {
         or_abort(self.try_field(name))
     }
@@ -118,6 +122,7 @@ impl<'a> StructFields<'a> {
     }
 
     /// Returns the type of the field at the position, or `None` if the position isn't below the number of fields.
+    #[must_use]
     pub fn field_by_index(&self, index: usize) -> Option<&'a DType> {
         or_abort(self.try_field_by_index(index))
     }
@@ -171,6 +176,7 @@ impl<'a> StructFields<'a> {
     }
 
     /// Returns the fields as the library indents them, each on a line of its own.
+    #[must_use]
     pub fn indented(&self) -> String {
         or_abort(self.try_indented())
     }
@@ -202,6 +208,7 @@ pub struct UnionVariants<'a> {
 impl<'a> UnionVariants<'a> {
     /// Returns the number of variants, which isn't 0.
     #[allow(clippy::len_without_is_empty)]
+    #[must_use]
     pub fn len(&self) -> usize {
         plain(|count| ffi::union_len(self.dtype.slot(), count))
     }
@@ -212,6 +219,7 @@ impl<'a> UnionVariants<'a> {
     }
 
     /// Returns the name of the variant at the position, or `None` if the position isn't below the number of variants.
+    #[must_use]
     pub fn variant_name(&self, index: usize) -> Option<&'a str> {
         or_abort(self.try_variant_name(index))
     }
@@ -228,16 +236,19 @@ impl<'a> UnionVariants<'a> {
     }
 
     /// Returns the tags of the variants, in their order.
+    #[must_use]
     pub fn type_ids(&self) -> Vec<u8> {
         (0..self.len()).filter_map(|index| self.child_index_to_tag(index)).collect()
     }
 
     /// Returns the position of the variant of the name, or `None` if no variant has the name.
+    #[must_use]
     pub fn find(&self, name: &str) -> Option<usize> {
         or_abort(value(|index| ffi::union_find(self.dtype.slot(), name.as_bytes(), index)))
     }
 
     /// Returns the type of the variant of the name, or `None` if no variant has the name.
+    #[must_use]
     pub fn variant(&self, name: &str) -> Option<&'a DType> {
         or_abort(self.try_variant(name))
     }
@@ -251,6 +262,7 @@ impl<'a> UnionVariants<'a> {
     }
 
     /// Returns the type of the variant at the position, or `None` if the position isn't below the number of variants.
+    #[must_use]
     pub fn variant_by_index(&self, index: usize) -> Option<&'a DType> {
         or_abort(self.try_variant_by_index(index))
     }
@@ -272,16 +284,19 @@ impl<'a> UnionVariants<'a> {
     }
 
     /// Returns the position of the variant that has the tag, or `None` if no variant has it.
+    #[must_use]
     pub fn tag_to_child_index(&self, tag: u8) -> Option<usize> {
         or_abort(value(|index| ffi::union_tag_to_child_index(self.dtype.slot(), tag, index)))
     }
 
     /// Returns the tag of the variant at the position, or `None` if the position isn't below the number of variants.
+    #[must_use]
     pub fn child_index_to_tag(&self, index: usize) -> Option<u8> {
         or_abort(value(|tag| ffi::union_child_index_to_tag(self.dtype.slot(), index, tag)))
     }
 
     /// Returns whether the tags are 0, 1, 2 and so on, in order.
+    #[must_use]
     pub fn is_consecutive(&self) -> bool {
         holds(ffi::union_is_consecutive(self.dtype.slot()))
     }
@@ -305,6 +320,7 @@ pub struct MapDType<'a> {
 
 impl<'a> MapDType<'a> {
     /// Returns the type of the keys.
+    #[must_use]
     pub fn key_dtype(&self) -> &'a DType {
         or_abort(self.try_key_dtype())
     }
@@ -315,6 +331,7 @@ impl<'a> MapDType<'a> {
     }
 
     /// Returns the type of the values.
+    #[must_use]
     pub fn value_dtype(&self) -> &'a DType {
         or_abort(self.try_value_dtype())
     }
@@ -334,6 +351,7 @@ impl<'a> MapDType<'a> {
     }
 
     /// Returns whether the keys of each map are declared sorted.
+    #[must_use]
     pub fn keys_sorted(&self) -> bool {
         holds(ffi::dtype_keys_sorted(self.dtype.slot()))
     }
@@ -357,6 +375,7 @@ pub struct ExtDTypeRef<'a> {
 
 impl<'a> ExtDTypeRef<'a> {
     /// Returns the id.
+    #[must_use]
     pub fn id(&self) -> &'a str {
         or_abort(self.try_id())
     }
@@ -369,6 +388,7 @@ impl<'a> ExtDTypeRef<'a> {
     }
 
     /// Returns the bytes of the metadata.
+    #[must_use]
     pub fn metadata_bytes(&self) -> &'a [u8] {
         or_abort(self.try_metadata_bytes())
     }
@@ -383,6 +403,7 @@ impl<'a> ExtDTypeRef<'a> {
     }
 
     /// Returns the type in which values are stored.
+    #[must_use]
     pub fn storage_dtype(&self) -> &'a DType {
         or_abort(self.try_storage_dtype())
     }

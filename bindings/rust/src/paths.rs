@@ -24,7 +24,8 @@ pub enum Field {
 }
 
 impl Field {
-    /// Returns the name, if it is one.
+    /// Returns the name, or `None` if it is the step into the element.
+    #[must_use]
     pub fn as_name(&self) -> Option<&str> {
         match self {
             Field::Name(name) => Some(name),
@@ -33,6 +34,7 @@ impl Field {
     }
 
     /// Returns whether it is a name.
+    #[must_use]
     pub fn is_named(&self) -> bool {
         self.as_name().is_some()
     }
@@ -109,6 +111,7 @@ impl FieldPath {
     }
 
     /// Returns the path of no step.
+    #[must_use]
     pub fn root() -> FieldPath {
         or_abort(FieldPath::try_root())
     }
@@ -119,6 +122,7 @@ impl FieldPath {
     }
 
     /// Returns the path of one step, into the field of this name.
+    #[must_use]
     pub fn from_name(name: &str) -> FieldPath {
         or_abort(FieldPath::try_from_name(name))
     }
@@ -129,6 +133,7 @@ impl FieldPath {
     }
 
     /// Returns the path of one step.
+    #[must_use]
     pub fn from_field(field: impl Into<Field>) -> FieldPath {
         or_abort(FieldPath::try_from_iter([field.into()]))
     }
@@ -162,6 +167,7 @@ impl FieldPath {
     }
 
     /// Returns the steps. They are remembered from the first call, which allocates.
+    #[must_use]
     pub fn parts(&self) -> &[Field] {
         or_abort(self.try_parts())
     }
@@ -211,6 +217,7 @@ impl FieldPath {
     /// assert_eq!(field_path!("a", []).parent(), Some(field_path!("a")));
     /// assert_eq!(FieldPath::root().parent(), None);
     /// ```
+    #[must_use]
     pub fn parent(&self) -> Option<FieldPath> {
         or_abort(self.try_parent())
     }
@@ -231,26 +238,31 @@ impl FieldPath {
     /// assert!(field_path!("a", "b").starts_with(&field_path!("a")));
     /// assert!(!field_path!("ab").starts_with(&field_path!("a")));
     /// ```
+    #[must_use]
     pub fn starts_with(&self, other: &FieldPath) -> bool {
         other.len() <= self.len() && self.overlap(other)
     }
 
     /// Returns whether there is no step, as [`FieldPath::is_root`] does.
+    #[must_use]
     pub fn is_empty(&self) -> bool {
         self.len() == 0
     }
 
     /// Returns the number of steps.
+    #[must_use]
     pub fn len(&self) -> usize {
         plain(|count| ffi::path_len(self.slot(), count))
     }
 
     /// Returns whether there is no step.
+    #[must_use]
     pub fn is_root(&self) -> bool {
         self.is_empty()
     }
 
     /// Returns the path with one more step.
+    #[must_use]
     pub fn push(self, field: impl Into<Field>) -> FieldPath {
         or_abort(self.try_push(field))
     }
@@ -272,32 +284,46 @@ impl FieldPath {
         calls::done(ffi::path_starts_with_name(self.slot(), name.as_bytes()))
     }
 
-    /// Returns the path without its first step, if it has one.
+    /// Returns the path without its first step, or `None` for the root, which has no step.
+    #[must_use]
     pub fn step_into(&self) -> Option<FieldPath> {
         or_abort(self.try_step_into())
     }
 
-    /// Returns the path without its first step, if it has one, or [`Error::OutOfMemory`].
+    /// Returns what [`FieldPath::step_into`] returns, or [`Error::OutOfMemory`].
     pub fn try_step_into(&self) -> Result<Option<FieldPath>, Error> {
         found(|out| ffi::path_step_into(self.slot(), out))?.map(FieldPath::of).transpose()
     }
 
-    /// Returns the type at the path, if there is one.
+    /// Returns the type at the path, or `None` if the path doesn't exist in the type. The root leads to the whole type, a name
+    /// to the first field of this name in a struct, and the element to the element type of a list. Nullability on the way
+    /// changes nothing.
+    ///
+    /// ```
+    /// # use vortex_logical_types::{DType, field_path};
+    /// let orders: DType = "{lines=list({sku=utf8}?)?}".parse()?;
+    /// assert_eq!(field_path!("lines", [], "sku").resolve(&orders), Some("utf8".parse()?));
+    /// assert_eq!(field_path!("lines", "sku").resolve(&orders), None);
+    /// # Ok::<(), vortex_logical_types::Error>(())
+    /// ```
+    #[must_use]
     pub fn resolve(&self, dtype: &DType) -> Option<DType> {
         or_abort(self.try_resolve(dtype))
     }
 
-    /// Returns the type at the path, if there is one, or [`Error::OutOfMemory`].
+    /// Returns what [`FieldPath::resolve`] returns, or [`Error::OutOfMemory`].
     pub fn try_resolve(&self, dtype: &DType) -> Result<Option<DType>, Error> {
         DType::of_found(found(|out| ffi::path_resolve(dtype.slot(), self.slot(), out))?)
     }
 
     /// Returns whether there is a type at the path.
+    #[must_use]
     pub fn exists_in(&self, dtype: &DType) -> bool {
         holds(ffi::path_exists_in(dtype.slot(), self.slot()))
     }
 
     /// Returns whether one of the paths is a prefix of the other.
+    #[must_use]
     pub fn overlap(&self, other: &FieldPath) -> bool {
         self.whole.is(&other.whole) || holds(ffi::path_overlap(self.slot(), other.slot()))
     }
@@ -308,6 +334,7 @@ impl FieldPath {
     }
 
     /// Returns the console's text of the path, from which [`FromStr`] reads the same path: `a.[].b`, or `.` for the root.
+    #[must_use]
     pub fn to_source(&self) -> String {
         or_abort(self.try_to_source())
     }

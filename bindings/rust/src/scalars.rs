@@ -19,6 +19,7 @@ pub enum Nullability {
 
 impl Nullability {
     /// Returns whether values may be null.
+    #[must_use]
     pub fn is_nullable(&self) -> bool {
         *self == Nullability::Nullable
     }
@@ -92,6 +93,7 @@ impl PType {
     ];
 
     /// Returns the number that a message has for it, 0 to 10.
+    #[must_use]
     pub fn number(&self) -> u32 {
         *self as u32
     }
@@ -101,26 +103,31 @@ impl PType {
     }
 
     /// Returns whether it is an unsigned integer.
+    #[must_use]
     pub fn is_unsigned_int(self) -> bool {
         self <= PType::U64
     }
 
     /// Returns whether it is a signed integer.
+    #[must_use]
     pub fn is_signed_int(self) -> bool {
         (PType::I8..=PType::I64).contains(&self)
     }
 
     /// Returns whether it is an integer.
+    #[must_use]
     pub fn is_int(self) -> bool {
         self <= PType::I64
     }
 
     /// Returns whether it is a floating-point number.
+    #[must_use]
     pub fn is_float(self) -> bool {
         self >= PType::F16
     }
 
     /// Returns how many bytes a value takes.
+    #[must_use]
     pub fn byte_width(&self) -> usize {
         match self {
             PType::U8 | PType::I8 => 1,
@@ -131,6 +138,7 @@ impl PType {
     }
 
     /// Returns how many bits a value takes.
+    #[must_use]
     pub fn bit_width(&self) -> usize {
         self.byte_width() * 8
     }
@@ -201,12 +209,14 @@ pub struct DecimalDType {
 
 impl DecimalDType {
     /// Returns the greatest number of digits, from 1 to 76.
+    #[must_use]
     pub fn precision(&self) -> u8 {
         self.precision
     }
 
     /// Returns the number of digits behind the point. If it is negative, the value is a multiple of a power of ten. For
     /// example, with the scale -2 it is a multiple of 100.
+    #[must_use]
     pub fn scale(&self) -> i8 {
         self.scale
     }

@@ -62,6 +62,7 @@ pub struct Below {
 
 impl FieldPathSet {
     /// Returns the empty set.
+    #[must_use]
     pub fn new() -> FieldPathSet {
         or_abort(FieldPathSet::try_new())
     }
@@ -100,11 +101,13 @@ impl FieldPathSet {
     }
 
     /// Returns whether the path is in the set.
+    #[must_use]
     pub fn contains(&self, path: &FieldPath) -> bool {
         holds(ffi::set_contains(&self.slot, path.slot()))
     }
 
     /// Returns the number of paths in the set. The library makes a list of the paths to count them, so this allocates.
+    #[must_use]
     pub fn len(&self) -> usize {
         or_abort(self.try_len())
     }
@@ -115,6 +118,7 @@ impl FieldPathSet {
     }
 
     /// Returns whether no path is in the set.
+    #[must_use]
     pub fn is_empty(&self) -> bool {
         self.len() == 0
     }
@@ -150,6 +154,7 @@ impl FieldPathSet {
     /// assert!(few.is_disjoint(&FieldPathSet::parse(["a.b"])?));
     /// # Ok::<(), vortex_logical_types::Error>(())
     /// ```
+    #[must_use]
     pub fn is_subset(&self, other: &FieldPathSet) -> bool {
         or_abort(self.try_is_subset(other))
     }
@@ -160,11 +165,13 @@ impl FieldPathSet {
     }
 
     /// Returns whether each path of `other` is in this set.
+    #[must_use]
     pub fn is_superset(&self, other: &FieldPathSet) -> bool {
         other.is_subset(self)
     }
 
     /// Returns whether no path is in both sets.
+    #[must_use]
     pub fn is_disjoint(&self, other: &FieldPathSet) -> bool {
         or_abort(self.try_is_disjoint(other))
     }
@@ -194,6 +201,7 @@ impl FieldPathSet {
     /// assert_eq!(&one | &other, FieldPathSet::parse(["a", "b", "c"])?);
     /// # Ok::<(), vortex_logical_types::Error>(())
     /// ```
+    #[must_use]
     pub fn union(&self, other: &FieldPathSet) -> FieldPathSet {
         or_abort(self.try_union(other))
     }
@@ -206,6 +214,7 @@ impl FieldPathSet {
     }
 
     /// Returns the paths of the set, each once, in no promised order.
+    #[must_use]
     pub fn iter(&self) -> Paths {
         or_abort(self.try_iter())
     }
@@ -217,6 +226,7 @@ impl FieldPathSet {
 
     /// Returns the cover, in no promised order: those paths of the set of which no other path of the set is a prefix. For
     /// example, the cover of `a.b`, `x` and `a` is `a` and `x`.
+    #[must_use]
     pub fn cover(&self) -> Paths {
         or_abort(self.try_cover())
     }
@@ -227,6 +237,7 @@ impl FieldPathSet {
     }
 
     /// Returns the cover, as [`FieldPathSet::cover`] does, of a set that isn't used any more.
+    #[must_use]
     pub fn into_cover(self) -> Paths {
         self.cover()
     }
@@ -234,11 +245,13 @@ impl FieldPathSet {
     /// Returns the cover, which is fewer paths than the set has.
     #[deprecated(note = "call `into_cover` for the paths of the cover, and `iter` for all paths of the set")]
     #[allow(clippy::should_implement_trait)]
+    #[must_use]
     pub fn into_iter(self) -> Paths {
         self.cover()
     }
 
     /// Returns the paths of the set that don't exist in the type, in no promised order.
+    #[must_use]
     pub fn unresolved(&self, dtype: &DType) -> Paths {
         or_abort(self.try_unresolved(dtype))
     }
@@ -260,6 +273,7 @@ impl FieldPathSet {
     /// assert_eq!(set.below(&FieldPath::from_name("b")), None);
     /// # Ok::<(), vortex_logical_types::Error>(())
     /// ```
+    #[must_use]
     pub fn below(&self, path: &FieldPath) -> Option<Below> {
         let mut below = Below { is_end: false, has_element: false, name_count: 0 };
         let Below { is_end, has_element, name_count } = &mut below;
@@ -268,6 +282,7 @@ impl FieldPathSet {
 
     /// Returns the names with which paths of the set continue after this path, or `None` if it is a prefix of no path of the
     /// set.
+    #[must_use]
     pub fn names_below(&self, path: &FieldPath) -> Option<Vec<String>> {
         or_abort(self.try_names_below(path))
     }

@@ -58,6 +58,7 @@ pub enum View<'a> {
 
 impl DType {
     /// Returns what the type is, with its parts by reference, so that one can match it.
+    #[must_use]
     pub fn view(&self) -> View<'_> {
         or_abort(self.try_view())
     }

@@ -38,19 +38,19 @@ pub fn of_struct(round: &mut Round, it: &Pair, other: &Pair) {
     };
     same! { round, it.text();
         "nfields": ours.nfields(), theirs.nfields();
-        "names": ours.names().collect::<Vec<_>>(), theirs.names().iter().map(Exactly::to_string_exactly).collect();
-        "fields": ours.fields().map(|it| Shape::of_ours(&it)).collect::<Vec<_>>(),
+        "names": ours.names().map(str::to_owned).collect::<Vec<_>>(), theirs.names().iter().map(Exactly::to_string_exactly).collect();
+        "fields": ours.fields().map(Shape::of_ours).collect::<Vec<_>>(),
             theirs.fields().map(|it| Shape::of_theirs(&it)).collect();
         "indented": ours.indented(), format!("{theirs:#}");
     }
-    let names: Vec<String> = ours.names().collect();
+    let names: Vec<String> = ours.names().map(str::to_owned).collect();
     for _ in 0..LOOKUPS {
         let (at, name) = (position(round, names.len()), sought(round, &names, 4));
         same! { round, format!("{at} and {name:?} of {}", it.text());
-            "field_name": ours.field_name(at), theirs.field_name(at).map(Exactly::to_string_exactly);
-            "field_by_index": ours_found(ours.field_by_index(at)), theirs_found(theirs.field_by_index(at));
+            "field_name": ours.field_name(at).map(str::to_owned), theirs.field_name(at).map(Exactly::to_string_exactly);
+            "field_by_index": ours_found(ours.field_by_index(at).cloned()), theirs_found(theirs.field_by_index(at));
             "find": ours.find(&name), theirs.find(&name);
-            "field": ours_found(ours.field(&name)), theirs_found(theirs.field(&name));
+            "field": ours_found(ours.field(&name).cloned()), theirs_found(theirs.field(&name));
         }
     }
     let n = it.theirs.nullability();
@@ -89,22 +89,22 @@ pub fn of_union(round: &mut Round, it: &Pair) {
     };
     same! { round, it.text();
         "UnionVariants::len": ours.len(), theirs.len();
-        "UnionVariants::names": ours.names().collect::<Vec<_>>(),
+        "UnionVariants::names": ours.names().map(str::to_owned).collect::<Vec<_>>(),
             theirs.names().iter().map(Exactly::to_string_exactly).collect();
         "type_ids": ours.type_ids(), theirs.type_ids().to_vec();
         "is_consecutive": ours.is_consecutive(), theirs.is_consecutive();
-        "variants": ours.variants().map(|it| Shape::of_ours(&it)).collect::<Vec<_>>(),
+        "variants": ours.variants().map(Shape::of_ours).collect::<Vec<_>>(),
             theirs.variants().map(|it| Shape::of_theirs(&it)).collect();
     }
-    let names: Vec<String> = ours.names().collect();
+    let names: Vec<String> = ours.names().map(str::to_owned).collect();
     for _ in 0..LOOKUPS {
         let (at, name) = (position(round, names.len()), sought(round, &names, 4));
         let tag = if round.random.bool() { *round.random.pick(&ours.type_ids()) } else { round.random.number() as u8 };
         same! { round, format!("{at}, {name:?} and tag {tag} of {}", it.text());
-            "variant_name": ours.variant_name(at), theirs.names().get(at).map(Exactly::to_string_exactly);
-            "variant_by_index": ours_found(ours.variant_by_index(at)), theirs_found(theirs.variant_by_index(at));
+            "variant_name": ours.variant_name(at).map(str::to_owned), theirs.names().get(at).map(Exactly::to_string_exactly);
+            "variant_by_index": ours_found(ours.variant_by_index(at).cloned()), theirs_found(theirs.variant_by_index(at));
             "UnionVariants::find": ours.find(&name), theirs.find(&name);
-            "variant": ours_found(ours.variant(&name)), theirs_found(theirs.variant(&name));
+            "variant": ours_found(ours.variant(&name).cloned()), theirs_found(theirs.variant(&name));
             "tag_to_child_index": ours.tag_to_child_index(tag), theirs.tag_to_child_index(tag);
             "child_index_to_tag": ours.child_index_to_tag(at), tag_at(theirs, at);
         }
@@ -122,8 +122,8 @@ pub fn of_map(round: &mut Round, it: &Pair) {
         return;
     };
     same! { round, it.text();
-        "key_dtype": Shape::of_ours(&ours.key_dtype()), Shape::of_theirs(&theirs.key_dtype());
-        "value_dtype": Shape::of_ours(&ours.value_dtype()), Shape::of_theirs(&theirs.value_dtype());
+        "key_dtype": Shape::of_ours(ours.key_dtype()), Shape::of_theirs(&theirs.key_dtype());
+        "value_dtype": Shape::of_ours(ours.value_dtype()), Shape::of_theirs(&theirs.value_dtype());
         "entries_dtype": ours_made(ours.entries_dtype()), Ok(Shape::of_theirs(&theirs.entries_dtype()));
         "keys_sorted": ours.keys_sorted(), theirs.keys_sorted();
     }
@@ -135,8 +135,8 @@ pub fn of_extension(round: &mut Round, it: &Pair) {
         return;
     };
     same! { round, it.text();
-        "id": ours.id(), theirs.id().as_ref().to_owned();
-        "metadata_bytes": ours.metadata_bytes(), theirs.serialize_metadata().expect("metadata");
-        "storage_dtype": Shape::of_ours(&ours.storage_dtype()), Shape::of_theirs(theirs.storage_dtype());
+        "id": ours.id().to_owned(), theirs.id().as_ref().to_owned();
+        "metadata_bytes": ours.metadata_bytes().to_vec(), theirs.serialize_metadata().expect("metadata");
+        "storage_dtype": Shape::of_ours(ours.storage_dtype()), Shape::of_theirs(theirs.storage_dtype());
     }
 }

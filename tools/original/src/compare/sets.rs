@@ -43,7 +43,7 @@ pub fn of_type(round: &mut Round, it: &Pair) {
         "FieldPathSet::len": sets.ours.len(), sets.theirs.iter().count();
         "FieldPathSet::is_empty": sets.ours.is_empty(), sets.theirs.iter().next().is_none();
         "cover": sorted_ours(sets.ours.cover()), sorted_theirs(&sets.theirs.clone().into_iter().collect::<Vec<_>>());
-        "FieldPathSet::into_iter": sorted_ours(sets.ours.clone()),
+        "FieldPathSet::into_cover": sorted_ours(sets.ours.clone().into_cover()),
             sorted_theirs(&sets.theirs.clone().into_iter().collect::<Vec<_>>());
     }
     for _ in 0..3 {

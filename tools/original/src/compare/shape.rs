@@ -132,7 +132,7 @@ impl Shape {
     /// What a type of this library is.
     pub fn of_ours(dtype: &ours::DType) -> Shape {
         let n = dtype.is_nullable();
-        let boxed = |it: Option<ours::DType>| Box::new(Shape::of_ours(&it.expect("an element")));
+        let boxed = |it: Option<&ours::DType>| Box::new(Shape::of_ours(it.expect("an element")));
         match dtype.kind() {
             Kind::Null => Null,
             Kind::Bool => Bool(n),
@@ -152,20 +152,20 @@ impl Shape {
             Kind::Map => {
                 let map = dtype.as_map_opt().expect("a map");
                 let parts = [map.key_dtype(), map.value_dtype()];
-                Map(Box::new(parts.each_ref().map(Shape::of_ours)), map.keys_sorted(), n)
+                Map(Box::new(parts.map(Shape::of_ours)), map.keys_sorted(), n)
             }
             Kind::Struct => {
                 let fields = dtype.as_struct_fields_opt().expect("a struct");
-                Struct(fields.names().zip(fields.fields().map(|it| Shape::of_ours(&it))).collect(), n)
+                Struct(fields.iter().map(|(name, it)| (name.to_owned(), Shape::of_ours(it))).collect(), n)
             }
             Kind::Union => {
                 let union = dtype.as_union_variants_opt().expect("a union");
                 let tagged = union.names().zip(union.type_ids()).zip(union.variants());
-                Union(tagged.map(|((name, tag), it)| (name, tag, Shape::of_ours(&it))).collect(), n)
+                Union(tagged.map(|((name, tag), it)| (name.to_owned(), tag, Shape::of_ours(it))).collect(), n)
             }
             Kind::Extension => {
                 let it = dtype.as_extension_opt().expect("an extension");
-                Extension(it.id(), it.metadata_bytes(), Box::new(Shape::of_ours(&it.storage_dtype())))
+                Extension(it.id().to_owned(), it.metadata_bytes().to_vec(), Box::new(Shape::of_ours(it.storage_dtype())))
             }
         }
     }

@@ -30,10 +30,10 @@ pub fn of_one(round: &mut Round, it: &Pair) {
         "DType::clone": Shape::of_ours(&it.ours.clone()), Shape::of_theirs(&it.theirs.clone());
         "element_size": it.ours.element_size().map_err(|error| error.code()),
             models::element_size(&it.theirs).map_err(code_of);
-        "as_list_element_opt": ours_found(it.ours.as_list_element_opt()), theirs_element(it.theirs.as_list_element_opt());
-        "as_fixed_size_list_element_opt": ours_found(it.ours.as_fixed_size_list_element_opt()),
+        "as_list_element_opt": ours_found(it.ours.as_list_element_opt().cloned()), theirs_element(it.theirs.as_list_element_opt());
+        "as_fixed_size_list_element_opt": ours_found(it.ours.as_fixed_size_list_element_opt().cloned()),
             theirs_element(it.theirs.as_fixed_size_list_element_opt());
-        "as_any_size_list_element_opt": ours_found(it.ours.as_any_size_list_element_opt()),
+        "as_any_size_list_element_opt": ours_found(it.ours.as_any_size_list_element_opt().cloned()),
             theirs_element(it.theirs.as_any_size_list_element_opt());
     }
 }

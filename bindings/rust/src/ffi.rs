@@ -685,7 +685,7 @@ pub(crate) fn dtype_ptype(dtype: &Slot, number: &mut u32) -> u32 {
 
 /// Writes the id of an extension to `buffer`. Returns 1 if the type isn't an extension.
 pub(crate) fn dtype_id(dtype: &Slot, buffer: &mut [u8], length: &mut usize) -> u32 {
-    let _lock = lock();
+    // Only reads, so it takes no lock.
     let mut lent_dtype = dtype.lent();
     // SAFETY: see the head of this file.
     let result = unsafe { vlt_dtype_id(&mut lent_dtype, buffer.as_mut_ptr(), buffer.len(), length) };
@@ -695,7 +695,7 @@ pub(crate) fn dtype_id(dtype: &Slot, buffer: &mut [u8], length: &mut usize) -> u
 
 /// Writes the metadata of an extension to `buffer`. Returns 1 if the type isn't an extension.
 pub(crate) fn dtype_metadata(dtype: &Slot, buffer: &mut [u8], length: &mut usize) -> u32 {
-    let _lock = lock();
+    // Only reads, so it takes no lock.
     let mut lent_dtype = dtype.lent();
     // SAFETY: see the head of this file.
     let result = unsafe { vlt_dtype_metadata(&mut lent_dtype, buffer.as_mut_ptr(), buffer.len(), length) };
@@ -1053,7 +1053,7 @@ pub(crate) fn struct_field(dtype: &Slot, name: &[u8], out: &mut Slot) -> u32 {
 /// Writes the name of the field at the position `index` to `buffer`. Returns 1 if the position isn't below the number
 /// of fields, and 5 if the type isn't a struct.
 pub(crate) fn struct_field_name(dtype: &Slot, index: usize, buffer: &mut [u8], length: &mut usize) -> u32 {
-    let _lock = lock();
+    // Only reads, so it takes no lock.
     let mut lent_dtype = dtype.lent();
     // SAFETY: see the head of this file.
     let result = unsafe { vlt_struct_field_name(&mut lent_dtype, index, buffer.as_mut_ptr(), buffer.len(), length) };
@@ -1140,7 +1140,7 @@ pub(crate) fn union_child_index_to_tag(dtype: &Slot, index: usize, tag: &mut u8)
 /// Writes the name of the variant at the position `index` to `buffer`. Returns 1 if the position isn't below the number
 /// of variants, and 5 if the type isn't a union.
 pub(crate) fn union_variant_name(dtype: &Slot, index: usize, buffer: &mut [u8], length: &mut usize) -> u32 {
-    let _lock = lock();
+    // Only reads, so it takes no lock.
     let mut lent_dtype = dtype.lent();
     // SAFETY: see the head of this file.
     let result = unsafe { vlt_union_variant_name(&mut lent_dtype, index, buffer.as_mut_ptr(), buffer.len(), length) };

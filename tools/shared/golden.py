@@ -7,12 +7,13 @@ that are short, as a transcript: each line behind `> ` with its answer below it,
 are. tools/shared/long_lines.txt has the others (tools/shared/long_lines.py says in which form).
 
     tools/shared/golden.py            writes crates/dtype_console/stdin, which are the lines of stdout without the answers
-    tools/shared/golden.py PROGRAM    asks a program these lines, and fails where it answers one in another way"""
-import os
+    tools/shared/golden.py [--only COMMAND] PROGRAM [ARGUMENT..]
+                              asks a program these lines, or those of a command, and fails where it answers one in
+                              another way"""
 import sys
 
 import long_lines
-from repository import FROM, Report, answers_of, lines_of
+from repository import Report, answers_of, lines_of
 
 TRANSCRIPT, STDIN = "crates/dtype_console/stdout", "crates/dtype_console/stdin"
 # The files with golden tests, each with what has its lines in full.
@@ -59,9 +60,14 @@ def faults():
             yield TRANSCRIPT, f"a line is longer than {long_lines.LONG} characters; {long_lines.FILE} has such lines: {line[:80]}"
 
 
-def asked(program):
-    """Asks a program all golden tests, and returns the status: 0 if it answers each as expected."""
-    report, expected = Report("golden"), rows()
+def only_of(words):
+    """The command behind `--only`, or no text, and the program with its arguments."""
+    return (words[1], words[2:]) if words[:1] == ["--only"] else ("", words)
+
+
+def asked(program, command):
+    """Asks a program the golden tests of a command, or all, and returns the status: 0 if it answers each as expected."""
+    report, expected = Report("golden"), [it for it in rows() if command in ("", it[0].partition(" ")[0])]
     answers, _ = answers_of(program, [line for line, _ in expected])
     report.check([f"{len(answers)} answers to {len(expected)} lines"] if len(answers) != len(expected) else [])
     report.check([f"{line[:200]}: {answer[:200]}, not {wanted[:200]}" for (line, wanted), answer in zip(expected, answers)
@@ -70,8 +76,7 @@ def asked(program):
 
 
 if __name__ == "__main__":
-    if sys.argv[2:]:
-        sys.exit(__doc__)
-    elif sys.argv[1:]:
-        sys.exit(asked(os.path.join(FROM, sys.argv[1])))
+    only, program = only_of(sys.argv[1:])
+    if program:
+        sys.exit(asked(program, only))
     write_lines(STDIN, stdin())

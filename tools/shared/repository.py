@@ -67,9 +67,10 @@ def lines_of(file):
 
 
 def answers_of(program, lines):
-    """The answers of a console to these lines, and its status."""
+    """The answers of a console to these lines, and its status. It is a program with its arguments, and runs in the folder
+    from which the tool was begun."""
     given = "".join(f"{line}\n" for line in lines).encode()
-    ran = subprocess.run([program], input=given, stdout=subprocess.PIPE, check=False)
+    ran = subprocess.run(program, cwd=FROM, input=given, stdout=subprocess.PIPE, check=False)
     return ran.stdout.decode().split("\n")[:-1], ran.returncode
 
 

@@ -26,8 +26,6 @@ LONG_LINES = [
     ("0x«7*#:02x||35..37»", "0xf5fc03"),
 ]
 FUZZ = "fuzz bin/driver bin/console"
-FORMS = {"name": "NAME", "type": "T", "find": "NAME S", "contains": "PATH PATH..", "read": "SESSION MSG",
-         "set": "NAME insert PATH|missing T|iter", "session": "NAME new|register PLUGIN"}
 LEFT = f"{len(crates()) - 1} crates and {len(glob(f'{TOOLS}/../crates/*/must-fail/*.edit')) + 1} mutations"
 # A script, what it does, a tool with its arguments, the status, and the texts that are told.
 RUNS = [
@@ -64,17 +62,13 @@ RUNS = [
     ("bin/driver", "sed 's/.*/unreadable at 3/'", f"{FUZZ} 300", 0, "\n300 passed, 0 failed\n"),
     ("bin/driver", "sed 's/.*/unreadable at 4/'", f"{FUZZ} 300", 1, "unreadable at 3, not unreadable at 4"),
     ("bin/console", "sed 's/^/answer of /'", f"{FUZZ} 300", 1, " failed\n"),
-    # (the five of the table, three of sets, two of sessions)
-    ("bin/driver", "sed 's/^/answer of /'", f"{FUZZ} 3000", 0, "fuzz: 3000 lines of 10 commands, seed 1"),
+    ("bin/driver", "sed 's/^/answer of /'", f"{FUZZ} 3000", 0, "fuzz: 3000 lines, seed 1"),
 ]
 
 
 class Runs(Planted):
     def test_tells_each(self):
-        table = "".join(f'    Row("{it}", "{forms}", "", "", "", X),\n' for it, forms in FORMS.items())
-        shutil.rmtree(f"{self.top}/crates/console_core/src")
         for file, text in ((f"{TRIED}/must-fail/other.edit", ""), ("crates/dtype_demo/stdout", "right\n"),
-                           ("crates/console_core/src/table.rt", table),
                            ("crates/dtype_console/stdin", "# A name.\nname a\nname_eq a\n"),
                            ("crates/dtype_console/stdout", GOLDEN), ("tools/shared/long_lines.txt", "")):
             self.write(file, text)

@@ -1,0 +1,12 @@
+-- SPDX-License-Identifier: Apache-2.0
+-- SPDX-FileCopyrightText: Copyright the Vortex contributors
+
+-- Lemmas about the definitions, which a caller's proof may cite.
+pub mod Finding
+pub mod Repeats
+pub mod Order
+pub mod Reading
+pub mod Columns
+pub mod Merging
+pub mod MergeLaws
+pub mod Filling

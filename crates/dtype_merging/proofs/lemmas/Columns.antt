@@ -1,0 +1,191 @@
+-- SPDX-License-Identifier: Apache-2.0
+-- SPDX-FileCopyrightText: Copyright the Vortex contributors
+
+-- The columns of a merged struct: which a name finds, and that no name repeats. And a type that is made nullable.
+use Rattle.std.proofs.Common.{◌≡◌, ℕ, List, [], ◌∷◌, ◌++◌, cond, map, true, Option, Some, None, IsSome, refl, sym, ap, subst, ◌∙◌, inl, inr}
+use Rattle.std.specs.List.{filter}
+use Rattle.std.specs.Option.{is_none, option_and_then}
+use Rattle.std.proofs.lemmas.Option.{same_Some}
+use Rattle.dtype_base.specs.Distinct.{Distinct}
+use Rattle.dtype_base.specs.declared.nullability.Nullability.TheVariants.{Nullable}
+use Rattle.dtype_types.specs.nullability.Nullable.{IsNullable, set_null}
+use Rattle.dtype_types.specs.nullability.Sub.{Sub, Allows}
+use Rattle.dtype_types.specs.parts.Lookups.{field_names, first_named}
+use Rattle.dtype_types.specs.tree.Tree.{Tree, Fields, no_items, item, pairs, fields, null, bool, primitive, decimal, utf8, binary, list, fixed_size_list, map_of, struct, union, variant, extension}
+use Rattle.dtype_types.proofs.lemmas.JoinedFields.{named_before, named_behind}
+use Rattle.dtype_types.proofs.lemmas.Nullabilities.{set_is}
+use Rattle.dtype_types.proofs.lemmas.Order.{below_nullable}
+use Rattle.dtype_types.proofs.lemmas.TreeLaws.{pairs_of}
+use Rattle.dtype_merging.specs.ReadsAs.{ReadsAs, names}
+use Rattle.dtype_merging.specs.MergedColumns.{further, made_nullable, no_repeats, or_tree}
+use Rattle.dtype_merging.proofs.lemmas.Finding.{Pairs, agrees_rest, by_name, by_option, by_place, finds_first, finds_later, no_repeats_rest, true_both}
+use Rattle.dtype_merging.proofs.lemmas.Order.{of_extension, of_fixed, of_list, of_map, of_struct}
+use Rattle.dtype_merging.proofs.lemmas.Reading.{reads_kind, sub_kind, sub_reads}
+use Rattle.dtype_merging.proofs.lemmas.Repeats.{distinct_tested, tested_distinct}
+
+-- ---- a type that is made nullable
+
+pub made_set : (t : Tree) → set_null t Nullable ≡ Some (made_nullable t)
+made_set (extension i b s) =
+    let f : set_null (extension i b s) Nullable ≡ Some (extension i b (made_nullable s)) = ap (option_and_then (λ x. Some (extension i b x))) (made_set s) in
+    f ∙ ap Some (sym (ap (or_tree (extension i b s)) f))
+made_set _ = refl
+
+made_in_storage : (i b : List ℕ) (s : Tree) → made_nullable (extension i b s) ≡ extension i b (made_nullable s)
+made_in_storage i b s = ap (or_tree (extension i b s)) (ap (option_and_then (λ x. Some (extension i b x))) (made_set s))
+
+pub made_above : (t : Tree) → ReadsAs t (made_nullable t)
+made_above t = sub_reads t (made_nullable t) (below_nullable t (made_nullable t) (made_set t))
+
+pub made_is : (t : Tree) → IsNullable (made_nullable t)
+made_is t = set_is t (made_nullable t) Nullable (made_set t)
+
+-- a nullable type as which a type can be read is one as which the type made nullable can be read
+pub made_least : (t y : Tree) → ReadsAs t y → IsNullable y → ReadsAs (made_nullable t) y
+made_least null y h e = h
+made_least (bool m) (bool n) h e = record { erased = h.erased; nullable = λ z. e }
+made_least (primitive p m) (primitive q n) h e = record { erased = h.erased; nullable = λ z. e }
+made_least (decimal p m) (decimal q n) h e = record { erased = h.erased; nullable = λ z. e }
+made_least (utf8 m) (utf8 n) h e = record { erased = h.erased; nullable = λ z. e }
+made_least (binary m) (binary n) h e = record { erased = h.erased; nullable = λ z. e }
+made_least (variant m) (variant n) h e = record { erased = h.erased; nullable = λ z. e }
+made_least (union vs m) (union ws n) h e = record { erased = h.erased; nullable = (λ z. e, h.nullable.1) }
+made_least (list t m) y h e =
+    let i = of_list Sub Allows IsNullable sub_kind t m y h in
+    let at = subst IsNullable i.2 e in subst (ReadsAs (list t Nullable)) (sym i.2) (λ z. at, i.4)
+made_least (fixed_size_list t j m) y h e =
+    let i = of_fixed Sub Allows IsNullable sub_kind t j m y h in
+    let at = subst IsNullable i.2 e in subst (ReadsAs (fixed_size_list t j Nullable)) (sym i.2) (refl, λ z. at, i.4)
+made_least (map_of t v x m) y h e =
+    let i = of_map Sub Allows IsNullable sub_kind t v x m y h in
+    let at = subst IsNullable i.3 e in subst (ReadsAs (map_of t v x Nullable)) (sym i.3) (refl, λ z. at, i.5, i.6)
+made_least (struct fs m) y h e =
+    let i = of_struct Sub Allows IsNullable sub_kind fs m y h in
+    let at = subst IsNullable i.2 e in
+    subst (ReadsAs (struct fs Nullable)) (sym i.2) (elim i.3 [
+      | inl s ↦ inl (s.0, λ z. at, s.2, s.3)
+      | inr s ↦ inr (s.0, record { erased = s.1.erased; nullable = (λ z. at, s.1.nullable.1) })
+    ])
+made_least (extension i b t) y h e =
+    let p = of_extension Sub Allows IsNullable sub_kind i b t y h in
+    let at = subst IsNullable p.1 e in
+    subst (λ z. ReadsAs z y) (sym (made_in_storage i b t)) (subst (ReadsAs (extension i b (made_nullable t))) (sym p.1) (refl, refl, made_least t p.0 p.2 at))
+made_least t y h e = let kinds = reads_kind t y h in cc
+
+-- ---- columns side by side with fields
+
+-- the columns have the names of the fields, and P is true of each name, the type of the field and that of the column
+abbrev pub Rows : (List ℕ → Tree → Tree → Type 0) → Fields → Pairs → Type 0
+Rows P no_items [] = Unit {0}
+Rows P (item n t _ fs) (p ∷ ps) = (p.0 ≡ n) × P n t p.1 × Rows P fs ps
+Rows P _ _ = ⊥
+
+module _ (P : List ℕ → Tree → Tree → Type 0) where
+  pub row_at : (fs : Fields) (ps : Pairs) → Rows P fs ps → (n : List ℕ) (t : Tree) → first_named (pairs fs) n ≡ Some t → (x : Tree) × (first_named ps n ≡ Some x) × P n t x
+  row_at no_items [] h n t is = cc
+  row_at (item m u _ fs) (p ∷ ps) h n t is = by_place m n u t (pairs fs) is
+      (λ e same. (p.1, finds_first p.0 n p.1 ps (h.0 ∙ e), subst (λ z. P n z p.1) same (subst (λ z. P z u p.1) e h.1)))
+      (λ ne later. let r = row_at fs ps h.2 n t later in (r.0, finds_later p.0 n p.1 ps (λ q. ne (sym h.0 ∙ q)) ∙ r.1, r.2))
+  row_at no_items (p ∷ ps) h n t is = absurd h
+  row_at (item m u _ fs) [] h n t is = absurd h
+
+  pub row_none : (fs : Fields) (ps : Pairs) → Rows P fs ps → (n : List ℕ) → first_named (pairs fs) n ≡ None → first_named ps n ≡ None
+  row_none no_items [] h n none = refl
+  row_none (item m u _ fs) (p ∷ ps) h n none = by_name m n
+      (λ e. let some = finds_first m n u (pairs fs) e in cc)
+      (λ ne. finds_later p.0 n p.1 ps (λ q. ne (sym h.0 ∙ q)) ∙ row_none fs ps h.2 n (sym (finds_later m n u (pairs fs) ne) ∙ none))
+  row_none no_items (p ∷ ps) h n none = absurd h
+  row_none (item m u _ fs) [] h n none = absurd h
+
+  pub row_back : (fs : Fields) (ps : Pairs) → Rows P fs ps → (n : List ℕ) (x : Tree) → first_named ps n ≡ Some x → (t : Tree) × (first_named (pairs fs) n ≡ Some t) × P n t x
+  row_back fs ps h n x is = by_option (first_named (pairs fs) n)
+      (λ none. let empty = row_none fs ps h n none in cc)
+      (λ t at. let r = row_at fs ps h n t at in (t, at, subst (P n t) (same_Some r.0 x (sym r.1 ∙ is)) r.2))
+
+  pub row_names : (fs : Fields) (ps : Pairs) → Rows P fs ps → field_names ps ≡ names fs
+  row_names no_items [] h = refl
+  row_names (item m u _ fs) (p ∷ ps) h = cc (h.0, row_names fs ps h.2)
+  row_names no_items (p ∷ ps) h = absurd h
+  row_names (item m u _ fs) [] h = absurd h
+
+  pub row_repeats : (fs : Fields) (ps : Pairs) → Rows P fs ps → no_repeats (pairs fs) ≡ true → no_repeats ps ≡ true
+  row_repeats fs ps h d = tested_distinct ps (subst Distinct (sym (row_names fs ps h)) (distinct_tested (pairs fs) d))
+
+-- ---- further columns
+
+pub further_kept : (fs gs : Pairs) (g : List ℕ × Tree) → first_named fs g.0 ≡ None → further fs (g ∷ gs) ≡ (g.0, made_nullable g.1) ∷ further fs gs
+further_kept fs gs g e = ap (λ o. map (λ (h : List ℕ × Tree). (h.0, made_nullable h.1)) (cond (is_none o) (g ∷ filter (λ h. is_none (first_named fs h.0)) gs) (filter (λ h. is_none (first_named fs h.0)) gs))) e
+
+pub further_left : (fs gs : Pairs) (g : List ℕ × Tree) (t : Tree) → first_named fs g.0 ≡ Some t → further fs (g ∷ gs) ≡ further fs gs
+further_left fs gs g t e = ap (λ o. map (λ (h : List ℕ × Tree). (h.0, made_nullable h.1)) (cond (is_none o) (g ∷ filter (λ h. is_none (first_named fs h.0)) gs) (filter (λ h. is_none (first_named fs h.0)) gs))) e
+
+-- a name that the first list has finds no further column
+pub further_skips : (fs gs : Pairs) (n : List ℕ) (t : Tree) → first_named fs n ≡ Some t → first_named (further fs gs) n ≡ None
+further_skips fs [] n t e = refl
+further_skips fs (g ∷ gs) n t e = by_option (first_named fs g.0)
+    (λ none. ap (λ ps. first_named ps n) (further_kept fs gs g none) ∙ finds_later g.0 n (made_nullable g.1) (further fs gs) (λ q. let some = ap (first_named fs) q ∙ e in cc) ∙ further_skips fs gs n t e)
+    (λ u some. ap (λ ps. first_named ps n) (further_left fs gs g u some) ∙ further_skips fs gs n t e)
+
+-- and so does one that the second list lacks
+pub further_lacks : (fs gs : Pairs) (n : List ℕ) → first_named gs n ≡ None → first_named (further fs gs) n ≡ None
+further_lacks fs [] n e = refl
+further_lacks fs (g ∷ gs) n e = by_name g.0 n
+    (λ same. let some = finds_first g.0 n g.1 gs same in cc)
+    (λ ne.
+    let rest = further_lacks fs gs n (sym (finds_later g.0 n g.1 gs ne) ∙ e) in
+    by_option (first_named fs g.0)
+    (λ none. ap (λ ps. first_named ps n) (further_kept fs gs g none) ∙ finds_later g.0 n (made_nullable g.1) (further fs gs) ne ∙ rest)
+    (λ u some. ap (λ ps. first_named ps n) (further_left fs gs g u some) ∙ rest))
+
+-- any other finds the type in the second, made nullable
+pub further_finds : (fs gs : Pairs) (n : List ℕ) (u : Tree) → first_named fs n ≡ None → first_named gs n ≡ Some u → first_named (further fs gs) n ≡ Some (made_nullable u)
+further_finds fs [] n u e is = cc
+further_finds fs (g ∷ gs) n u e is = by_place g.0 n g.1 u gs is
+    (λ same type. ap (λ ps. first_named ps n) (further_kept fs gs g (ap (first_named fs) same ∙ e)) ∙ finds_first g.0 n (made_nullable g.1) (further fs gs) same ∙ ap (λ t. Some (made_nullable t)) type)
+    (λ ne later.
+    let rest = further_finds fs gs n u e later in
+    by_option (first_named fs g.0)
+    (λ none. ap (λ ps. first_named ps n) (further_kept fs gs g none) ∙ finds_later g.0 n (made_nullable g.1) (further fs gs) ne ∙ rest)
+    (λ t some. ap (λ ps. first_named ps n) (further_left fs gs g t some) ∙ rest))
+
+pub further_back : (fs gs : Pairs) (n : List ℕ) (x : Tree) → first_named (further fs gs) n ≡ Some x → (u : Tree) × (first_named fs n ≡ None) × (first_named gs n ≡ Some u) × (x ≡ made_nullable u)
+further_back fs gs n x is = by_option (first_named gs n)
+    (λ none. let empty = further_lacks fs gs n none in cc)
+    (λ u at. by_option (first_named fs n)
+    (λ none. (u, none, at, same_Some x (made_nullable u) (sym is ∙ further_finds fs gs n u none at)))
+    (λ t some. let empty = further_skips fs gs n t some in cc))
+
+pub further_repeats : (fs gs : Pairs) → no_repeats gs ≡ true → no_repeats (further fs gs) ≡ true
+further_repeats fs [] d = refl
+further_repeats fs (g ∷ gs) d =
+    let r = no_repeats_rest g gs d in
+    let rest = further_repeats fs gs r.1 in
+    by_option (first_named fs g.0)
+    (λ none. ap no_repeats (further_kept fs gs g none) ∙ true_both (is_none (first_named (further fs gs) g.0)) (no_repeats (further fs gs)) (ap is_none (further_lacks fs gs g.0 r.0)) rest)
+    (λ u some. ap no_repeats (further_left fs gs g u some) ∙ rest)
+
+-- ---- columns and further columns together
+
+pub found_before : (ps qs : Pairs) (n : List ℕ) (x : Tree) → first_named ps n ≡ Some x → first_named (ps ++ qs) n ≡ Some x
+found_before ps qs n x e = named_before ps qs n (subst IsSome (sym e) refl) ∙ e
+
+pub found_behind : (ps qs : Pairs) (n : List ℕ) (x : Tree) → first_named ps n ≡ None → first_named qs n ≡ Some x → first_named (ps ++ qs) n ≡ Some x
+found_behind ps qs n x e f = named_behind ps qs n e ∙ f
+
+pub joined_repeats : (ps qs : Pairs) → no_repeats ps ≡ true → no_repeats qs ≡ true → ((n : List ℕ) (x : Tree) → first_named ps n ≡ Some x → first_named qs n ≡ None) → no_repeats (ps ++ qs) ≡ true
+joined_repeats [] qs d e apart = e
+joined_repeats (p ∷ ps) qs d e apart =
+    let r = no_repeats_rest p ps d in
+    true_both (is_none (first_named (ps ++ qs) p.0)) (no_repeats (ps ++ qs))
+    (ap is_none (named_behind ps qs p.0 r.0 ∙ apart p.0 p.1 (finds_first p.0 p.0 p.1 ps refl)))
+    (joined_repeats ps qs r.1 e (λ n x is. apart n x (agrees_rest p.0 p.1 ps (p ∷ ps) r.0 (λ k y at. at) n x is)))
+
+-- what a name finds in a struct of these columns
+pub in_struct : (qs : Pairs) (n : List ℕ) (o : Option Tree) → first_named qs n ≡ o → first_named (pairs (fields qs)) n ≡ o
+in_struct qs n o e = ap (λ z. first_named z n) (pairs_of qs) ∙ e
+
+pub of_columns : (qs : Pairs) (n : List ℕ) (o : Option Tree) → first_named (pairs (fields qs)) n ≡ o → first_named qs n ≡ o
+of_columns qs n o e = ap (λ z. first_named z n) (sym (pairs_of qs)) ∙ e
+
+pub distinct_columns : (qs : Pairs) → no_repeats qs ≡ true → Distinct (names (fields qs))
+distinct_columns qs d = distinct_tested (pairs (fields qs)) (ap no_repeats (pairs_of qs) ∙ d)

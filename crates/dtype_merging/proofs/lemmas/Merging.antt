@@ -1,0 +1,311 @@
+-- SPDX-License-Identifier: Apache-2.0
+-- SPDX-FileCopyrightText: Copyright the Vortex contributors
+
+-- What is merged of two types: both can be read as it, it can be read as each valid type as which both can be read, and
+-- there is one if there is such a valid type.
+use Rattle.std.proofs.Common.{◌≡◌, ◌≢◌, ◌==◌, ◌&&◌, ℕ, List, [], ◌∷◌, ◌++◌, Bool, true, false, Option, Some, None, if◌then◌else◌, refl, sym, ap, subst, ◌∙◌, inl, inr}
+use Rattle.std.specs.Cmp.{booleans_Decides}
+use Rattle.std.specs.Option.{option_map}
+use Rattle.std.specs.Str.{bytes_eq}
+use Rattle.std.proofs.Math.Bool.{beq}
+use Rattle.std.proofs.lemmas.Bool.{eq-eqb, eqb-true, false≢true}
+use Rattle.std.proofs.lemmas.Option.{same_Some}
+use Rattle.std.proofs.lemmas.Slice.Eq.{bytes_eq-Decides}
+use Rattle.dtype_base.specs.Distinct.{Distinct}
+use Rattle.dtype_base.specs.Nullability.{either}
+use Rattle.dtype_base.specs.declared.nullability.Nullability.{Nullability}
+use Rattle.dtype_base.specs.declared.nullability.Nullability.TheVariants.{NonNullable, Nullable}
+use Rattle.dtype_types.specs.nullability.Merged.{merge, merged}
+use Rattle.dtype_types.specs.nullability.Nullable.{IsNullable, nullability}
+use Rattle.dtype_types.specs.nullability.Sub.{Sub, Allows}
+use Rattle.dtype_types.specs.parts.Lookups.{first_named}
+use Rattle.dtype_types.specs.tree.Tree.{Tree, Fields, no_items, item, pairs, fields, list, fixed_size_list, map_of, struct, extension}
+use Rattle.dtype_types.specs.tree.Valid.{Valid, ValidItems}
+use Rattle.dtype_types.proofs.lemmas.Bounds.{upwards}
+use Rattle.dtype_types.proofs.lemmas.JoinedFields.{named_behind}
+use Rattle.dtype_types.proofs.lemmas.Merging.{merged_least, under_some}
+use Rattle.dtype_types.proofs.lemmas.NullValues.{allows_either}
+use Rattle.dtype_types.proofs.lemmas.Validity.{type_named_valid}
+use Rattle.dtype_types.proofs.lemmas.ValidParts.{fields_of_pairs}
+use Rattle.dtype_merging.specs.ReadsAs.{EachFound, NoRepeats, OnlyFurther, ReadsAs}
+use Rattle.dtype_merging.specs.MergedColumns.{column, columns_merged, further, made_nullable, map_of_key, map_with, merged_by_name, no_repeats, prepend, struct_with}
+use Rattle.dtype_merging.proofs.lemmas.Columns.{Rows, distinct_columns, found_before, found_behind, further_back, further_finds, further_repeats, further_skips, in_struct, joined_repeats, made_above, made_is, made_least, of_columns, row_at, row_back, row_none, row_repeats}
+use Rattle.dtype_merging.proofs.lemmas.Finding.{Pairs, both_true, by_bool, by_option, each_found, found, some_and, true_both}
+use Rattle.dtype_merging.proofs.lemmas.Order.{alike_plain, of_extension, of_fixed, of_list, of_map, of_struct, plain, plain_kind}
+use Rattle.dtype_merging.proofs.lemmas.Reading.{reads_kind, reads_nullable, sub_kind, sub_names, sub_reads}
+use Rattle.dtype_merging.proofs.lemmas.Repeats.{distinct_tested, tested_distinct}
+
+-- ---- results that are there
+
+pub pick_true : {X : Type 0} (b : Bool) (x y : X) → b ≡ true → (if b then x else y) ≡ x
+pick_true b x y e = ap (λ z. if z then x else y) e
+
+pub pick_false : {X : Type 0} (b : Bool) (x y : X) → b ≡ false → (if b then x else y) ≡ y
+pick_false b x y e = ap (λ z. if z then x else y) e
+
+pub if_some : (b : Bool) (o : Option Tree) (c : Tree) → (if b then o else None) ≡ Some c → (b ≡ true) × (o ≡ Some c)
+if_some true o c e = (refl, e)
+if_some false o c e = cc
+
+pub mapped_some : {X : Type 0} (f : X → Tree) (o : Option X) (c : Tree) → option_map f o ≡ Some c → (x : X) × (o ≡ Some x) × (f x ≡ c)
+mapped_some f (Some x) c e = (x, refl, same_Some (f x) c e)
+mapped_some f None c e = cc
+
+pub prepended : (n : List ℕ) (o : Option Tree) (r : Option Pairs) (ps : Pairs) → prepend n o r ≡ Some ps → (x : Tree) × (rest : Pairs) × (o ≡ Some x) × (r ≡ Some rest) × ((n, x) ∷ rest ≡ ps)
+prepended n (Some x) (Some rest) ps e = (x, rest, refl, refl, same_Some ((n, x) ∷ rest) ps e)
+prepended n (Some x) None ps e = cc
+prepended n None r ps e = cc
+
+keyed : (m : Nullability) (k v : Tree) (s : Bool) (n : Nullability) (c : Tree) → map_of_key m k v s n ≡ Some c → (map_of k v s n ≡ c) × (m ≡ NonNullable)
+keyed NonNullable k v s n c e = (same_Some (map_of k v s n) c e, refl)
+keyed Nullable k v s n c e = cc
+
+pub map_made : (o p : Option Tree) (s : Bool) (n : Nullability) (c : Tree) → map_with o p s n ≡ Some c → (k v : Tree) × (o ≡ Some k) × (p ≡ Some v) × (map_of k v s n ≡ c) × (nullability k ≡ NonNullable)
+map_made (Some k) (Some v) s n c e = let r = keyed (nullability k) k v s n c e in (k, v, refl, refl, r.0, r.1)
+map_made (Some k) None s n c e = cc
+map_made None p s n c e = cc
+
+key_kept : (m : Nullability) (k v : Tree) (s : Bool) (n : Nullability) → m ≢ Nullable → map_of_key m k v s n ≡ Some (map_of k v s n)
+key_kept NonNullable k v s n sure = refl
+key_kept Nullable k v s n sure = absurd (sure refl)
+
+behind : (ps qs : Pairs) (n : List ℕ) → first_named ps n ≡ None → first_named (ps ++ qs) n ≡ first_named qs n
+behind = named_behind
+
+-- types that differ in nullabilities alone can be read as their least upper bound
+of_merged : (a b c : Tree) → merged a b ≡ Some c → ReadsAs a c × ReadsAs b c
+of_merged a b c e = let h = merged_least a b c e in (sub_reads a c h.first, sub_reads b c h.second)
+
+-- ---- both can be read as what is merged
+
+-- of a field and the column for it: what can be read as the column
+abbrev Above : Fields → List ℕ → Tree → Tree → Type 0
+Above gs n t x = ReadsAs t x × ((u : Tree) → first_named (pairs gs) n ≡ Some u → ReadsAs u x) × (first_named (pairs gs) n ≡ None → IsNullable x)
+
+-- two structs can be read as the struct of such columns, followed by the further ones
+structs_above : (fs gs : Fields) (m n : Nullability) (ps : Pairs) → no_repeats (pairs fs) ≡ true → no_repeats (pairs gs) ≡ true → Rows (Above gs) fs ps
+    → ReadsAs (struct fs m) (struct (fields (ps ++ further (pairs fs) (pairs gs))) (either m n)) × ReadsAs (struct gs n) (struct (fields (ps ++ further (pairs fs) (pairs gs))) (either m n))
+structs_above fs gs m n ps d e rows =
+    let more = further (pairs fs) (pairs gs) in
+    let all = ps ++ more in
+    let alone = distinct_columns all (joined_repeats ps more (row_repeats (Above gs) fs ps rows d) (further_repeats (pairs fs) (pairs gs) e)
+    (λ k x is. let r = row_back (Above gs) fs ps rows k x is in further_skips (pairs fs) (pairs gs) k r.0 r.1)) in (
+      inl (
+        (distinct_tested (pairs fs) d, alone),
+        allows_either m n,
+        each_found Sub Allows IsNullable fs (fields all) d (λ k t is. let r = row_at (Above gs) fs ps rows k t is in (r.0, in_struct all k (Some r.0) (found_before ps more k r.0 r.1), r.2.0)),
+        λ k x none is. by_option (first_named ps k)
+            (λ lacks. let b = further_back (pairs fs) (pairs gs) k x (sym (behind ps more k lacks) ∙ of_columns all k (Some x) is) in subst IsNullable (sym b.3) (made_is b.0))
+            (λ y some. let r = row_back (Above gs) fs ps rows k y some in let at = r.1 in cc),
+      ),
+      inl (
+        (distinct_tested (pairs gs) e, alone),
+        upwards.second m n,
+        each_found Sub Allows IsNullable gs (fields all) e (λ k u is. by_option (first_named (pairs fs) k)
+            (λ none. (made_nullable u, in_struct all k (Some (made_nullable u)) (found_behind ps more k (made_nullable u) (row_none (Above gs) fs ps rows k none) (further_finds (pairs fs) (pairs gs) k u none is)), made_above u))
+            (λ t some. let r = row_at (Above gs) fs ps rows k t some in (r.0, in_struct all k (Some r.0) (found_before ps more k r.0 r.1), r.2.1 u is))),
+        λ k x none is. by_option (first_named ps k)
+            (λ lacks. let b = further_back (pairs fs) (pairs gs) k x (sym (behind ps more k lacks) ∙ of_columns all k (Some x) is) in let at = b.2 in cc)
+            (λ y some.
+            let r = row_back (Above gs) fs ps rows k y some in
+            let same = same_Some y x (sym (found_before ps more k y some) ∙ of_columns all k (Some x) is) in subst IsNullable same (r.2.2 none)),
+      ),
+    )
+
+mutual
+  pub above : (a b c : Tree) → columns_merged a b ≡ Some c → ReadsAs a c × ReadsAs b c
+  above (list t m) (list u n) c e =
+      let r = mapped_some (λ x. list x (either m n)) (columns_merged t u) c e in
+      let h = above t u r.0 r.1 in
+      subst (λ z. ReadsAs (list t m) z × ReadsAs (list u n) z) r.2 ((allows_either m n, h.0), (upwards.second m n, h.1))
+  above (fixed_size_list t j m) (fixed_size_list u k n) c e =
+      let s = if_some (j == k) (option_map (λ x. fixed_size_list x j (either m n)) (columns_merged t u)) c e in
+      let r = mapped_some (λ x. fixed_size_list x j (either m n)) (columns_merged t u) c s.1 in
+      let h = above t u r.0 r.1 in
+      subst (λ z. ReadsAs (fixed_size_list t j m) z × ReadsAs (fixed_size_list u k n) z) r.2 ((refl, allows_either m n, h.0), (sym (eqb-true j k s.0), upwards.second m n, h.1))
+  above (map_of t v x m) (map_of u w y n) c e =
+      let s = if_some (beq x y) (map_with (columns_merged t u) (columns_merged v w) x (either m n)) c e in
+      let r = map_made (columns_merged t u) (columns_merged v w) x (either m n) c s.1 in
+      let h = above t u r.0 r.2 in
+      let g = above v w r.1 r.3 in
+      subst (λ z. ReadsAs (map_of t v x m) z × ReadsAs (map_of u w y n) z) r.4 ((refl, allows_either m n, h.0, g.0), (sym ((booleans_Decides x y).0 s.0), upwards.second m n, h.1, g.1))
+  above (struct fs m) (struct gs n) c e =
+      let test = no_repeats (pairs fs) && no_repeats (pairs gs) in
+      let more = further (pairs fs) (pairs gs) in
+      let named = struct_with (merged_by_name fs gs) more (either m n) in
+      by_bool test
+      (λ tested.
+      let d = both_true (no_repeats (pairs fs)) (no_repeats (pairs gs)) tested in
+      let r = mapped_some (λ qs. struct (fields (qs ++ more)) (either m n)) (merged_by_name fs gs) c (sym (pick_true test named (merged (struct fs m) (struct gs n)) tested) ∙ e) in
+      subst (λ z. ReadsAs (struct fs m) z × ReadsAs (struct gs n) z) r.2 (structs_above fs gs m n r.0 d.0 d.1 (above_rows fs gs r.0 r.1)))
+      (λ differ. of_merged (struct fs m) (struct gs n) c (sym (pick_false test named (merged (struct fs m) (struct gs n)) differ) ∙ e))
+  above (extension i a t) (extension j b u) c e =
+      let s = if_some (bytes_eq i j && bytes_eq a b) (option_map (extension i a) (columns_merged t u)) c e in
+      let same = both_true (bytes_eq i j) (bytes_eq a b) s.0 in
+      let r = mapped_some (extension i a) (columns_merged t u) c s.1 in
+      let h = above t u r.0 r.1 in
+      subst (λ z. ReadsAs (extension i a t) z × ReadsAs (extension j b u) z) r.2 ((refl, refl, h.0), (sym ((bytes_eq-Decides i j).0 same.0), sym ((bytes_eq-Decides a b).0 same.1), h.1))
+  above a b c e = of_merged a b c e
+
+  above_rows : (fs gs : Fields) (ps : Pairs) → merged_by_name fs gs ≡ Some ps → Rows (Above gs) fs ps
+  above_rows no_items gs ps e = subst (Rows (Above gs) no_items) (same_Some [] ps e) tt
+  above_rows (item n t _ fs) gs ps e =
+      let r = prepended n (column t (λ u. columns_merged t u) (first_named (pairs gs) n)) (merged_by_name fs gs) ps e in
+      let x = r.0 in
+      let here : Above gs n t x = by_option (first_named (pairs gs) n)
+      (λ none.
+      let made : made_nullable t ≡ x = same_Some (made_nullable t) x (sym (ap (column t (λ u. columns_merged t u)) none) ∙ r.2) in
+      (subst (ReadsAs t) made (made_above t), λ u some. cc, λ _. subst IsNullable made (made_is t)))
+      (λ u some.
+      let h = above t u x (sym (ap (column t (λ u. columns_merged t u)) some) ∙ r.2) in
+      (h.0, λ v at. subst (λ z. ReadsAs z x) (same_Some u v (sym some ∙ at)) h.1, λ none. cc)) in
+      subst (Rows (Above gs) (item n t tt fs)) r.4 (refl, here, above_rows fs gs r.1 r.3)
+
+-- ---- what is merged can be read as each valid type as which both can be read
+
+-- of a field and the column for it: the column can be read as the field of that name in a third struct
+abbrev Below : Fields → List ℕ → Tree → Tree → Type 0
+Below hs n t x = (y : Tree) → first_named (pairs hs) n ≡ Some y → ReadsAs x y
+
+structs_below : (fs gs hs : Fields) (m n o : Nullability) (ps : Pairs) → NoRepeats fs hs → NoRepeats gs hs → Allows m o → Allows n o → EachFound Sub Allows IsNullable fs hs → EachFound Sub Allows IsNullable gs hs
+    → OnlyFurther IsNullable fs hs → Rows (Below hs) fs ps → ReadsAs (struct (fields (ps ++ further (pairs fs) (pairs gs))) (either m n)) (struct hs o)
+structs_below fs gs hs m n o ps d e l r f g only rows =
+    let more = further (pairs fs) (pairs gs) in
+    let all = ps ++ more in
+    let fs_alone = tested_distinct (pairs fs) d.0 in
+    let all_alone = joined_repeats ps more (row_repeats (Below hs) fs ps rows fs_alone) (further_repeats (pairs fs) (pairs gs) (tested_distinct (pairs gs) e.0))
+    (λ k x is. let b = row_back (Below hs) fs ps rows k x is in further_skips (pairs fs) (pairs gs) k b.0 b.1) in
+    inl (
+      (distinct_columns all all_alone, d.1),
+      upwards.least o m n l r,
+      each_found Sub Allows IsNullable (fields all) hs (tested_distinct (pairs (fields all)) (distinct_columns all all_alone)) (λ k x is. by_option (first_named ps k)
+          (λ lacks.
+          let b = further_back (pairs fs) (pairs gs) k x (sym (behind ps more k lacks) ∙ of_columns all k (Some x) is) in
+          let s = found Sub Allows IsNullable gs hs g k b.0 b.2 in
+          (s.0, s.1, subst (λ z. ReadsAs z s.0) (sym b.3) (made_least b.0 s.0 s.2 (only k s.0 b.1 s.1))))
+          (λ y some.
+          let b = row_back (Below hs) fs ps rows k y some in
+          let s = found Sub Allows IsNullable fs hs f k b.0 b.1 in
+          (s.0, s.1, subst (λ z. ReadsAs z s.0) (same_Some y x (sym (found_before ps more k y some) ∙ of_columns all k (Some x) is)) (b.2 s.0 s.1)))),
+      λ k y none is. by_option (first_named (pairs fs) k)
+          (λ lacks. only k y lacks is)
+          (λ t some. let b = row_at (Below hs) fs ps rows k t some in let at = in_struct all k (Some b.0) (found_before ps more k b.0 b.1) in cc),
+    )
+
+-- what is merged of two types, and that it can be read as d
+abbrev pub MergedBelow : Tree → Tree → Tree → Type 0
+MergedBelow a b d = (c : Tree) × (columns_merged a b ≡ Some c) × ReadsAs c d
+
+pub plain_merged : (a b : Tree) → plain a ≡ true → columns_merged a b ≡ merged a b
+plain_merged (list t m) b p = absurd (false≢true p)
+plain_merged (fixed_size_list t j m) b p = absurd (false≢true p)
+plain_merged (map_of t v x m) b p = absurd (false≢true p)
+plain_merged (struct fs m) b p = absurd (false≢true p)
+plain_merged (extension i a t) b p = absurd (false≢true p)
+plain_merged a b p = refl
+
+-- of two subsets
+subs_below : (a b d : Tree) → Sub a d → Sub b d → (c : Tree) × (merged a b ≡ Some c) × ReadsAs c d
+subs_below a b d h g =
+    let same = h.erased ∙ sym g.erased in
+    let is = under_some either a b same in
+    let c = merge either a b in (c, is, sub_reads c d ((merged_least a b c is).least d h g))
+
+plain_below : (a b d : Tree) → plain a ≡ true → ReadsAs a d → ReadsAs b d → MergedBelow a b d
+plain_below a b d p h g =
+    let of_a = alike_plain Sub Allows IsNullable a d p h in
+    let of_b = alike_plain Sub Allows IsNullable b d (ap plain_kind (reads_kind b d g ∙ sym (reads_kind a d h)) ∙ p) g in
+    let s = subs_below a b d of_a of_b in (s.0, plain_merged a b p ∙ s.1, s.2)
+
+pub field_valid : (hs : Fields) (n : List ℕ) (y : Tree) → ValidItems hs → first_named (pairs hs) n ≡ Some y → Valid y
+field_valid hs n y v is = type_named_valid (pairs hs) n y is (subst ValidItems (sym (fields_of_pairs hs)) v)
+
+-- of two structs, from what is done with their fields
+structs_least : (fs gs hs : Fields) (m n o : Nullability)
+    → (EachFound Sub Allows IsNullable fs hs → EachFound Sub Allows IsNullable gs hs → OnlyFurther IsNullable gs hs → (ps : Pairs) × (merged_by_name fs gs ≡ Some ps) × Rows (Below hs) fs ps)
+    → ReadsAs (struct fs m) (struct hs o) → ReadsAs (struct gs n) (struct hs o) → MergedBelow (struct fs m) (struct gs n) (struct hs o)
+structs_least fs gs hs m n o go (inl h) (inl g) =
+    let rows = go h.2 g.2 g.3 in
+    let more = further (pairs fs) (pairs gs) in
+    let tested = true_both (no_repeats (pairs fs)) (no_repeats (pairs gs)) (tested_distinct (pairs fs) h.0.0) (tested_distinct (pairs gs) g.0.0) in (
+      struct (fields (rows.0 ++ more)) (either m n),
+      pick_true (no_repeats (pairs fs) && no_repeats (pairs gs)) (struct_with (merged_by_name fs gs) more (either m n)) (merged (struct fs m) (struct gs n)) tested ∙ ap (λ r. struct_with r more (either m n)) rows.1,
+      structs_below fs gs hs m n o rows.0 h.0 g.0 h.1 g.1 h.2 g.2 h.3 rows.2,
+    )
+structs_least fs gs hs m n o go (inl h) (inr g) = absurd (g.0 (subst Distinct (sym (sub_names gs hs n o g.1)) h.0.1, h.0.1))
+structs_least fs gs hs m n o go (inr h) (inl g) = absurd (h.0 (subst Distinct (sym (sub_names fs hs m o h.1)) g.0.1, g.0.1))
+structs_least fs gs hs m n o go (inr h) (inr g) =
+    let s = subs_below (struct fs m) (struct gs n) (struct hs o) h.1 g.1 in
+    let test = no_repeats (pairs fs) && no_repeats (pairs gs) in
+    let differ : test ≡ false = by_bool test
+    (λ tested. let d = distinct_tested (pairs fs) ((both_true (no_repeats (pairs fs)) (no_repeats (pairs gs)) tested).0) in absurd (h.0 (d, subst Distinct (sub_names fs hs m o h.1) d)))
+    (λ e. e) in
+    (s.0, pick_false test (struct_with (merged_by_name fs gs) (further (pairs fs) (pairs gs)) (either m n)) (merged (struct fs m) (struct gs n)) differ ∙ s.1, s.2)
+
+mutual
+  pub least : (a b d : Tree) → Valid d → ReadsAs a d → ReadsAs b d → MergedBelow a b d
+  least (list t m) (list u n) d v h g =
+      let i = of_list Sub Allows IsNullable sub_kind t m d h in
+      let b = subst (ReadsAs (list u n)) i.2 g in
+      let r = least t u i.0 (subst Valid i.2 v) i.4 b.1 in
+      (list r.0 (either m n), ap (option_map (λ x. list x (either m n))) r.1, subst (ReadsAs (list r.0 (either m n))) (sym i.2) (upwards.least i.1 m n i.3 b.0, r.2))
+  least (list t m) b d v h g = let ha = reads_kind (list t m) d h in let hb = reads_kind b d g in cc
+  least (fixed_size_list t j m) (fixed_size_list u k n) d v h g =
+      let i = of_fixed Sub Allows IsNullable sub_kind t j m d h in
+      let b = subst (ReadsAs (fixed_size_list u k n)) i.2 g in
+      let at = subst Valid i.2 v in
+      let r = least t u i.0 at.1 i.4 b.2 in (
+        fixed_size_list r.0 j (either m n),
+        pick_true (j == k) (option_map (λ x. fixed_size_list x j (either m n)) (columns_merged t u)) None (eq-eqb j k (sym b.0)) ∙ ap (option_map (λ x. fixed_size_list x j (either m n))) r.1,
+        subst (ReadsAs (fixed_size_list r.0 j (either m n))) (sym i.2) (refl, upwards.least i.1 m n i.3 b.1, r.2),
+      )
+  least (fixed_size_list t j m) b d v h g = let ha = reads_kind (fixed_size_list t j m) d h in let hb = reads_kind b d g in cc
+  least (map_of t p x m) (map_of u q y n) d v h g =
+      let i = of_map Sub Allows IsNullable sub_kind t p x m d h in
+      let b = subst (ReadsAs (map_of u q y n)) i.3 g in
+      let at = subst Valid i.3 v in
+      let k = least t u i.0 at.1 i.5 b.2 in
+      let w = least p q i.1 at.2 i.6 b.3 in
+      let sure : nullability k.0 ≢ Nullable = λ e. let null = reads_nullable k.0 i.0 k.2 e in let key = at.0 in cc in (
+        map_of k.0 w.0 x (either m n),
+        pick_true (beq x y) (map_with (columns_merged t u) (columns_merged p q) x (either m n)) None ((booleans_Decides x y).1 (sym b.0))
+            ∙ ap (λ o. map_with o (columns_merged p q) x (either m n)) k.1 ∙ ap (λ o. map_with (Some k.0) o x (either m n)) w.1 ∙ key_kept (nullability k.0) k.0 w.0 x (either m n) sure,
+        subst (ReadsAs (map_of k.0 w.0 x (either m n))) (sym i.3) (refl, upwards.least i.2 m n i.4 b.1, k.2, w.2),
+      )
+  least (map_of t p x m) b d v h g = let ha = reads_kind (map_of t p x m) d h in let hb = reads_kind b d g in cc
+  least (struct fs m) (struct gs n) d v h g =
+      let i = of_struct Sub Allows IsNullable sub_kind fs m d h in
+      let s = structs_least fs gs i.0 m n i.1 (rows_least fs gs i.0 (subst Valid i.2 v)) i.3 (subst (ReadsAs (struct gs n)) i.2 g) in
+      (s.0, s.1, subst (ReadsAs s.0) (sym i.2) s.2)
+  least (struct fs m) b d v h g = let ha = reads_kind (struct fs m) d h in let hb = reads_kind b d g in cc
+  least (extension i a t) (extension j b u) d v h g =
+      let p = of_extension Sub Allows IsNullable sub_kind i a t d h in
+      let q = subst (ReadsAs (extension j b u)) p.1 g in
+      let at = subst Valid p.1 v in
+      let r = least t u p.0 at.1 p.2 q.2 in (
+        extension i a r.0,
+        pick_true (bytes_eq i j && bytes_eq a b) (option_map (extension i a) (columns_merged t u)) None (true_both (bytes_eq i j) (bytes_eq a b) ((bytes_eq-Decides i j).1 (sym q.0)) ((bytes_eq-Decides a b).1 (sym q.1)))
+            ∙ ap (option_map (extension i a)) r.1,
+        subst (ReadsAs (extension i a r.0)) (sym p.1) (refl, refl, r.2),
+      )
+  least (extension i a t) b d v h g = let ha = reads_kind (extension i a t) d h in let hb = reads_kind b d g in cc
+  least a b d v h g = plain_below a b d refl h g
+
+  rows_least : (fs gs hs : Fields) → ValidItems hs → EachFound Sub Allows IsNullable fs hs → EachFound Sub Allows IsNullable gs hs → OnlyFurther IsNullable gs hs
+      → (ps : Pairs) × (merged_by_name fs gs ≡ Some ps) × Rows (Below hs) fs ps
+  rows_least no_items gs hs v f g only = ([], refl, tt)
+  rows_least (item n t _ fs) gs hs v f g only =
+      let s = some_and (ReadsAs t) (first_named (pairs hs) n) f.0 in
+      let y = s.0 in
+      let other = first_named (pairs gs) n in
+      let cell : (x : Tree) × (column t (λ u. columns_merged t u) other ≡ Some x) × ReadsAs x y = by_option other
+      (λ none. (made_nullable t, ap (column t (λ u. columns_merged t u)) none, made_least t y s.2 (only n y none s.1)))
+      (λ u some.
+      let r = found Sub Allows IsNullable gs hs g n u some in
+      let c = least t u y (field_valid hs n y v s.1) s.2 (subst (ReadsAs u) (same_Some r.0 y (sym r.1 ∙ s.1)) r.2) in
+      (c.0, ap (column t (λ u. columns_merged t u)) some ∙ c.1, c.2)) in
+      let rest = rows_least fs gs hs v f.1 g only in (
+        (n, cell.0) ∷ rest.0,
+        ap (λ o. prepend n o (merged_by_name fs gs)) cell.1 ∙ ap (prepend n (Some cell.0)) rest.1,
+        (refl, λ z at. subst (ReadsAs cell.0) (same_Some y z (sym s.1 ∙ at)) cell.2, rest.2),
+      )

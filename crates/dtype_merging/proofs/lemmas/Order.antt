@@ -1,0 +1,156 @@
+-- SPDX-License-Identifier: Apache-2.0
+-- SPDX-FileCopyrightText: Copyright the Vortex contributors
+
+-- The order of types by what can be read as what: it is reflexive and transitive, and types of which each can be read as
+-- the other are the same up to the order of columns. A subset can be read as what it is a subset of.
+use Rattle.std.proofs.Common.{◌≡◌, ℕ, List, Bool, true, false, refl, sym, ap, subst, ◌∙◌, inl, inr}
+use Rattle.std.proofs.lemmas.Bool.{false≢true}
+use Rattle.std.proofs.lemmas.Option.{same_Some}
+use Rattle.dtype_base.specs.Distinct.{Distinct}
+use Rattle.dtype_base.specs.declared.nullability.Nullability.{Nullability}
+use Rattle.dtype_types.specs.declared.dtype.kinds.Kind.{Kind}
+use Rattle.dtype_types.specs.declared.dtype.kinds.Kind.TheVariants as variants
+use Rattle.dtype_types.specs.parts.Lookups.{first_named}
+use Rattle.dtype_types.specs.tree.Kinds.{kind}
+use Rattle.dtype_types.specs.tree.Tree.{Tree, Fields, no_items, item, pairs, list, fixed_size_list, map_of, struct, extension}
+use Rattle.dtype_merging.specs.ReadsAs.{Alike, EachFound, OnlyFurther, names}
+use Rattle.dtype_merging.specs.MergedColumns.{no_repeats}
+use Rattle.dtype_merging.proofs.lemmas.Repeats.{repeat_or_not, tested_distinct}
+use Rattle.dtype_merging.proofs.lemmas.Finding.{Agrees, agrees_first, agrees_rest, by_option, found, no_repeats_rest, of_some_and, some_and}
+
+-- ---- kinds without columns
+
+-- whether the types of a kind have no columns, and no parts that may have some
+abbrev pub plain_kind : Kind → Bool
+plain_kind variants.List = false
+plain_kind variants.FixedSizeList = false
+plain_kind variants.Map = false
+plain_kind variants.Struct = false
+plain_kind variants.Extension = false
+plain_kind _ = true
+
+abbrev pub plain : Tree → Bool
+plain t = plain_kind (kind t)
+
+-- ---- the parts of a type that is alike another
+
+module _ (L : Tree → Tree → Type 0) (R : Nullability → Nullability → Type 0) (E : Tree → Type 0) where
+  pub alike_plain : (t u : Tree) → plain t ≡ true → Alike L R E t u → L t u
+  alike_plain (list t m) u p h = absurd (false≢true p)
+  alike_plain (fixed_size_list t j m) u p h = absurd (false≢true p)
+  alike_plain (map_of t v x m) u p h = absurd (false≢true p)
+  alike_plain (struct fs m) u p h = absurd (false≢true p)
+  alike_plain (extension i a t) u p h = absurd (false≢true p)
+  alike_plain t u p h = h
+
+  pub plain_alike : (t u : Tree) → plain t ≡ true → L t u → Alike L R E t u
+  plain_alike (list t m) u p h = absurd (false≢true p)
+  plain_alike (fixed_size_list t j m) u p h = absurd (false≢true p)
+  plain_alike (map_of t v x m) u p h = absurd (false≢true p)
+  plain_alike (struct fs m) u p h = absurd (false≢true p)
+  plain_alike (extension i a t) u p h = absurd (false≢true p)
+  plain_alike t u p h = h
+
+  module _ (kinds : (t u : Tree) → L t u → kind t ≡ kind u) where
+    pub of_list : (t : Tree) (m : Nullability) (w : Tree) → Alike L R E (list t m) w → (u : Tree) × (n : Nullability) × (w ≡ list u n) × R m n × Alike L R E t u
+    of_list t m (list u n) h = (u, n, refl, h.0, h.1)
+    of_list t m w h = let e = kinds (list t m) w h in cc
+
+    pub of_fixed : (t : Tree) (j : ℕ) (m : Nullability) (w : Tree) → Alike L R E (fixed_size_list t j m) w → (u : Tree) × (n : Nullability) × (w ≡ fixed_size_list u j n) × R m n × Alike L R E t u
+    of_fixed t j m (fixed_size_list u i n) h = (u, n, ap (λ z. fixed_size_list u z n) (sym h.0), h.1, h.2)
+    of_fixed t j m w h = let e = kinds (fixed_size_list t j m) w h in cc
+
+    pub of_map : (t v : Tree) (x : Bool) (m : Nullability) (z : Tree) → Alike L R E (map_of t v x m) z
+        → (u w : Tree) × (n : Nullability) × (z ≡ map_of u w x n) × R m n × Alike L R E t u × Alike L R E v w
+    of_map t v x m (map_of u w y n) h = (u, w, n, ap (λ o. map_of u w o n) (sym h.0), h.1, h.2, h.3)
+    of_map t v x m z h = let e = kinds (map_of t v x m) z h in cc
+
+    pub of_struct : (fs : Fields) (m : Nullability) (w : Tree) → Alike L R E (struct fs m) w → (gs : Fields) × (n : Nullability) × (w ≡ struct gs n) × Alike L R E (struct fs m) (struct gs n)
+    of_struct fs m (struct gs n) h = (gs, n, refl, h)
+    of_struct fs m w h = let e = kinds (struct fs m) w h in cc
+
+    pub of_extension : (i b : List ℕ) (t w : Tree) → Alike L R E (extension i b t) w → (u : Tree) × (w ≡ extension i b u) × Alike L R E t u
+    of_extension i b t (extension j c u) h = (u, ap (λ o. extension o c u) (sym h.0) ∙ ap (λ o. extension i o u) (sym h.1), h.2)
+    of_extension i b t w h = let e = kinds (extension i b t) w h in cc
+
+    -- types that are alike are of one kind
+    pub alike_kind : (t w : Tree) → Alike L R E t w → kind t ≡ kind w
+    alike_kind (list t m) w h = ap kind (sym (of_list t m w h).2)
+    alike_kind (fixed_size_list t j m) w h = ap kind (sym (of_fixed t j m w h).2)
+    alike_kind (map_of t v x m) w h = ap kind (sym (of_map t v x m w h).3)
+    alike_kind (struct fs m) w h = ap kind (sym (of_struct fs m w h).2)
+    alike_kind (extension i b t) w h = ap kind (sym (of_extension i b t w h).1)
+    alike_kind t w h = kinds t w (alike_plain t w refl h)
+
+    -- ---- reflexive
+
+    module _ (L_same : (t : Tree) → L t t) (R_same : (n : Nullability) → R n n) where
+      mutual
+        pub alike_itself : (t : Tree) → Alike L R E t t
+        alike_itself (list t m) = (R_same m, alike_itself t)
+        alike_itself (fixed_size_list t j m) = (refl, R_same m, alike_itself t)
+        alike_itself (map_of t v x m) = (refl, R_same m, alike_itself t, alike_itself v)
+        alike_itself (struct fs m) = elim (repeat_or_not fs fs) [
+          | inl d ↦ inl (d, R_same m, found_itself fs fs (tested_distinct (pairs fs) d.0) (λ n t is. is), λ n u none is. cc)
+          | inr d ↦ inr (d, L_same (struct fs m))
+        ]
+        alike_itself (extension i b t) = (refl, refl, alike_itself t)
+        alike_itself t = L_same t
+
+        found_itself : (fs gs : Fields) → no_repeats (pairs fs) ≡ true → Agrees (pairs fs) (pairs gs) → EachFound L R E fs gs
+        found_itself no_items gs d h = tt
+        found_itself (item n t _ fs) gs d h =
+            let r = no_repeats_rest (n, t) (pairs fs) d in
+            (of_some_and (Alike L R E t) (first_named (pairs gs) n) t (agrees_first n t (pairs fs) (pairs gs) h) (alike_itself t), found_itself fs gs r.1 (agrees_rest n t (pairs fs) (pairs gs) r.0 h))
+
+    -- ---- transitive
+
+    -- a struct has the names of one that it is `L` of
+    module _ (same_names : (fs gs : Fields) (m n : Nullability) → L (struct fs m) (struct gs n) → names fs ≡ names gs)
+        (L_more : (t u v : Tree) → L t u → L u v → L t v) (R_more : (l m n : Nullability) → R l m → R m n → R l n)
+        (E_more : (t u : Tree) → Alike L R E t u → E t → E u) where
+      further_more : (fs gs hs : Fields) → OnlyFurther E fs gs → EachFound L R E gs hs → OnlyFurther E gs hs → OnlyFurther E fs hs
+      further_more fs gs hs f a g n v none is = by_option (first_named (pairs gs) n)
+          (λ e. g n v e is)
+          (λ u e. let s = found L R E gs hs a n u e in E_more u v (subst (Alike L R E u) (same_Some s.0 v (sym s.1 ∙ is)) s.2) (f n u none e))
+
+      -- two structs after a third, from what is done with their fields
+      structs_more : (fs gs hs : Fields) (l m n : Nullability) → (EachFound L R E fs gs → EachFound L R E gs hs → EachFound L R E fs hs)
+          → Alike L R E (struct fs l) (struct gs m) → Alike L R E (struct gs m) (struct hs n) → Alike L R E (struct fs l) (struct hs n)
+      structs_more fs gs hs l m n go (inl h) (inl g) = inl ((h.0.0, g.0.1), R_more l m n h.1 g.1, go h.2 g.2, further_more fs gs hs h.3 g.2 g.3)
+      structs_more fs gs hs l m n go (inl h) (inr g) = absurd (g.0 (h.0.1, subst Distinct (same_names gs hs m n g.1) h.0.1))
+      structs_more fs gs hs l m n go (inr h) (inl g) = absurd (h.0 (subst Distinct (sym (same_names fs gs l m h.1)) g.0.0, g.0.0))
+      structs_more fs gs hs l m n go (inr h) (inr g) = inr (λ d. h.0 (d.0, subst Distinct (same_names fs gs l m h.1) d.0), L_more (struct fs l) (struct gs m) (struct hs n) h.1 g.1)
+
+      mutual
+        pub alike_more : (t u v : Tree) → Alike L R E t u → Alike L R E u v → Alike L R E t v
+        alike_more (list t l) u v h g =
+            let i = of_list t l u h in
+            let j = of_list i.0 i.1 v (subst (λ z. Alike L R E z v) i.2 g) in
+            subst (Alike L R E (list t l)) (sym j.2) (R_more l i.1 j.1 i.3 j.3, alike_more t i.0 j.0 i.4 j.4)
+        alike_more (fixed_size_list t k l) u v h g =
+            let i = of_fixed t k l u h in
+            let j = of_fixed i.0 k i.1 v (subst (λ z. Alike L R E z v) i.2 g) in
+            subst (Alike L R E (fixed_size_list t k l)) (sym j.2) (refl, R_more l i.1 j.1 i.3 j.3, alike_more t i.0 j.0 i.4 j.4)
+        alike_more (map_of t w x l) u v h g =
+            let i = of_map t w x l u h in
+            let j = of_map i.0 i.1 x i.2 v (subst (λ z. Alike L R E z v) i.3 g) in
+            subst (Alike L R E (map_of t w x l)) (sym j.3) (refl, R_more l i.2 j.2 i.4 j.4, alike_more t i.0 j.0 i.5 j.5, alike_more w i.1 j.1 i.6 j.6)
+        alike_more (struct fs l) u v h g =
+            let i = of_struct fs l u h in
+            let j = of_struct i.0 i.1 v (subst (λ z. Alike L R E z v) i.2 g) in
+            subst (Alike L R E (struct fs l)) (sym j.2) (structs_more fs i.0 j.0 l i.1 j.1 (found_more fs i.0 j.0) i.3 j.3)
+        alike_more (extension i b t) u v h g =
+            let p = of_extension i b t u h in
+            let q = of_extension i b p.0 v (subst (λ z. Alike L R E z v) p.1 g) in
+            subst (Alike L R E (extension i b t)) (sym q.1) (refl, refl, alike_more t p.0 q.0 p.2 q.2)
+        alike_more t u v h g =
+            let at = alike_plain t u refl h in
+            plain_alike t v refl (L_more t u v at (alike_plain u v (sym (ap plain_kind (kinds t u at))) g))
+
+        found_more : (fs gs hs : Fields) → EachFound L R E fs gs → EachFound L R E gs hs → EachFound L R E fs hs
+        found_more no_items gs hs h g = tt
+        found_more (item n t _ fs) gs hs h g =
+            let s = some_and (Alike L R E t) (first_named (pairs gs) n) h.0 in
+            let r = found L R E gs hs g n s.0 s.1 in
+            (of_some_and (Alike L R E t) (first_named (pairs hs) n) r.0 r.1 (alike_more t s.0 r.0 s.2 r.2), found_more fs gs hs h.1 g)

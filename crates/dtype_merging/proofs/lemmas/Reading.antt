@@ -1,0 +1,224 @@
+-- SPDX-License-Identifier: Apache-2.0
+-- SPDX-FileCopyrightText: Copyright the Vortex contributors
+
+-- `ReadsAs` is an order up to the order of columns, and a subset of a type can be read as the type.
+use Rattle.std.proofs.Common.{◌≡◌, ℕ, List, ◌∷◌, true, Some, None, refl, sym, ap, subst, ◌∙◌, inl, inr}
+use Rattle.std.specs.Option.{option_map}
+use Rattle.std.proofs.lemmas.Option.{same_Some}
+use Rattle.dtype_base.specs.declared.nullability.Nullability.{Nullability}
+use Rattle.dtype_types.specs.nullability.Nullable.{IsNullable}
+use Rattle.dtype_types.specs.nullability.Sub.{Sub, Allows, NullableWhereverItems}
+use Rattle.dtype_types.specs.parts.Lookups.{first_named}
+use Rattle.dtype_types.specs.tree.Erase.{erase, erase_items}
+use Rattle.dtype_types.specs.tree.Kinds.{kind}
+use Rattle.dtype_types.specs.tree.Tree.{Tree, Fields, no_items, item, pairs, list, fixed_size_list, map_of, struct, extension, rest_of}
+use Rattle.dtype_types.proofs.lemmas.Bounds.{upwards}
+use Rattle.dtype_types.proofs.lemmas.Order.{above_nullable, sub_antisymmetric, sub_reflexive, sub_transitive}
+use Rattle.dtype_merging.specs.ReadsAs.{EachFound, ReadsAs, SameColumns, names}
+use Rattle.dtype_merging.specs.MergedColumns.{no_repeats}
+use Rattle.dtype_merging.proofs.lemmas.Finding.{Agrees, agrees_first, agrees_rest, by_name, by_option, finds_first, finds_later, found, no_repeats_rest, of_some_and, some_and}
+use Rattle.dtype_merging.proofs.lemmas.Order.{alike_itself, alike_kind, alike_more, alike_plain, of_extension, of_fixed, of_list, of_map, of_struct, plain_alike, plain_kind}
+use Rattle.dtype_merging.proofs.lemmas.Repeats.{repeat_or_not, tested_distinct}
+
+-- ---- what is erased
+
+kind_erased : (t : Tree) → kind (erase t) ≡ kind t
+kind_erased (list t n) = refl
+kind_erased _ = refl
+
+pub erased_kind : (t u : Tree) → erase t ≡ erase u → kind t ≡ kind u
+erased_kind t u e = sym (kind_erased t) ∙ ap kind e ∙ kind_erased u
+
+names_erased : (fs : Fields) → names (erase_items fs) ≡ names fs
+names_erased no_items = refl
+names_erased (item n t _ fs) = ap (λ ns. n ∷ ns) (names_erased fs)
+
+pub erased_names : (fs gs : Fields) → erase_items fs ≡ erase_items gs → names fs ≡ names gs
+erased_names fs gs e = sym (names_erased fs) ∙ ap names e ∙ names_erased gs
+
+named_erased : (fs : Fields) (n : List ℕ) → first_named (pairs (erase_items fs)) n ≡ option_map erase (first_named (pairs fs) n)
+named_erased no_items n = refl
+named_erased (item m t _ fs) n = by_name m n
+    (λ e. finds_first m n (erase t) (pairs (erase_items fs)) e ∙ sym (ap (option_map erase) (finds_first m n t (pairs fs) e)))
+    (λ ne. finds_later m n (erase t) (pairs (erase_items fs)) ne ∙ named_erased fs n ∙ sym (ap (option_map erase) (finds_later m n t (pairs fs) ne)))
+
+-- a name that finds nothing in one struct finds nothing in one that differs in nullabilities alone
+pub erased_lacks : (fs gs : Fields) (n : List ℕ) → erase_items fs ≡ erase_items gs → first_named (pairs fs) n ≡ None → first_named (pairs gs) n ≡ None
+erased_lacks fs gs n e none = by_option (first_named (pairs gs) n) (λ is. is)
+    (λ u is.
+    let both : option_map erase (first_named (pairs fs) n) ≡ option_map erase (first_named (pairs gs) n) = sym (named_erased fs n) ∙ ap (λ hs. first_named (pairs hs) n) e ∙ named_erased gs n in
+    let some : None ≡ Some (erase u) = sym (ap (option_map erase) none) ∙ both ∙ ap (option_map erase) is in cc)
+
+-- ---- the two relations between types without columns
+
+pub sub_kind : (t u : Tree) → Sub t u → kind t ≡ kind u
+sub_kind t u h = erased_kind t u h.erased
+
+pub sub_names : (fs gs : Fields) (m n : Nullability) → Sub (struct fs m) (struct gs n) → names fs ≡ names gs
+sub_names fs gs m n h = let e = h.erased in let f : erase_items fs ≡ erase_items gs = cc in erased_names fs gs f
+
+same_kind : (t u : Tree) → t ≡ u → kind t ≡ kind u
+same_kind t u e = ap kind e
+
+same_struct_names : (fs gs : Fields) (m n : Nullability) → struct fs m ≡ struct gs n → names fs ≡ names gs
+same_struct_names fs gs m n e = let f : fs ≡ gs = cc in ap names f
+
+allows_more : (l m n : Nullability) → Allows l m → Allows m n → Allows l n
+allows_more l m n f g h = g (f h)
+
+-- ---- what can be read as what
+
+abbrev Same : Tree → Tree → Type 0
+Same t u = t ≡ u
+
+abbrev Equal : Nullability → Nullability → Type 0
+Equal m n = m ≡ n
+
+abbrev Never : Tree → Type 0
+Never t = ⊥
+
+pub reads_kind : (t u : Tree) → ReadsAs t u → kind t ≡ kind u
+reads_kind = alike_kind Sub Allows IsNullable sub_kind
+
+pub reads_itself : (t : Tree) → ReadsAs t t
+reads_itself = alike_itself Sub Allows IsNullable sub_kind sub_reflexive (λ n h. h)
+
+pub same_itself : (t : Tree) → SameColumns t t
+same_itself = alike_itself Same Equal Never same_kind (λ t. refl) (λ n. refl)
+
+-- what a nullable type can be read as is nullable
+pub reads_nullable : (t u : Tree) → ReadsAs t u → IsNullable t → IsNullable u
+reads_nullable (list t m) u h e = let i = of_list Sub Allows IsNullable sub_kind t m u h in subst IsNullable (sym i.2) (i.3 e)
+reads_nullable (fixed_size_list t j m) u h e = let i = of_fixed Sub Allows IsNullable sub_kind t j m u h in subst IsNullable (sym i.2) (i.3 e)
+reads_nullable (map_of t v x m) u h e = let i = of_map Sub Allows IsNullable sub_kind t v x m u h in subst IsNullable (sym i.3) (i.4 e)
+reads_nullable (struct fs m) u h e =
+    let i = of_struct Sub Allows IsNullable sub_kind fs m u h in
+    subst IsNullable (sym i.2) (elim i.3 [ inl s ↦ s.1 e | inr s ↦ above_nullable (struct fs m) (struct i.0 i.1) s.1 e ])
+reads_nullable (extension i b t) u h e = let p = of_extension Sub Allows IsNullable sub_kind i b t u h in subst IsNullable (sym p.1) (reads_nullable t p.0 p.2 e)
+reads_nullable t u h e = above_nullable t u (alike_plain Sub Allows IsNullable t u refl h) e
+
+pub reads_more : (t u v : Tree) → ReadsAs t u → ReadsAs u v → ReadsAs t v
+reads_more = alike_more Sub Allows IsNullable sub_kind sub_names sub_transitive allows_more reads_nullable
+
+pub same_more : (t u v : Tree) → SameColumns t u → SameColumns u v → SameColumns t v
+same_more = alike_more Same Equal Never same_kind same_struct_names (λ t u v e f. e ∙ f) (λ l m n e f. e ∙ f) (λ t u h e. absurd e)
+
+-- ---- a subset can be read as what it is a subset of
+
+mutual
+  pub sub_reads : (t u : Tree) → Sub t u → ReadsAs t u
+  sub_reads (list t m) (list u n) h = let e = h.erased in (h.nullable.0, sub_reads t u (record { erased = cc; nullable = h.nullable.1 }))
+  sub_reads (list t m) u h = let e = sub_kind (list t m) u h in cc
+  sub_reads (fixed_size_list t j m) (fixed_size_list u i n) h = let e = h.erased in (cc, h.nullable.0, sub_reads t u (record { erased = cc; nullable = h.nullable.1 }))
+  sub_reads (fixed_size_list t j m) u h = let e = sub_kind (fixed_size_list t j m) u h in cc
+  sub_reads (map_of t v x m) (map_of u w y n) h =
+      let e = h.erased in (cc, h.nullable.0, sub_reads t u (record { erased = cc; nullable = h.nullable.1 }), sub_reads v w (record { erased = cc; nullable = h.nullable.2 }))
+  sub_reads (map_of t v x m) u h = let e = sub_kind (map_of t v x m) u h in cc
+  sub_reads (struct fs m) (struct gs n) h =
+      let e = h.erased in
+      let f : erase_items fs ≡ erase_items gs = cc in
+      elim (repeat_or_not fs gs) [
+        | inl d ↦ inl (
+          d,
+          h.nullable.0,
+          sub_found fs gs gs f h.nullable.1 (tested_distinct (pairs gs) d.1) (λ k t is. is),
+          λ k u none is. let lacks = erased_lacks fs gs k f none in cc,
+        )
+        | inr d ↦ inr (d, h)
+      ]
+  sub_reads (struct fs m) u h = let e = sub_kind (struct fs m) u h in cc
+  sub_reads (extension i b t) (extension j c u) h = let e = h.erased in (cc, cc, sub_reads t u (record { erased = cc; nullable = h.nullable }))
+  sub_reads (extension i b t) u h = let e = sub_kind (extension i b t) u h in cc
+  sub_reads t u h = h
+
+  sub_found : (fs gs hs : Fields) → erase_items fs ≡ erase_items gs → NullableWhereverItems fs gs → no_repeats (pairs gs) ≡ true → Agrees (pairs gs) (pairs hs) → EachFound Sub Allows IsNullable fs hs
+  sub_found no_items gs hs e h d a = tt
+  sub_found (item m t _ fs) no_items hs e h d a = cc
+  sub_found (item m t _ fs) (item n u _ gs) hs e h d a =
+      let name : n ≡ m = cc in
+      let type : erase t ≡ erase u = cc in
+      let r = no_repeats_rest (n, u) (pairs gs) d in (
+        of_some_and (ReadsAs t) (first_named (pairs hs) m) u (ap (first_named (pairs hs)) (sym name) ∙ agrees_first n u (pairs gs) (pairs hs) a) (sub_reads t u (record { erased = type; nullable = h.0 })),
+        sub_found fs gs hs (ap rest_of e) h.1 r.1 (agrees_rest n u (pairs gs) (pairs hs) r.0 a),
+      )
+
+-- ---- types of which each can be read as the other
+
+-- two structs, from what is done with their fields
+structs_back : (fs gs : Fields) (m n : Nullability) → (EachFound Sub Allows IsNullable fs gs → no_repeats (pairs fs) ≡ true → EachFound Sub Allows IsNullable gs fs → EachFound Same Equal Never fs gs)
+    → ReadsAs (struct fs m) (struct gs n) → ReadsAs (struct gs n) (struct fs m) → SameColumns (struct fs m) (struct gs n)
+structs_back fs gs m n go (inl h) (inl g) = inl (
+  h.0,
+  upwards.only m n h.1 g.1,
+  go h.2 (tested_distinct (pairs fs) h.0.0) g.2,
+  λ k u none is. let s = found Sub Allows IsNullable gs fs g.2 k u is in let at = s.1 in cc,
+)
+structs_back fs gs m n go (inl h) (inr g) = absurd (g.0 (h.0.1, h.0.0))
+structs_back fs gs m n go (inr h) (inl g) = absurd (h.0 (g.0.1, g.0.0))
+structs_back fs gs m n go (inr h) (inr g) = inr (h.0, sub_antisymmetric (struct fs m) (struct gs n) h.1 g.1)
+
+mutual
+  pub reads_back : (t u : Tree) → ReadsAs t u → ReadsAs u t → SameColumns t u
+  reads_back (list t m) u h g =
+      let i = of_list Sub Allows IsNullable sub_kind t m u h in
+      let back = subst (λ z. ReadsAs z (list t m)) i.2 g in
+      subst (SameColumns (list t m)) (sym i.2) (upwards.only m i.1 i.3 back.0, reads_back t i.0 i.4 back.1)
+  reads_back (fixed_size_list t j m) u h g =
+      let i = of_fixed Sub Allows IsNullable sub_kind t j m u h in
+      let back = subst (λ z. ReadsAs z (fixed_size_list t j m)) i.2 g in
+      subst (SameColumns (fixed_size_list t j m)) (sym i.2) (refl, upwards.only m i.1 i.3 back.1, reads_back t i.0 i.4 back.2)
+  reads_back (map_of t v x m) u h g =
+      let i = of_map Sub Allows IsNullable sub_kind t v x m u h in
+      let back = subst (λ z. ReadsAs z (map_of t v x m)) i.3 g in
+      subst (SameColumns (map_of t v x m)) (sym i.3) (refl, upwards.only m i.2 i.4 back.1, reads_back t i.0 i.5 back.2, reads_back v i.1 i.6 back.3)
+  reads_back (struct fs m) u h g =
+      let i = of_struct Sub Allows IsNullable sub_kind fs m u h in
+      let back = subst (λ z. ReadsAs z (struct fs m)) i.2 g in
+      subst (SameColumns (struct fs m)) (sym i.2) (structs_back fs i.0 m i.1 (λ f d g. found_back fs i.0 fs f d (λ k t is. is) g) i.3 back)
+  reads_back (extension i b t) u h g =
+      let p = of_extension Sub Allows IsNullable sub_kind i b t u h in
+      let back = subst (λ z. ReadsAs z (extension i b t)) p.1 g in
+      subst (SameColumns (extension i b t)) (sym p.1) (refl, refl, reads_back t p.0 p.2 back.2)
+  reads_back t u h g =
+      let at = alike_plain Sub Allows IsNullable t u refl h in
+      let back = alike_plain Sub Allows IsNullable u t (sym (ap plain_kind (sub_kind t u at))) g in
+      plain_alike Same Equal Never t u refl (sub_antisymmetric t u at back)
+
+  found_back : (fs gs hs : Fields) → EachFound Sub Allows IsNullable fs gs → no_repeats (pairs fs) ≡ true → Agrees (pairs fs) (pairs hs) → EachFound Sub Allows IsNullable gs hs → EachFound Same Equal Never fs gs
+  found_back no_items gs hs h d a g = tt
+  found_back (item n t _ fs) gs hs h d a g =
+      let s = some_and (ReadsAs t) (first_named (pairs gs) n) h.0 in
+      let r = found Sub Allows IsNullable gs hs g n s.0 s.1 in
+      let same = same_Some r.0 t (sym r.1 ∙ agrees_first n t (pairs fs) (pairs hs) a) in
+      let rest = no_repeats_rest (n, t) (pairs fs) d in
+      (of_some_and (SameColumns t) (first_named (pairs gs) n) s.0 s.1 (reads_back t s.0 s.2 (subst (ReadsAs s.0) same r.2)), found_back fs gs hs h.1 rest.1 (agrees_rest n t (pairs fs) (pairs hs) rest.0 a) g)
+
+-- ---- types that are the same up to the order of columns can be read as each other
+
+mutual
+  pub same_reads : (t u : Tree) → SameColumns t u → ReadsAs t u
+  same_reads (list t m) u h =
+      let i = of_list Same Equal Never same_kind t m u h in
+      subst (ReadsAs (list t m)) (sym i.2) (subst (Allows m) i.3 (λ z. z), same_reads t i.0 i.4)
+  same_reads (fixed_size_list t j m) u h =
+      let i = of_fixed Same Equal Never same_kind t j m u h in
+      subst (ReadsAs (fixed_size_list t j m)) (sym i.2) (refl, subst (Allows m) i.3 (λ z. z), same_reads t i.0 i.4)
+  same_reads (map_of t v x m) u h =
+      let i = of_map Same Equal Never same_kind t v x m u h in
+      subst (ReadsAs (map_of t v x m)) (sym i.3) (refl, subst (Allows m) i.4 (λ z. z), same_reads t i.0 i.5, same_reads v i.1 i.6)
+  same_reads (struct fs m) u h =
+      let i = of_struct Same Equal Never same_kind fs m u h in
+      subst (ReadsAs (struct fs m)) (sym i.2) (elim i.3 [
+        | inl s ↦ inl (s.0, subst (Allows m) s.1 (λ z. z), same_found fs i.0 s.2, λ k v none is. absurd (s.3 k v none is))
+        | inr s ↦ inr (s.0, subst (Sub (struct fs m)) s.1 (sub_reflexive (struct fs m)))
+      ])
+  same_reads (extension i b t) u h =
+      let p = of_extension Same Equal Never same_kind i b t u h in
+      subst (ReadsAs (extension i b t)) (sym p.1) (refl, refl, same_reads t p.0 p.2)
+  same_reads t u h = plain_alike Sub Allows IsNullable t u refl (subst (Sub t) (alike_plain Same Equal Never t u refl h) (sub_reflexive t))
+
+  same_found : (fs gs : Fields) → EachFound Same Equal Never fs gs → EachFound Sub Allows IsNullable fs gs
+  same_found no_items gs h = tt
+  same_found (item n t _ fs) gs h =
+      let s = some_and (SameColumns t) (first_named (pairs gs) n) h.0 in
+      (of_some_and (ReadsAs t) (first_named (pairs gs) n) s.0 s.1 (same_reads t s.0 s.2), same_found fs gs h.1)

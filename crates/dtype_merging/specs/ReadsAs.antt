@@ -1,0 +1,64 @@
+-- SPDX-License-Identifier: Apache-2.0
+-- SPDX-FileCopyrightText: Copyright the Vortex contributors
+
+-- Which type can be read as which other: `ReadsAs t u` means that a reader makes a value of `u` from each value of `t`
+-- by adding nulls for the columns that `t` lacks, and by putting the columns into the order of `u`. For example, the
+-- rows of `{b=utf8, a=i32}` can be read as `{a=i32, b=utf8?, c=u8?}`. This is how query engines read files of one table
+-- that were written with different schemas (DuckDB's `union_by_name`, Spark's `mergeSchema`). A column is found by its
+-- name, so a struct in which a name repeats is compared as a whole.
+use Rattle.std.specs.Prelude.{◌≡◌, ◌⊎◌, ℕ, List, Some, None, IsSomeAnd}
+use Rattle.dtype_base.specs.Distinct.{Distinct}
+use Rattle.dtype_base.specs.declared.nullability.Nullability.{Nullability}
+use Rattle.dtype_types.specs.nullability.Nullable.{IsNullable}
+use Rattle.dtype_types.specs.nullability.Sub.{Sub, Allows}
+use Rattle.dtype_types.specs.parts.Lookups.{field_names, first_named}
+use Rattle.dtype_types.specs.tree.Tree.{Tree, Fields, no_items, item, pairs, list, fixed_size_list, map_of, struct, extension}
+use Rattle.dtype_types.specs.tree.Valid.{Valid}
+
+-- the names of the fields, in order
+abbrev pub names : Fields → List (List ℕ)
+names fs = field_names (pairs fs)
+
+-- no name repeats in either of the two
+abbrev pub NoRepeats : Fields → Fields → Type 0
+NoRepeats fs gs = Distinct (names fs) × Distinct (names gs)
+
+-- `E` is true of the type of each field of `gs` whose name no field of `fs` has
+abbrev pub OnlyFurther : (Tree → Type 0) → Fields → Fields → Type 0
+OnlyFurther E fs gs = (n : List ℕ) (u : Tree) → first_named (pairs fs) n ≡ None → first_named (pairs gs) n ≡ Some u → E u
+
+-- Two types are alike if `R` is true of their nullabilities, their parts are alike, and each field of a struct has a
+-- field of its name in the other struct, in any order, whose type is alike. `E` is true of the types of the further
+-- fields of the second. `L` is true of types without columns, and of structs in which a name repeats.
+abbrev mutual
+  pub Alike : (Tree → Tree → Type 0) → (Nullability → Nullability → Type 0) → (Tree → Type 0) → Tree → Tree → Type 0
+  Alike L R E (list t m) (list u n) = R m n × Alike L R E t u
+  Alike L R E (fixed_size_list t j m) (fixed_size_list u k n) = (j ≡ k) × R m n × Alike L R E t u
+  Alike L R E (map_of t v x m) (map_of u w y n) = (x ≡ y) × R m n × Alike L R E t u × Alike L R E v w
+  Alike L R E (struct fs m) (struct gs n) =
+      (NoRepeats fs gs × R m n × EachFound L R E fs gs × OnlyFurther E fs gs) ⊎ ((¬ NoRepeats fs gs) × L (struct fs m) (struct gs n))
+  Alike L R E (extension i a t) (extension j b u) = (i ≡ j) × (a ≡ b) × Alike L R E t u
+  Alike L R E t u = L t u
+
+  -- the name of each field of `fs` finds a field of `gs`, and the types of the two are alike
+  pub EachFound : (Tree → Tree → Type 0) → (Nullability → Nullability → Type 0) → (Tree → Type 0) → Fields → Fields → Type 0
+  EachFound L R E no_items gs = Unit {0}
+  EachFound L R E (item n t _ fs) gs = IsSomeAnd (first_named (pairs gs) n) (λ u. Alike L R E t u) × EachFound L R E fs gs
+
+-- `t` can be read as `u`: `u` is nullable in each place in which `t` is, and its further columns are nullable
+abbrev pub ReadsAs : Tree → Tree → Type 0
+ReadsAs = Alike Sub Allows IsNullable
+
+-- the two types are the same up to the order of columns
+abbrev pub SameColumns : Tree → Tree → Type 0
+SameColumns = Alike (λ t u. t ≡ u) (λ m n. m ≡ n) (λ t. ⊥)
+
+-- both `a` and `b` can be read as `c`, and `c` can be read as each valid type `d` as which both can be read
+pub record IsLeastReader (a b c : Tree) : Type 0 where
+  pub first : ReadsAs a c
+  pub second : ReadsAs b c
+  pub least : (d : Tree) → Valid d → ReadsAs a d → ReadsAs b d → ReadsAs c d
+
+-- there is no valid type as which both can be read
+abbrev pub HaveNoReader : Tree → Tree → Type 0
+HaveNoReader a b = (d : Tree) → Valid d → ReadsAs a d → ReadsAs b d → ⊥

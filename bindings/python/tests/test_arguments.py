@@ -15,7 +15,7 @@ import vortex_logical_types
 from vortex_logical_types import (ELEMENT, Below, DType, Element, FieldMask, FieldPath, FieldPathSet, FlatMessage, LibraryError,
                                   Message, Node, OutOfMemory, PType, Unreadable, VortexError, View)
 
-STRUCT, UNION, MAP = DType("{a=i32, b=utf8?}"), DType("union(a@5=i32, b@9=utf8)"), DType("map(utf8, i32?)")
+STRUCT, UNION, MAP = DType("{a=i32, b=utf8?}"), DType("union(a@5=i32, b@9=utf8)"), DType("map(utf8, i32?, keys_sorted=false)")
 NODES = [Node(kind=10, names=1, types=1), Node(kind=14, number=2), Node(kind=3, value=3)]
 Step = typing.Union[str, Element]
 # An argument for each type of a parameter.

@@ -208,8 +208,8 @@ class FieldPathSet(Object, AbstractSet[FieldPath]):
     def cover(self) -> list[FieldPath]:
         """Returns the cover: those paths of the set of which no other path of the set is a prefix.
 
-        >>> FieldPathSet(["a", "a.b", "c.d"]).cover() == [FieldPath("a"), FieldPath("c.d")]
-        True
+        >>> sorted(FieldPathSet(["a", "a.b", "c.d"]).cover())
+        [FieldPath('a'), FieldPath('c.d')]
         """
         return made(Paths, native.vlt_set_cover, self._slot).all()
 

@@ -144,7 +144,7 @@ class DType(Object):
         nullable, and 6 if one of the two types has 128 levels.
 
         >>> DType.map_(DType("utf8"), DType("i32?"))
-        DType('map(utf8, i32?)')
+        DType('map(utf8, i32?, keys_sorted=false)')
         """
         keys = instance_given(key, DType, "key")
         values = instance_given(value, DType, "value")._other_than(keys)
@@ -303,7 +303,7 @@ class DType(Object):
     def entries(self) -> Optional[DType]:
         """The type of the entries of a map, a struct of a key and a value, or None for another type.
 
-        >>> DType("map(utf8, i32?)").entries
+        >>> DType("map(utf8, i32?, keys_sorted=false)").entries
         DType('{key=utf8, value=i32?}')
         """
         return found(DType, native.vlt_dtype_entries, self._slot)

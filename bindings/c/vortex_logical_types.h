@@ -3,12 +3,13 @@
 
 /* The logical types of columnar data, and paths into them: the C interface of a library that is proved. Each function
  * below that the library exports has a contract in crates/vortex_logical_types. The contract says what the function
- * returns and what its slots contain afterwards, and it is proved. The contracts of 17 functions leave something open,
+ * returns and what its slots contain afterwards, and it is proved. The contracts of 13 functions leave something open,
  * which is only tested. For vlt_answer and for the functions whose names end in _text it is open which value a text
- * stands for, which text is written, how long it is, and which error is returned. For vlt_message_from_nodes and
- * vlt_message_to_nodes it is open in which cases they return each error. For vlt_dtype_struct, vlt_dtype_union,
- * vlt_dtype_union_consecutive, vlt_struct_project, vlt_path_from_steps and vlt_path_from_message it is open which of
- * several faults is reported. The inline functions at the end of this header aren't proved.
+ * stands for and which text is written. For the four of them that read a text it is also open which error is returned,
+ * and for vlt_dtype_to_text and vlt_path_to_text how long the text is and which number is returned if none is written.
+ * For vlt_message_from_nodes and vlt_message_to_nodes it is open in which cases they return each error. For
+ * vlt_path_from_steps and vlt_path_from_message it is open which of several faults is reported. The inline functions at
+ * the end of this header aren't proved.
  *
  * Slots. A slot is a place for one object (a type, a path, a set of paths and so on), and it owns the object.
  * Initialise a slot with {0}, which makes it empty. When you no longer need its object, call vlt_free, which drops the

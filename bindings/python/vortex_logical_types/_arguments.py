@@ -8,18 +8,25 @@ else than what the library takes is ever passed to `ctypes`, to which None would
 from __future__ import annotations
 
 import operator
-from typing import Callable, Iterable, Optional, TypeVar
+from typing import Callable, Iterable, Optional, TypeVar, Union
 
 T = TypeVar("T")
 R = TypeVar("R")
+# The name of a parameter, or which item it is of what has a name. (No text is made of it unless an argument is wrong.)
+Name = Union[str, "tuple[Name, int]"]
 
 
-def wrong(name: str, wanted: str, it: object) -> TypeError:
+def wrong(name: Name, wanted: str, it: object) -> TypeError:
     """Returns the error for an argument that should have been what `wanted` says."""
-    return TypeError(f"{name} must be {wanted}, not {type(it).__name__}")
+    return TypeError(f"{shown(name)} must be {wanted}, not {type(it).__name__}")
 
 
-def text_given(it: object, name: str) -> bytes:
+def shown(name: Name) -> str:
+    """Returns how an error shows a name, for example `fields[0][1]`."""
+    return name if isinstance(name, str) else f"{shown(name[0])}[{name[1]}]"
+
+
+def text_given(it: object, name: Name) -> bytes:
     """Returns a text in UTF-8. A lone surrogate in it raises UnicodeEncodeError."""
     if not isinstance(it, str):
         raise wrong(name, "a str", it)
@@ -27,7 +34,7 @@ def text_given(it: object, name: str) -> bytes:
     return str.encode(it)
 
 
-def bytes_given(it: object, name: str) -> bytes:
+def bytes_given(it: object, name: Name) -> bytes:
     """Returns the bytes of an object that has a buffer, for example a `bytearray`."""
     try:
         return bytes(memoryview(it))  # type: ignore[arg-type]
@@ -35,14 +42,14 @@ def bytes_given(it: object, name: str) -> bytes:
         raise wrong(name, "bytes", it) from None
 
 
-def flag_given(it: object, name: str) -> bool:
+def flag_given(it: object, name: Name) -> bool:
     """Returns a truth value. Other objects aren't taken for one, because `nullable="no"` would be true."""
     if not isinstance(it, bool):
         raise wrong(name, "a bool", it)
     return it
 
 
-def number_given(it: object, name: str) -> int:
+def number_given(it: object, name: Name) -> int:
     """Returns a whole number."""
     try:
         return operator.index(it)  # type: ignore[arg-type]
@@ -50,22 +57,22 @@ def number_given(it: object, name: str) -> int:
         raise wrong(name, "an int", it) from None
 
 
-def position_given(it: object, name: str) -> int:
+def position_given(it: object, name: Name) -> int:
     """Returns a position, or the greatest number of 64 bits if that is less. Raises IndexError if it is negative."""
     index = number_given(it, name)
     if index < 0:
-        raise IndexError(f"{name} must be at least 0, not {index}")
+        raise IndexError(f"{shown(name)} must be at least 0, not {index}")
     return min(index, 2**64 - 1)
 
 
-def instance_given(it: object, cls: type[T], name: str) -> T:
+def instance_given(it: object, cls: type[T], name: Name) -> T:
     """Returns an object of the class."""
     if not isinstance(it, cls):
         raise wrong(name, f"a {cls.__name__}", it)
     return it
 
 
-def items_given(it: Iterable[T], name: str, wanted: str, item_given: Callable[[T, str], R],
+def items_given(it: Iterable[T], name: Name, wanted: str, item_given: Callable[[T, Name], R],
                 refused: tuple[type, ...] = ()) -> list[R]:
     """Returns the items of an iterable, each as `item_given` returns it. A text or bytes are no iterable of items here,
     and neither are objects of the classes `refused`."""
@@ -75,10 +82,10 @@ def items_given(it: Iterable[T], name: str, wanted: str, item_given: Callable[[T
         items = iter(it)
     except TypeError:
         raise wrong(name, f"an iterable of {wanted}", it) from None
-    return [item_given(item, f"{name}[{index}]") for index, item in enumerate(items)]
+    return [item_given(item, (name, index)) for index, item in enumerate(items)]
 
 
-def text_or_none_given(it: Optional[str], name: str) -> Optional[bytes]:
+def text_or_none_given(it: Optional[str], name: Name) -> Optional[bytes]:
     """Returns a text in UTF-8, or None."""
     if it is not None and not isinstance(it, str):
         raise wrong(name, "a str or None", it)

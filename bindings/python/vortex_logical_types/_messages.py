@@ -9,7 +9,7 @@ import ctypes
 from typing import Callable, Iterable, NamedTuple
 
 from . import _table
-from ._arguments import bytes_given, flag_given, instance_given, items_given, text_given
+from ._arguments import Name, bytes_given, flag_given, instance_given, items_given, text_given
 from ._native import Object, T, error_of, is_done, made, native, read, text
 from ._table import Node
 
@@ -102,7 +102,7 @@ class Message(Object):
         return type(self).from_flat, (self.to_flat(),)
 
 
-def _node_given(it: Node, name: str) -> Node:
+def _node_given(it: Node, name: Name) -> Node:
     return instance_given(it, Node, name)
 
 

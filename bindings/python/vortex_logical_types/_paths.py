@@ -11,7 +11,7 @@ from collections.abc import Sequence
 from typing import Iterable, Iterator, Optional, Union, overload
 
 from . import _table
-from ._arguments import instance_given, items_given, number_given, text_given, text_or_none_given, wrong
+from ._arguments import Name, instance_given, items_given, number_given, text_given, text_or_none_given, wrong
 from ._native import (
     Object, T, bytes_and_length, found, is_done, joined_names, made, native, number, read, remembered, text,
 )
@@ -54,11 +54,11 @@ class FieldPath(Object, Sequence[Step]):
     _copy = native.vlt_path_copy
 
     def __new__(cls: type[T], source: Union[str, FieldPath] = ".") -> T:
-        if isinstance(source, FieldPath):
-            return made(cls, native.vlt_path_copy, source._slot)
-        if not isinstance(source, str):
+        if isinstance(source, str):
+            return read(cls, native.vlt_path_from_text, text_given(source, "source"))
+        if not isinstance(source, FieldPath):
             raise wrong("source", "a str or a FieldPath", source)
-        return read(cls, native.vlt_path_from_text, text_given(source, "source"))
+        return made(cls, native.vlt_path_copy, source._slot)
 
     @staticmethod
     def root() -> FieldPath:
@@ -262,20 +262,23 @@ class Paths(Object):
         return [made(FieldPath, native.vlt_paths_get, self._slot, it) for it in range(count)]
 
 
-def _step_given(it: Step, name: str) -> Optional[bytes]:
+def _step_given(it: Step, name: Name) -> Optional[bytes]:
     """Returns the name of a step in UTF-8, or None for the step into an element."""
     if it is not ELEMENT and not isinstance(it, str):
         raise wrong(name, "a str or ELEMENT", it)
     return text_given(it, name) if isinstance(it, str) else None
 
 
-def path_given(it: Union[FieldPath, str], name: str) -> FieldPath:
+def path_given(it: Union[FieldPath, str], name: Name) -> FieldPath:
     """Returns a path, which is read if it is given as a text."""
-    if not isinstance(it, (FieldPath, str)):
+    # (The class FieldPath is asked last, because that an object is not of an abstract class is found slowly.)
+    if isinstance(it, str):
+        return FieldPath(it)
+    if not isinstance(it, FieldPath):
         raise wrong(name, "a FieldPath or a str", it)
-    return it if isinstance(it, FieldPath) else FieldPath(it)
+    return it
 
 
-def paths_given(it: Iterable[Union[FieldPath, str]], name: str) -> list[FieldPath]:
+def paths_given(it: Iterable[Union[FieldPath, str]], name: Name) -> list[FieldPath]:
     """Returns paths, each of which is read if it is given as a text. One path is no iterable of paths here."""
     return items_given(it, name, "FieldPath and str", path_given, (FieldPath,))

@@ -98,7 +98,7 @@ class FieldPathSet(Object, AbstractSet[FieldPath]):
     def __contains__(self, path: object) -> bool:
         """Returns whether the set contains the path. It contains nothing but paths, so for another object the answer
         is false. Raises `Unreadable` for a text that isn't one of a path."""
-        if not isinstance(path, (FieldPath, str)):
+        if not isinstance(path, (str, FieldPath)):
             return False
         it = path_given(path, "path")
         return is_done(native.vlt_set_contains(self._slot, it._slot))

@@ -11,7 +11,7 @@ from typing import Any, Callable, Iterable, Iterator, Mapping, Optional, Union
 
 from . import _table
 from ._arguments import (
-    bytes_given, flag_given, instance_given, items_given, number_given, position_given, text_given, wrong,
+    Name, bytes_given, flag_given, instance_given, items_given, number_given, position_given, text_given, wrong,
 )
 from ._native import (
     Object, T, bytes_found, error_of, found, is_done, joined_names, made, native, number, read, remembered, text,
@@ -346,7 +346,7 @@ class DType(Object):
     @property
     def names(self) -> Optional[list[str]]:
         """The names of the fields of a struct, in order, or None for another type."""
-        return [name for name, _ in self._fields()] if self.kind is Kind.STRUCT else None
+        return [*self._names()] if self.kind is Kind.STRUCT else None
 
     @property
     def fields(self) -> Optional[list[tuple[str, DType]]]:
@@ -354,12 +354,16 @@ class DType(Object):
         return [*self._fields()] if self.kind is Kind.STRUCT else None
 
     @remembered
+    def _names(self) -> tuple[str, ...]:
+        return tuple(text(native.vlt_struct_field_name, self._slot, it) for it in range(self.nfields or 0))
+
+    @remembered
     def _fields(self) -> tuple[tuple[str, DType], ...]:
         """The fields. Raises `TypeError` if the type is no struct."""
         if self.kind is not Kind.STRUCT:
             raise TypeError(f"a type of the kind {self.kind} has no fields")
-        return tuple((self.field_name(it) or "", made(DType, native.vlt_struct_field_by_index, self._slot, it))
-                     for it in range(self.nfields or 0))
+        return tuple((name, made(DType, native.vlt_struct_field_by_index, self._slot, it))
+                     for it, name in enumerate(self._names()))
 
     def __len__(self) -> int:
         return len(self._fields())
@@ -607,16 +611,16 @@ class DType(Object):
 Parts = Union[Mapping[str, DType], Iterable[tuple[str, DType]]]
 
 
-def _parts_given(it: Parts, name: str) -> list[tuple[bytes, DType]]:
+def _parts_given(it: Parts, name: Name) -> list[tuple[bytes, DType]]:
     """Returns the pairs of a mapping, or those of an iterable."""
     return items_given(it.items() if isinstance(it, Mapping) else it, name, "pairs", _part_given)
 
 
-def _part_given(it: tuple[str, DType], name: str) -> tuple[bytes, DType]:
+def _part_given(it: tuple[str, DType], name: Name) -> tuple[bytes, DType]:
     """Returns a pair of a name and a type, the name in UTF-8."""
     if not isinstance(it, (tuple, list)) or len(it) != 2:
         raise wrong(name, "a pair of a str and a DType", it)
-    return text_given(it[0], f"{name}[0]"), instance_given(it[1], DType, f"{name}[1]")
+    return text_given(it[0], (name, 0)), instance_given(it[1], DType, (name, 1))
 
 
 # (These modules need the class above.)

@@ -1,0 +1,121 @@
+// SPDX-License-Identifier: Apache-2.0
+// SPDX-FileCopyrightText: Copyright the Vortex contributors
+
+// The reader of paths. Each function reads at the front of bytes, and returns what it read and the bytes after it.
+ghost use Rattle.std.specs.Prelude.{◌≡◌, IfErr, IfOk, List, MatchResult, length};
+ghost use Rattle.dtype_paths.specs.declared.field.Field.{Field as Step};
+ghost use Rattle.dtype_text.specs.PathGrammar.{StandsForPath, is_next as is_next_spec};
+ghost use Rattle.dtype_text.specs.Paths.{IsPathError, element_at, named_step_at, path_by, step_at, steps_at, whole_path_at};
+ghost use Rattle.dtype_text.specs.Read.{Reads};
+ghost use Rattle.dtype_text.specs.declared.text_error.TextError.TheVariants.{OutOfMemory};
+
+use crate::fault::{Fault, misread};
+use crate::leaves::{after, name, skip};
+use crate::text_error::{Expected, TextError};
+use crate::type_parts::is_end;
+use dtype_paths::{Field, FieldPath};
+use std::alloc::Global;
+
+// Returns whether this byte is next.
+fn is_next(bytes: &[u8], wanted: u8) -> bool
+    ensures { result ≡ is_next_spec wanted bytes.now }
+{
+    match bytes {
+        [first, ..] => *first == wanted,
+        [] => false,
+    }
+}
+
+// Reads a step to a name. A name without quotes has to end there: a comment right behind it may be meant as a part of
+// the name.
+#[tactic(auto, unfolding(crate::specs::Paths::named_step_at))]
+fn named_step(alloc: Global, bytes: &[u8]) -> Result<(Field, &[u8]), Fault>
+    ensures { Reads (λ x. (x.0, x.1.now)) result (named_step_at bytes.now) }
+{
+    let (name, rest) = name(alloc, bytes)?;
+    if is_next(bytes, b'"') || !is_next(rest, b'#') {
+        Ok((Field::Name(name), rest))
+    } else {
+        Err(misread(rest, Expected::EndOfName))
+    }
+}
+
+/// Returns the step at the front of bytes, with the bytes after it.
+#[tactic(auto, unfolding(crate::specs::Paths::step_at, crate::specs::Paths::element_at))]
+pub fn path_step_at(alloc: Global, bytes: &[u8]) -> Result<(Field, &[u8]), Fault>
+    ensures { Reads (λ x. (x.0, x.1.now)) result (step_at bytes.now) }
+{
+    match bytes {
+        [b'[', rest @ ..] => match after(rest, b']') {
+            Some(rest) => Ok((Field::ElementType, rest)),
+            None => Err(misread(bytes, Expected::Name)),
+        },
+        [b'$', rest @ ..] => named_step(alloc, rest),
+        _ => named_step(alloc, bytes),
+    }
+}
+
+// Reads steps that are joined by dots. Each has a byte, so there are no more than bytes.
+fn steps(alloc: Global, bytes: &[u8]) -> Result<(Vec<Field>, &[u8]), Fault>
+    ensures { Reads (λ x. (x.0.items, x.1.now)) result (steps_at (length bytes.now) bytes.now) }
+{
+    let mut steps = Vec::new(alloc);
+    let mut rest = bytes;
+    for _ in 0..bytes.len() {
+        let (step, behind) = path_step_at(alloc, rest)?;
+        steps.push(step)?;
+        match after(behind, b'.') {
+            Some(next) => rest = next,
+            None => return Ok((steps, behind)),
+        }
+    }
+    Err(misread(rest, Expected::Name))
+}
+
+/// Returns the path at the front of bytes, with the bytes after it.
+#[tactic(auto, unfolding(crate::specs::Paths::path_by))]
+pub fn path_at(alloc: Global, bytes: &[u8]) -> Result<(FieldPath, &[u8]), Fault>
+    ensures { Reads (λ x. (x.0, x.1.now)) result (path_by bytes.now) }
+{
+    match after(bytes, b'.') {
+        Some(rest) => Ok((FieldPath::root(alloc), rest)),
+        None => {
+            let (steps, rest) = steps(alloc, bytes)?;
+            Ok((FieldPath::from_vec(steps), rest))
+        }
+    }
+}
+
+// Reads a path that is the whole text.
+#[tactic(auto, unfolding(crate::specs::Paths::whole_path_at))]
+fn whole_path(alloc: Global, bytes: &[u8]) -> Result<FieldPath, Fault>
+    ensures { Reads (λ p. p) result (whole_path_at bytes.now) }
+{
+    let (path, rest) = path_at(alloc, skip(bytes))?;
+    if !is_end(skip(rest)) {
+        return Err(misread(skip(rest), Expected::End));
+    }
+    Ok(path)
+}
+
+/// Returns the path that a text stands for, for example the path of three steps for `a.[].b`, and the root for `.`.
+/// Blanks and comments may stand around it. Time and memory are linear in the length of the text.
+///
+/// # Errors
+///
+/// - `OutOfMemory`: an allocation fails.
+/// - `Misread`: the text stands for no path. The position is that of the first byte with which no path goes on.
+#[tactic(auto, using(crate::proofs::PathAgain::path_results))]
+pub fn read_path(alloc: Global, text: &str) -> Result<FieldPath, TextError>
+    // The text stands for the path.
+    ensures found { IfOk result (λ p. StandsForPath p text.now) }
+    // What stands for a path is read, unless memory runs out.
+    ensures only { (p : List Step) → StandsForPath p text.now → MatchResult result (λ q. q ≡ p) (λ e. e ≡ OutOfMemory) }
+    // No path is refused by the library or too deep.
+    ensures errors { IfErr result IsPathError }
+{
+    match whole_path(alloc, text.as_bytes()) {
+        Ok(path) => Ok(path),
+        Err(fault) => Err(TextError::of(fault, text.as_bytes())),
+    }
+}

@@ -16,6 +16,7 @@ BY_SEARCH = "no proof: expected answers in ./proofs/two/one/Answers.antt; `searc
 BY_HAND = "not proved; it stands on `Rattle.fixtures_values.proofs.two.two.Answers.returns`, which antt refuses"
 WRONG_GOAL = "./proofs/two/two/Answers.antt:7:1: error: `returns`: computed as far as they go, the two types differ"
 NO_FIELD = "./proofs/two/two/Answers.antt:7:1: error: `c.two` has no field `three`"
+NO_FIELD_BROKEN = "./proofs/two/two/Answers.antt:7:1: error: `returns`: record `R.two.After-one` (nearest: .one-2)\n  has no field `one`"
 # The impl of a trait with a law, and what a check says of it.
 IMPL = "\npub trait Wide {\n    const X: u8;\n}\n\nimpl Wide for u8 {\n    const X: u8 = 5;\n}\n"
 WIDER = "file: src/two.rt\nold:     const X: u8 = 5;\nnew:     const X: u8 = 6;\n"
@@ -101,9 +102,19 @@ class Mutations(Planted):
         self.assertEqual(self.read("checks").count("\n"), 2)
 
     def test_a_proof_that_names_what_is_gone_fails(self):
-        said = [f"fn fixtures_values::two::two: {BY_HAND}", NO_FIELD]
-        self.assertEqual(self.tried({"b": TWO}, *said), (
-            1, "fixtures_values: b: proof doesn't fit\n0 of 1 mutations are refused\n0 passed, 1 failed\n"))
+        for gone in (NO_FIELD, NO_FIELD_BROKEN):
+            self.assertEqual(self.tried({"b": TWO}, f"fn fixtures_values::two::two: {BY_HAND}", gone), (
+                1, "fixtures_values: b: proof doesn't fit\n0 of 1 mutations are refused\n0 passed, 1 failed\n"))
+
+    def test_the_proof_of_a_cycle_is_that_of_its_functions(self):
+        self.write(f"{CRATE}/src/two.rt", SOURCE.replace("pub fn", "#[cycle(both)]\npub fn"))
+        said = [f"fn fixtures_values::two::two: {BY_HAND.replace('two.two', 'two.+both')}",
+                WRONG_GOAL.replace("two/two", "two/+both").replace("`returns`", "`two::two-returns`")]
+        self.assertEqual(self.tried({"b": TWO}, *said)[1].splitlines()[0],
+                         "fixtures_values: b: refused at its proof of two::two-returns")
+        said[1] = NO_FIELD_BROKEN.replace("two/two", "two/+both")
+        self.write(f"{CRATE}/src/two.rt", self.read(f"{CRATE}/src/two.rt") + "\n")
+        self.assertEqual(self.tried({"b": TWO}, *said)[1].splitlines()[0], "fixtures_values: b: proof doesn't fit")
 
     def test_a_function_that_hangs_on_another_is_tried_alone(self):
         said = [f"fn fixtures_values::two::one: {BY_SEARCH}", f"fn fixtures_values::two::two: {BY_CALL}"]

@@ -11,6 +11,7 @@ pub mod MaskSteps
 pub mod Stepping
 pub mod PathLists
 pub mod SetMembers
+pub mod SetRelations
 pub mod SetCovers
 pub mod CoverPaths
 pub mod Counts

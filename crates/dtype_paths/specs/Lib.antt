@@ -22,3 +22,5 @@ pub mod Overlaps
 pub mod Crosses
 pub mod private
 pub mod PathOrderLaws
+pub mod SetEquality
+pub mod SetEqualityLaws

@@ -102,6 +102,74 @@ impl FieldPathSet {
         self.trie.contains(path.parts())
     }
 
+    /// Returns the number of paths in the set. For example, it is 2 for the set of `a` and `a.b`.
+    ///
+    /// The call visits each node of the trie once. It doesn't allocate.
+    pub fn len(&self) -> usize
+        ensures { result ≡ set.len self.now }
+    {
+        self.trie.len()
+    }
+
+    /// Returns whether the set contains no path. The set of the root alone isn't empty.
+    ///
+    /// The call doesn't allocate.
+    #[tactic(auto, using(crate::proofs::lemmas::PathsBelow::empty_uncontained, crate::proofs::lemmas::PathsBelow::uncontained_empty))]
+    pub fn is_empty(&self) -> bool
+        ensures { IsTrue result ↔ (self.now ≡ set.empty) }
+    {
+        self.cursor().is_empty()
+    }
+
+    /// Returns whether each path of this set is in the other one too. For example, the set of `a` is a subset of the
+    /// set of `a` and `b`. The set of `a.b` isn't a subset of the set of `a`, although that set covers `a.b`.
+    ///
+    /// The call looks each path of this set up in the other one. It doesn't allocate.
+    pub fn is_subset(&self, other: &FieldPathSet) -> bool
+        ensures { result ≡ set.is_subset self.now other.now }
+    {
+        self.trie.all_in(&other.trie, true)
+    }
+
+    /// Returns whether each path of the other set is in this one too. For example, the set of `a` and `b` is a superset
+    /// of the set of `a`.
+    ///
+    /// The call looks each path of the other set up in this one. It doesn't allocate.
+    pub fn is_superset(&self, other: &FieldPathSet) -> bool
+        ensures { result ≡ set.is_subset other.now self.now }
+    {
+        other.is_subset(self)
+    }
+
+    /// Returns whether no path is in both sets. For example, the set of `a` and the set of `a.b` are disjoint, although
+    /// the first set covers `a.b`.
+    ///
+    /// The call looks each path of this set up in the other one. It doesn't allocate.
+    pub fn is_disjoint(&self, other: &FieldPathSet) -> bool
+        ensures { IsTrue result ↔ (set.intersection self.now other.now ≡ set.empty) }
+    {
+        self.trie.all_in(&other.trie, false)
+    }
+
+    /// Returns a new set of the paths that are in one of the two sets or in both. For example, for the set of `a` and
+    /// `b` and the set of `b` and `c` it returns the set of `a`, `b` and `c`.
+    ///
+    /// The call allocates from the allocator of this set.
+    ///
+    /// # Errors
+    ///
+    /// - `OutOfMemory` (0): an allocation fails, or the reference count of a text is at its maximum.
+    pub fn union(&self, other: &FieldPathSet) -> VortexResult<Self>
+        ensures { Makes result (λ s. s ≡ set.union self.now other.now) }
+    {
+        let mut trie = self.trie.try_clone(self.alloc)?;
+        trie.insert_all(self.alloc, &other.trie)?;
+        Ok(FieldPathSet {
+            alloc: self.alloc,
+            trie,
+        })
+    }
+
     /// Returns a cursor at the root of the set. The cursor contains the paths of the set.
     ///
     /// The call doesn't allocate.
@@ -265,6 +333,30 @@ impl FromIterator<FieldPath> for FieldPathSet {
             Err(_) => Err(AllocError),
         }
     }
+}
+
+/// Compares the paths of the sets. The order in which the paths were inserted makes no difference.
+impl PartialEq for FieldPathSet {
+    ghost use Rattle.std.specs.Cmp.{partial_equiv_from_equiv};
+    ghost use Rattle.dtype_paths.specs.SetEquality.{same_paths};
+    ghost use Rattle.dtype_paths.specs.SetEqualityLaws.{same_paths_equiv};
+
+    ghost eq = { same_paths };
+
+    ghost laws = { partial_equiv_from_equiv same_paths_equiv };
+
+    #[tactic(auto, using(crate::proofs::lemmas::SetRelations::within_whole))]
+    fn eq(&self, other: &FieldPathSet) -> bool
+        ensures { IsTrue result ↔ (self.now ≡ other.now) }
+    {
+        self.len() == other.len() && self.is_subset(other)
+    }
+}
+
+impl Eq for FieldPathSet {
+    ghost use Rattle.dtype_paths.specs.SetEqualityLaws.{same_paths_equiv};
+
+    ghost laws = { same_paths_equiv };
 }
 
 /// Writes `FieldPathSet { .. }`, without the paths.

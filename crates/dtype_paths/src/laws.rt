@@ -2,11 +2,12 @@
 // SPDX-FileCopyrightText: Copyright the Vortex contributors
 
 // Theorems about the definitions of paths. Each function's contract is the theorem, and its body is empty.
-ghost use Rattle.std.specs.Prelude.{◌≡◌, ◌↔◌, IsTrue, List, Some, ◌++◌};
+ghost use Rattle.std.specs.Prelude.{◌≡◌, ◌↔◌, ◌||◌, IsTrue, List, Some, ◌++◌, false, length};
 ghost use Rattle.std.specs.FinSet as set;
 ghost use Rattle.dtype_paths.specs.PathOrder.{PathSet, set_of};
 ghost use Rattle.dtype_paths.specs.PathPredicates.{PathPredicate, after_steps, contains_above};
 ghost use Rattle.std.specs.List.{Any, Contains, starts_with};
+ghost use Rattle.dtype_base.specs.Distinct.{Distinct};
 ghost use Rattle.dtype_types.specs.Laws.{GivesInOrder};
 ghost use Rattle.dtype_types.specs.tree.Tree.{Tree};
 ghost use Rattle.dtype_types.specs.tree.Valid.{Valid};
@@ -250,6 +251,32 @@ pub fn a_path_is_covered_where_it_starts_with_one(paths: &[FieldPath], path: &Fi
 pub fn a_list_has_the_members_of_its_set()
     ensures { (ps : List (List Field)) (s : PathSet) (q : List Field) → set_of ps ≡ s
         → (Contains ps q ↔ IsTrue (set.contains s q)) }
+{}
+
+/// What it means that two sets are compared. In the five statements below, `s` and `t` are sets of paths, `q` is a
+/// path, and `ps` is a list of paths.
+///
+/// - `subset`: `s` is a subset of `t` exactly if each path of `s` is in `t`.
+/// - `disjoint`: the paths that are in both sets are none exactly if no path of `s` is in `t`.
+/// - `equal`: `s` and `t` are equal exactly if each path is in both or in neither.
+/// - `union`: `q` is in the union of `s` and `t` exactly if it is in `s` or in `t`.
+/// - `len`: if no path is in `ps` twice, then the set of the paths in `ps` has as many paths as `ps`.
+///
+/// For example, the set of `a` is a subset of the set of `a` and `a.b`, and the set of `a.b` and the set of `x` are
+/// disjoint. With this law a program that compares two sets knows what that means for each path.
+///
+/// About [`FieldPathSet::is_subset`], [`FieldPathSet::is_superset`], [`FieldPathSet::is_disjoint`],
+/// [`FieldPathSet::union`] and [`FieldPathSet::len`].
+#[tactic(auto, using(crate::proofs::lemmas::SetRelations::relations_by_paths))]
+pub fn sets_are_compared_by_their_paths()
+    ensures subset { (s t : PathSet) → IsTrue (set.is_subset s t)
+        ↔ ((q : List Field) → IsTrue (set.contains s q) → IsTrue (set.contains t q)) }
+    ensures disjoint { (s t : PathSet) → (set.intersection s t ≡ set.empty)
+        ↔ ((q : List Field) → IsTrue (set.contains s q) → set.contains t q ≡ false) }
+    ensures equal { (s t : PathSet) → (s ≡ t) ↔ ((q : List Field) → set.contains s q ≡ set.contains t q) }
+    ensures union { (s t : PathSet) (q : List Field) → set.contains (set.union s t) q
+        ≡ (set.contains s q || set.contains t q) }
+    ensures len { (ps : List (List Field)) → Distinct ps → set.len (set_of ps) ≡ length ps }
 {}
 
 /// Two statements about cursors:

@@ -3,6 +3,7 @@
 
 ghost use Rattle.std.specs.Prelude.{◌≡◌, ◌≢◌, ◌≤◌, ◌<◌, ◌+◌, ◌==◌, ◌&&◌, ◌++◌, ◌∷◌, List, ℕ, Option, None, Some, length, drop, take, slice_get, map, min, is_some, if◌then◌else◌, IfOk, IsOkUnless, OnErr, OnOk};
 ghost use Rattle.std.specs.Borrow.{sem};
+ghost use Rattle.std.specs.Option.{option_copied};
 ghost use Rattle.dtype_base.specs.Errors.{Makes};
 ghost use Rattle.dtype_base.specs.declared.vortex_error.VortexError.TheVariants.{OutOfMemory};
 ghost use Rattle.dtype_paths.specs.private.Children.{child};
@@ -83,6 +84,27 @@ impl Nodes {
         ensures { result ≡ is_some (terminal_at self.now node_index) }
     {
         self.at(node_index).terminal().is_some()
+    }
+
+    // The path that ends in the node, if it is a terminal.
+    pub(crate) fn terminal(&self, node_index: usize) -> Option<&FieldPath>
+        requires { node_index < length self.now }
+        ensures { option_copied result ≡ terminal_at self.now node_index }
+    {
+        self.at(node_index).terminal()
+    }
+
+    // How many nodes are terminals.
+    pub(crate) fn count_terminals(&self) -> usize
+        ensures { result ≡ length (terminals self.now) }
+    {
+        let mut count = 0;
+        for node_index in 0..self.len() {
+            if self.is_terminal(node_index) {
+                count += 1;
+            }
+        }
+        count
     }
 
     // The node of this index.

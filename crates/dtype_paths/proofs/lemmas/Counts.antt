@@ -44,7 +44,7 @@ one_count P m n a b = omega (arith, at_most P m n a b, at_most P n m b a)
 
 -- ---- a list with each path of a set once, as `iter` gives it
 
-len_of : (ps : List (List Field)) → Distinct ps → set.len (set_of ps) ≡ length ps
+pub len_of : (ps : List (List Field)) → Distinct ps → set.len (set_of ps) ≡ length ps
 len_of [] d = set.len-empty path_cmp
 len_of (p ∷ ps) d =
     let new : set.contains (set_of ps) p ≡ false = false_from_ne_true _ (λ c. distinct-head p ps d (of_only ps p c)) in

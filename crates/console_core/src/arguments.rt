@@ -3,12 +3,23 @@
 
 // The arguments of commands, each of a type that says how it is read.
 use crate::line::expected_at;
-use crate::reader::{A_TAG, AN_INDEX, MAX_LEVELS, ptype_of, read_dtype};
 use crate::unknown::unknown_ptype;
 use crate::{ConsoleResult, Line};
 use dtype_base::{DecimalDType, DecimalType, FieldName, FieldNames, Nullability, PType};
+use dtype_text::{Keyword, decimal_parts, keyword_of, type_at};
 use dtype_types::{DType, ExtDTypeRef, ExtId, FieldDType, MapDType, StructFields, UnionVariants};
 use std::alloc::Global;
+
+/// What is expected of numbers, each with its range.
+pub const A_PRECISION: &str = "a precision from 0 to 255";
+
+pub const A_SCALE: &str = "a scale from -128 to 127";
+
+pub const A_SIZE: &str = "a size from 0 to 4294967295";
+
+const A_TAG: &str = "a tag from 0 to 255";
+
+const AN_INDEX: &str = "an index from 0 to 18446744073709551615";
 
 /// What is read from a line, after the blanks before it.
 pub trait Argument: Drop {
@@ -29,7 +40,7 @@ impl<A: Argument, B: Argument> Argument for (A, B) {
 /// A type.
 impl Argument for DType {
     fn read(alloc: Global, line: &mut Line<'_>) -> ConsoleResult<DType> {
-        read_dtype(alloc, line, MAX_LEVELS)
+        line.read(type_at(alloc, line.rest()))
     }
 }
 
@@ -74,7 +85,7 @@ fn read_list<T: Argument>(alloc: Global, line: &mut Line<'_>) -> ConsoleResult<V
 impl Argument for StructFields {
     fn read(alloc: Global, line: &mut Line<'_>) -> ConsoleResult<StructFields> {
         let position = line.position();
-        let fields = read_dtype(alloc, line, MAX_LEVELS)?.into_struct_fields_opt();
+        let fields = DType::read(alloc, line)?.into_struct_fields_opt();
         fields.ok_or(expected_at(position, "a struct"))
     }
 }
@@ -83,7 +94,7 @@ impl Argument for StructFields {
 impl Argument for UnionVariants {
     fn read(alloc: Global, line: &mut Line<'_>) -> ConsoleResult<UnionVariants> {
         let position = line.position();
-        let variants = read_dtype(alloc, line, MAX_LEVELS)?.into_union_variants_opt();
+        let variants = DType::read(alloc, line)?.into_union_variants_opt();
         variants.ok_or(expected_at(position, "a union"))
     }
 }
@@ -92,7 +103,7 @@ impl Argument for UnionVariants {
 impl Argument for MapDType {
     fn read(alloc: Global, line: &mut Line<'_>) -> ConsoleResult<MapDType> {
         let position = line.position();
-        let map = read_dtype(alloc, line, MAX_LEVELS)?.into_map_opt();
+        let map = DType::read(alloc, line)?.into_map_opt();
         map.ok_or(expected_at(position, "a map"))
     }
 }
@@ -101,7 +112,7 @@ impl Argument for MapDType {
 impl Argument for ExtDTypeRef {
     fn read(alloc: Global, line: &mut Line<'_>) -> ConsoleResult<ExtDTypeRef> {
         let position = line.position();
-        match read_dtype(alloc, line, MAX_LEVELS)? {
+        match DType::read(alloc, line)? {
             DType::Extension(extension) => Ok(extension),
             _ => Err(expected_at(position, "an extension")),
         }
@@ -124,9 +135,9 @@ impl Argument for PType {
     fn read(alloc: Global, line: &mut Line<'_>) -> ConsoleResult<PType> {
         let position = line.position();
         let word = line.word("a primitive type")?;
-        match ptype_of(word) {
-            Some(ptype) => Ok(ptype),
-            None => Err(unknown_ptype(alloc, position, word)),
+        match keyword_of(word) {
+            Some(Keyword::Primitive(ptype)) => Ok(ptype),
+            _ => Err(unknown_ptype(alloc, position, word)),
         }
     }
 }
@@ -138,7 +149,7 @@ pub struct Decimal(pub u8, pub i8);
 impl Argument for Decimal {
     fn read(_alloc: Global, line: &mut Line<'_>) -> ConsoleResult<Decimal> {
         line.take_or("decimal", "a decimal")?;
-        let (precision, scale) = line.decimal_parts()?;
+        let (precision, scale) = line.read(decimal_parts(line.rest()))?;
         let _ = DecimalDType::try_new(precision, scale)?;
         Ok(Decimal(precision, scale))
     }
@@ -169,7 +180,12 @@ fn decimal_type_of(word: &str) -> Option<DecimalType> {
 /// `true` or `false`.
 impl Argument for bool {
     fn read(_alloc: Global, line: &mut Line<'_>) -> ConsoleResult<bool> {
-        line.boolean()
+        let position = line.position();
+        match line.word("true or false")? {
+            "true" => Ok(true),
+            "false" => Ok(false),
+            _ => Err(expected_at(position, "true or false")),
+        }
     }
 }
 
@@ -224,11 +240,6 @@ impl Argument for Bytes {
 /// An id.
 impl Argument for ExtId {
     fn read(alloc: Global, line: &mut Line<'_>) -> ConsoleResult<ExtId> {
-        if line.accepts("\"") {
-            let text = line.quoted_text(alloc)?;
-            Ok(ExtId::new(alloc, text.as_str())?)
-        } else {
-            Ok(ExtId::new(alloc, line.bare_text("an id", true)?)?)
-        }
+        line.id(alloc)
     }
 }

@@ -4,9 +4,9 @@
 // A command that is being answered: its arguments are read from its line, and its answer is written.
 ghost use Rattle.std.specs.Prelude.{◌≡◌, OnOk, true};
 
-use crate::writer::write_hexadecimals;
 use crate::{Argument, ConsoleError, ConsoleResult, Line, Written};
 use dtype_base::VortexResult;
+use dtype_text::write_hex;
 use std::alloc::Global;
 use std::cmp::Ordering;
 use std::fmt::Display;
@@ -200,7 +200,7 @@ impl<'a> Call<'a> {
     /// Adds bytes to the answer, in hexadecimal.
     pub fn say_hexadecimals(&mut self, bytes: &[u8]) -> ConsoleResult<()> {
         self.write_separator()?;
-        Ok(write_hexadecimals(&mut self.answer, bytes)?)
+        Ok(write_hex(&mut self.answer, bytes)?)
     }
 }
 

@@ -17,6 +17,10 @@ pub enum Command {
     MergeNullability,
     /// `intersect_nullability`.
     IntersectNullability,
+    /// `merge_columns`.
+    MergeColumns,
+    /// `merge_conflict`.
+    MergeConflict,
     Comparisons(Comparison),
     Structs(StructCommand),
     Unions(UnionCommand),

@@ -2,7 +2,8 @@
 // SPDX-FileCopyrightText: Copyright the Vortex contributors
 
 //! The core of the console: the tables of its commands, with the name, the arguments and an example of each, its
-//! lines, the reader and the writer of types, and its errors. What is proved of it is that each line is answered.
+//! lines, the arguments in them, and its errors. It is proved that each function is safe and returns; what the console
+//! answers is tested. Types and names are read and written by `dtype_text`, which is proved.
 //!
 //! Begin with `Row`, a line of a table, and with `Call`, a command that is being answered: it reads each `Argument`
 //! from its line, and writes what has a form of the console's own as `Written`.
@@ -24,12 +25,10 @@ mod messages;
 mod names;
 mod native;
 mod near_names;
-mod near_types;
 mod own;
 mod paths;
 mod primitives;
 mod quoted;
-mod reader;
 mod sessions;
 mod sets;
 mod structs;
@@ -41,7 +40,7 @@ mod whole_numbers;
 mod writer;
 mod written;
 
-pub use arguments::{Argument, Bytes, Decimal, Tags};
+pub use arguments::{A_PRECISION, A_SCALE, A_SIZE, Argument, Bytes, Decimal, Tags};
 pub use call::{Call, unless};
 pub use command::Command;
 pub use comparisons::Comparison;
@@ -58,15 +57,12 @@ pub use masks::{MaskCommand, MaskQuery};
 pub use messages::{MessageCommand, PathMessageCommand};
 pub use names::{NameCommand, NameEquality, NameForm, NamesByIndex, NamesEquality, NamesQuery};
 pub use native::{IntegerCommand, IntegerComparison};
-pub use near_names::nearest_command;
-pub use near_types::{nearest_ptype, nearest_type};
 pub use paths::{
     PathCommand, PathComparison, PathQuery, PathResolution, PathWithStep, StepEquality, StepQuery,
 };
 pub use primitives::{
     MatchEach, MatchSmallest, PTypePair, PTypeQuery, PrimitiveCommand, VisitorCommand,
 };
-pub use reader::{A_PRECISION, A_SCALE, A_SIZE, MAX_LEVELS};
 pub use sessions::{MessageForm, SessionCommand};
 pub use sets::SetCommand;
 pub use structs::{StructByIndex, StructByName, StructCommand, StructQuery};
@@ -78,5 +74,5 @@ pub use types::{
 pub use unions::{UnionByIndex, UnionByName, UnionCommand, UnionQuery};
 pub use unknown::{column_error, unknown_command, unknown_name, unknown_topic};
 pub use whole_numbers::whole_number;
-pub use writer::{MAX_WRITTEN_LEVELS, put, write_name, write_quoted};
+pub use writer::{put, write_quoted};
 pub use written::Written;

@@ -2,9 +2,11 @@
 // SPDX-FileCopyrightText: Copyright the Vortex contributors
 
 // The rest of a line, and the words and numbers in it.
-use crate::found::{QUOTE_NAMES, has_special, is_special, misread, text_of_found, text_of_next};
+use crate::found::{error_of, misread, text_of_found, text_of_next};
 use crate::{ConsoleError, ConsoleResult};
 use dtype_base::FieldName;
+use dtype_text::{Expected, Fault, TextError, is_bare_id, not_an_id};
+use dtype_types::ExtId;
 use std::alloc::Global;
 use std::str::{self, FromStr};
 
@@ -12,8 +14,8 @@ use std::str::{self, FromStr};
 #[derive(Drop)]
 pub struct Line<'a> {
     alloc: Global,
+    text: &'a str,
     rest: &'a [u8],
-    length: usize,
 }
 
 impl<'a> Line<'a> {
@@ -21,14 +23,15 @@ impl<'a> Line<'a> {
     pub fn new(alloc: Global, text: &'a str) -> Self {
         Line {
             alloc,
+            text,
             rest: text.as_bytes(),
-            length: text.len(),
         }
     }
 
     /// Returns the position of the next byte in the line, counted from 1.
     pub fn position(&self) -> usize {
-        self.length
+        self.text
+            .len()
             .saturating_sub(self.rest.len())
             .saturating_add(1)
     }
@@ -47,6 +50,31 @@ impl<'a> Line<'a> {
     /// Returns how many items are looked for at most: each has a byte, and one more is looked for after the last.
     pub fn max_items(&self) -> usize {
         self.rest.len().saturating_add(1)
+    }
+
+    /// Returns the bytes that haven't been read.
+    pub fn rest(&self) -> &'a [u8] {
+        self.rest
+    }
+
+    /// Returns what `dtype_text` read at the front of the rest, and goes on behind it.
+    pub fn read<T: Drop>(&mut self, read: Result<(T, &'a [u8]), Fault>) -> ConsoleResult<T> {
+        match read {
+            Ok((value, rest)) => {
+                self.rest = rest;
+                Ok(value)
+            }
+            Err(fault) => Err(self.error_of(fault)),
+        }
+    }
+
+    // Returns the error of a fault in the rest.
+    fn error_of(&self, fault: Fault) -> ConsoleError {
+        error_of(
+            self.alloc,
+            TextError::of(fault, self.text.as_bytes()),
+            self.text,
+        )
     }
 
     /// Returns the error that this was expected here.
@@ -229,13 +257,6 @@ impl<'a> Line<'a> {
         self.text_of(bytes, position, expected)
     }
 
-    /// Reads a word that may have dots too, and returns it.
-    pub fn dotted_word(&mut self, expected: &'static str) -> ConsoleResult<&'a str> {
-        let position = self.position();
-        let bytes = self.take_while(|byte| byte == b'.' || is_bare(byte));
-        self.text_of(bytes, position, expected)
-    }
-
     /// Reads the rest of the line up to a comment, and returns it without the blanks at its end.
     pub fn rest_of_line(&mut self, expected: &'static str) -> ConsoleResult<&'a str> {
         let position = self.position();
@@ -306,72 +327,44 @@ impl<'a> Line<'a> {
 
     /// Reads a name, bare or in quotes, and returns it.
     pub fn name(&mut self, alloc: Global) -> ConsoleResult<FieldName> {
+        let name = self.read(dtype_text::name(alloc, self.rest))?;
+        self.end_word(b"-+#.")?;
+        Ok(name)
+    }
+
+    /// Reads an id, bare or in quotes, and returns it.
+    pub fn id(&mut self, alloc: Global) -> ConsoleResult<ExtId> {
         if self.accepts("\"") {
-            let text = self.quoted_text(alloc)?;
-            return Ok(FieldName::new(alloc, text.as_str())?);
+            let text = self.read(dtype_text::quoted(alloc, self.rest))?;
+            return Ok(ExtId::new(alloc, text.as_str())?);
         }
-        let text = self.bare_text("a name", false)?;
-        if self.peek() == Some(b'.') {
-            return Err(self.expected_found("the end of the name", QUOTE_NAMES));
-        }
-        Ok(FieldName::new(alloc, text)?)
-    }
-
-    /// Reads the name of a step, bare or in quotes, which a dot may follow, and returns it.
-    pub fn step_name(&mut self, alloc: Global) -> ConsoleResult<FieldName> {
-        if self.accepts("\"") {
-            let text = self.quoted_text(alloc)?;
-            return Ok(FieldName::new(alloc, text.as_str())?);
-        }
-        let text = self.bare_text("a name", false)?;
-        Ok(FieldName::new(alloc, text)?)
-    }
-
-    /// Reads a name, or where it may have dots an id, that is bare, and returns its text.
-    pub fn bare_text(&mut self, expected: &'static str, dots: bool) -> ConsoleResult<&'a str> {
-        let position = self.position();
-        let bytes = self.take_while(|byte| is_bare(byte) || dots && byte == b'.');
-        if bytes.is_empty() {
-            return Err(self.not_bare(expected));
-        }
-        let text = self.text_of(bytes, position, expected)?;
-        self.check_bare(text, position, expected)?;
-        match self.peek() {
-            Some(b'-' | b'+' | b'#') => {
-                Err(self.expected_found("the end of the name", QUOTE_NAMES))
+        let start = self.rest;
+        let word = self.take_while(is_dotted);
+        match str::from_utf8(word) {
+            Ok(text) if is_bare_id(text) => {
+                self.end_word(b"-+#")?;
+                Ok(ExtId::new(alloc, text)?)
             }
-            _ => Ok(text),
+            _ => Err(self.error_of(not_an_id(start, word))),
         }
     }
 
-    // Returns the error that a bare name was expected here.
-    fn not_bare(&self, expected: &'static str) -> ConsoleError {
-        let hint = match self.peek() {
-            Some(b'{' | b'}' | b'[' | b']' | b'(' | b')' | b',' | b'=' | b'@' | b':') => "",
-            _ => QUOTE_NAMES,
-        };
-        self.expected_here(expected, hint)
+    /// Returns an error if a bare name, or a bare id, was read last and one of these signs follows, which may be meant as a
+    /// part of it.
+    pub fn end_word(&self, signs: &[u8]) -> ConsoleResult<()> {
+        let is_sign = self.peek().is_some_and(|byte| signs.contains(&byte));
+        if is_sign && self.is_behind_word() {
+            Err(self.error_of(dtype_text::misread(self.rest, Expected::EndOfName)))
+        } else {
+            Ok(())
+        }
     }
 
-    /// Returns an error where a text that was read at this position has a character that no bare name has.
-    pub fn check_bare(
-        &self,
-        text: &str,
-        position: usize,
-        expected: &'static str,
-    ) -> ConsoleResult<()> {
-        if !has_special(text) {
-            return Ok(());
-        }
-        let mut at = position;
-        for character in text.chars() {
-            if is_special(character) {
-                let text = text_of_next(self.alloc, expected, Some(character), QUOTE_NAMES);
-                return Err(misread(at, text));
-            }
-            at = at.saturating_add(character.len_utf8());
-        }
-        Ok(())
+    // Returns whether the byte that was read last may be in a bare name or id. No name in quotes ends with such a byte.
+    fn is_behind_word(&self) -> bool {
+        let read = self.text.len().saturating_sub(self.rest.len());
+        let (read, _) = self.text.as_bytes().split_at(read);
+        read.last().is_some_and(|last| is_dotted(*last))
     }
 
     /// Reads the start of a list or of another part in brackets, and the blanks after it.
@@ -438,6 +431,11 @@ fn is_blank(byte: u8) -> bool {
 /// Returns whether a byte may be in a word.
 pub fn is_bare(byte: u8) -> bool {
     byte.is_ascii_alphanumeric() || byte == b'_' || byte >= 0x80
+}
+
+// Returns whether a byte may be in a bare id.
+fn is_dotted(byte: u8) -> bool {
+    byte == b'.' || is_bare(byte)
 }
 
 // Returns the value of a hexadecimal digit, or `None`.

@@ -1,19 +1,10 @@
 // SPDX-License-Identifier: Apache-2.0
 // SPDX-FileCopyrightText: Copyright the Vortex contributors
 
-// The names that are nearest to a word.
+// The names of commands and topics that are nearest to a word.
 use crate::{Row, TOPICS};
 use std::alloc::{AllocError, Global};
-use strsim::osa_distance;
-
-/// The names found so far that are nearest to a word, and how many edits lead from each to it. An edit adds, removes or
-/// replaces a character, or swaps two neighbours; the same letters in another case take none. None is near that takes more
-/// edits than a third of the word's length, or more than three.
-#[derive(Drop)]
-pub struct NearNames {
-    pub names: Vec<&'static str>,
-    distance: usize,
-}
+use text_hints::NearNames;
 
 /// Returns the command that this word of another tool means, else the names of the commands that are nearest to it, in the
 /// order of the tables.
@@ -31,7 +22,7 @@ pub fn nearest_command(alloc: Global, word: &str) -> Result<Vec<&'static str>, A
         return Ok(nearest.names);
     }
     for topic in TOPICS {
-        nearest.add_rows(alloc, topic.rows(), word)?;
+        add_rows(alloc, &mut nearest, topic.rows(), word)?;
     }
     Ok(nearest.names)
 }
@@ -47,7 +38,7 @@ pub fn nearest_topic(alloc: Global, text: &str) -> Result<Vec<&'static str>, All
         nearest.add(alloc, topic.name(), text)?;
     }
     for topic in TOPICS {
-        nearest.add_rows(alloc, topic.rows(), text)?;
+        add_rows(alloc, &mut nearest, topic.rows(), text)?;
     }
     Ok(nearest.names)
 }
@@ -69,44 +60,15 @@ const MEANT: [(&str, &str); 12] = [
     ("man", "help"),
 ];
 
-impl NearNames {
-    /// Returns no name.
-    pub fn new(alloc: Global, word: &str) -> Self {
-        NearNames {
-            names: Vec::new(alloc),
-            distance: (word.len() / 3).clamp(1, 3),
-        }
+// Adds the names of these rows that are as near to a word as the nearest so far.
+fn add_rows(
+    alloc: Global,
+    nearest: &mut NearNames,
+    rows: &'static [Row],
+    word: &str,
+) -> Result<(), AllocError> {
+    for row in rows {
+        nearest.add(alloc, row.name(), word)?;
     }
-
-    fn add_rows(
-        &mut self,
-        alloc: Global,
-        rows: &'static [Row],
-        word: &str,
-    ) -> Result<(), AllocError> {
-        for row in rows {
-            self.add(alloc, row.name(), word)?;
-        }
-        Ok(())
-    }
-
-    /// Adds this name if it is as near as those found, or puts it in their place if it is nearer.
-    pub fn add(&mut self, alloc: Global, name: &'static str, word: &str) -> Result<(), AllocError> {
-        // (a word that is much longer than any name, as a whole line may be, is compared with none)
-        if name.len().abs_diff(word.len()) > self.distance {
-            return Ok(());
-        }
-        let distance = match name.eq_ignore_ascii_case(word) {
-            true => 0,
-            false => osa_distance(alloc, name, word)?,
-        };
-        if distance < self.distance {
-            self.names.clear();
-            self.distance = distance;
-        }
-        if distance == self.distance && !self.names.iter().any(|it| *it == name) {
-            self.names.push(name)?;
-        }
-        Ok(())
-    }
+    Ok(())
 }

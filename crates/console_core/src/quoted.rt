@@ -1,37 +1,16 @@
 // SPDX-License-Identifier: Apache-2.0
 // SPDX-FileCopyrightText: Copyright the Vortex contributors
 
-// What stands in quotes in a line: the texts of names, and those of messages, which have the escapes of protobuf's text
-// format.
+// The texts of messages, which stand in quotes and have the escapes of protobuf's text format.
 use crate::line::expected_at;
 use crate::{ConsoleResult, Line};
 use std::alloc::Global;
 use std::char;
 
-// The escapes that a text in quotes may have.
-#[derive(Clone, Copy)]
-enum Escapes {
-    OfNames,
-    OfMessages,
-}
-
-const OF_NAMES: &str = r#"an escape: \\, \", \', \t, \n, \r or \x with two hexadecimal digits"#;
-
-const OF_MESSAGES: &str =
+const AN_ESCAPE: &str =
     r#"an escape: \a, \b, \f, \n, \r, \t, \v, \\, \', \", \?, \ with up to three octal digits, \x with one or two hexadecimal digits, \u with four or \U with eight"#;
 
 impl Line<'_> {
-    /// Reads a text in double quotes with the escapes of names, after the opening quote, and returns it.
-    pub fn quoted_text(&mut self, alloc: Global) -> ConsoleResult<String> {
-        let position = self.position();
-        let mut bytes = Vec::new(alloc);
-        self.add_quoted(alloc, &mut bytes, "\"", Escapes::OfNames)?;
-        match String::from_utf8(bytes) {
-            Ok(text) => Ok(text),
-            Err(_) => Err(expected_at(position, "a text in UTF-8")),
-        }
-    }
-
     /// Reads texts of a message in double or single quotes, one or more with blanks between them, and returns the bytes
     /// of all.
     pub fn joined_texts(&mut self, alloc: Global) -> ConsoleResult<Vec<u8>> {
@@ -39,10 +18,10 @@ impl Line<'_> {
         let Some(mark) = self.accepts_quote() else {
             return Err(self.expected_here("a text in quotes", ""));
         };
-        self.add_quoted(alloc, &mut bytes, mark, Escapes::OfMessages)?;
+        self.add_quoted(alloc, &mut bytes, mark)?;
         for _ in 0..self.max_items() {
             match self.accepts_quote() {
-                Some(mark) => self.add_quoted(alloc, &mut bytes, mark, Escapes::OfMessages)?,
+                Some(mark) => self.add_quoted(alloc, &mut bytes, mark)?,
                 None => break,
             }
         }
@@ -61,19 +40,13 @@ impl Line<'_> {
     }
 
     // Reads what is in quotes, after the opening one, and adds its bytes to these.
-    fn add_quoted(
-        &mut self,
-        alloc: Global,
-        bytes: &mut Vec<u8>,
-        mark: &str,
-        escapes: Escapes,
-    ) -> ConsoleResult<()> {
+    fn add_quoted(&mut self, alloc: Global, bytes: &mut Vec<u8>, mark: &str) -> ConsoleResult<()> {
         for _ in 0..self.max_items() {
             if self.accepts(mark) {
                 return Ok(());
             }
             match self.next() {
-                Some(b'\\') => self.add_escape(alloc, bytes, escapes)?,
+                Some(b'\\') => self.add_escape(alloc, bytes)?,
                 Some(byte) => bytes.push(byte)?,
                 None => break,
             }
@@ -82,49 +55,27 @@ impl Line<'_> {
     }
 
     // Reads an escape, after its backslash, and adds the bytes that it means to these.
-    fn add_escape(
-        &mut self,
-        alloc: Global,
-        bytes: &mut Vec<u8>,
-        escapes: Escapes,
-    ) -> ConsoleResult<()> {
-        match escapes {
-            Escapes::OfNames => bytes.push(self.name_escape()?)?,
-            Escapes::OfMessages => {
-                if self.accepts("u") {
-                    add_utf8(alloc, bytes, self.code_point(4)?)?;
-                } else if self.accepts("U") {
-                    add_utf8(alloc, bytes, self.code_point(8)?)?;
-                } else {
-                    bytes.push(self.message_escape()?)?;
-                }
-            }
-        }
-        Ok(())
-    }
-
-    // Reads an escape of a name, after its backslash, and returns its byte.
-    fn name_escape(&mut self) -> ConsoleResult<u8> {
-        if self.accepts("x") {
-            return self.hexadecimal();
-        }
-        match self.accepts_mark(&MARKS_OF_NAMES) {
-            Some(byte) => Ok(byte),
-            None => Err(self.expected_here(OF_NAMES, "")),
+    fn add_escape(&mut self, alloc: Global, bytes: &mut Vec<u8>) -> ConsoleResult<()> {
+        if self.accepts("u") {
+            add_utf8(alloc, bytes, self.code_point(4)?)
+        } else if self.accepts("U") {
+            add_utf8(alloc, bytes, self.code_point(8)?)
+        } else {
+            Ok(bytes.push(self.escape()?)?)
         }
     }
 
-    // Reads an escape of a message's text that is one byte, after its backslash, and returns the byte.
-    fn message_escape(&mut self) -> ConsoleResult<u8> {
+    // Reads an escape that is one byte, after its backslash, and returns the byte.
+    fn escape(&mut self) -> ConsoleResult<u8> {
         if self.accepts("x") {
             return self.digits(16, 2, "one or two hexadecimal digits");
         }
         if matches!(self.peek(), Some(b'0'..=b'7')) {
             return self.digits(8, 3, r"up to three octal digits, at most \377");
         }
-        match self.accepts_mark(&MARKS_OF_MESSAGES) {
+        match self.accepts_mark(&MARKS) {
             Some(byte) => Ok(byte),
-            None => Err(self.expected_here(OF_MESSAGES, "")),
+            None => Err(self.expected_here(AN_ESCAPE, "")),
         }
     }
 
@@ -183,16 +134,7 @@ impl Line<'_> {
 }
 
 // The marks of escapes, each with its byte.
-const MARKS_OF_NAMES: [(&str, u8); 6] = [
-    ("\\", b'\\'),
-    ("\"", b'"'),
-    ("'", b'\''),
-    ("t", b'\t'),
-    ("n", b'\n'),
-    ("r", b'\r'),
-];
-
-const MARKS_OF_MESSAGES: [(&str, u8); 11] = [
+const MARKS: [(&str, u8); 11] = [
     ("a", 0x07),
     ("b", 0x08),
     ("f", 0x0c),

@@ -2,7 +2,9 @@
 // SPDX-FileCopyrightText: Copyright the Vortex contributors
 
 // The commands on types.
-use crate::Command::{IntersectNullability, MergeNullability, Parts, Types};
+use crate::Command::{
+    IntersectNullability, MergeColumns, MergeConflict, MergeNullability, Parts, Types,
+};
 use crate::Row;
 
 /// A command on types of every kind.
@@ -123,7 +125,7 @@ pub fn rows() -> &'static [Row] {
 }
 
 #[rattlefmt::skip]
-const ROWS: [Row; 44] = [
+const ROWS: [Row; 46] = [
     Row("type", "T", r#"{a=list({b=u32})?, "x y"=x.tag[0x6162](utf8?)}"#, "the type itself, as the console writes it", "", Types(TypeCommand::Change(TypeChange::Unchanged))),
     Row("copy", "T", "map(utf8, i32?, keys_sorted=true)", "a copy of the type", "", Types(TypeCommand::Change(TypeChange::Copy))),
     Row("text", "T", r#"{a=list({b=u32})?, "x y"=x.tag[0x6162](utf8?)}"#, "the text that the library prints of the type", "", Types(TypeCommand::Query(TypeQuery::Text))),
@@ -136,6 +138,8 @@ const ROWS: [Row; 44] = [
     Row("union_nullability", "N T", "NonNullable utf8?", "the type, nullable if it was or if N is Nullable", "", Types(TypeCommand::ChangeTo(NullabilityChange::UnionNullability))),
     Row("merge_nullability", "T T", "{a=i32, b=list(utf8?)} {a=i32?, b=list(utf8)}", "the least type of which both are subsets, or none if they differ in more than nullability", "", MergeNullability),
     Row("intersect_nullability", "T T", "{a=i32, b=list(utf8?)?} {a=i32?, b=list(utf8?)}", "the greatest type that is a subset of both, or none if they differ in more than nullability", "", IntersectNullability),
+    Row("merge_columns", "T T", "{a=i32, b=utf8} {c=u8, a=i32?}", "the least type as which both can be read, or none if there is none. A field that one of the two lacks is nullable.", "", MergeColumns),
+    Row("merge_conflict", "T T", "{a=list(u64), b=i8} {b=i8, a=list(utf8)}", "three values: the path to the first place at which the two can't be merged by columns, and the type there in each of the two; or none if they can be merged", "", MergeConflict),
     Row("nullability_or", "N N", "NonNullable Nullable", "Nullable if one of the two is, otherwise NonNullable", "", Types(TypeCommand::NullabilityOr)),
     Row("nullability_text", "N", "Nullable", "the text of a nullability within a type: ? or nothing", "", Types(TypeCommand::Text(NullabilityText::NullabilityText))),
     Row("nullability_long_text", "N", "Nullable", "the word for a nullability", "", Types(TypeCommand::Text(NullabilityText::NullabilityLongText))),

@@ -2,12 +2,13 @@
 // SPDX-FileCopyrightText: Copyright the Vortex contributors
 
 // Errors that name what is known where a word isn't.
-use crate::found::{is_hidden, text_of_found, write_code_point, write_visible};
-use crate::near_names::nearest_topic;
-use crate::near_types::in_place_of;
-use crate::{ConsoleError, nearest_command, nearest_ptype, nearest_type, put, write_name};
+use crate::found::text_of_found;
+use crate::near_names::{nearest_command, nearest_topic};
+use crate::{ConsoleError, put};
 use dtype_base::{FieldName, VortexError, VortexResult};
+use dtype_text::write_name;
 use std::alloc::{AllocError, Global};
+use text_hints::{nearest_ptype, visible_part, write_nearest, write_other};
 
 /// Returns the error that there is no command of this word, which is at a position.
 pub fn unknown_command(alloc: Global, position: usize, word: &str) -> ConsoleError {
@@ -26,22 +27,6 @@ pub fn unknown_topic(alloc: Global, position: usize, text: &str) -> ConsoleError
     unknown_word(alloc, position, text, known)
 }
 
-/// Returns the error that there is no type of this word, which is at a position.
-pub fn unknown_type(alloc: Global, position: usize, word: &str) -> ConsoleError {
-    match in_place_of(visible_part(word)) {
-        Some(instead) => unknown(position, text_of_absent(alloc, word, instead)),
-        None => {
-            let nearest = nearest_type(alloc, visible_part(word));
-            unknown_word(
-                alloc,
-                position,
-                word,
-                Known("a type", nearest, "help types"),
-            )
-        }
-    }
-}
-
 /// Returns the error that there is no primitive type of this word, which is at a position.
 pub fn unknown_ptype(alloc: Global, position: usize, word: &str) -> ConsoleError {
     unknown(position, text_of_ptype(alloc, word))
@@ -50,7 +35,7 @@ pub fn unknown_ptype(alloc: Global, position: usize, word: &str) -> ConsoleError
 fn text_of_ptype(alloc: Global, word: &str) -> VortexResult<String> {
     const EXPECTED: &str = "a primitive type (u8 to u64, i8 to i64, f16, f32, f64)";
     let mut text = text_of_found(alloc, EXPECTED, word, "")?;
-    write_nearest(&mut text, nearest_ptype(alloc, visible_part(word)))?;
+    write_nearest(&mut text, &nearest_ptype(alloc, visible_part(word))?)?;
     Ok(text)
 }
 
@@ -77,53 +62,9 @@ fn text_of_word(alloc: Global, word: &str, known: Known) -> VortexResult<String>
     let Known(expected, nearest, help) = known;
     let mut text = String::from_str(alloc, expected)?;
     write_other(&mut text, word)?;
-    write_nearest(&mut text, nearest)?;
+    write_nearest(&mut text, &nearest?)?;
     write!(text, "; {help} lists all")?;
     Ok(text)
-}
-
-fn text_of_absent(alloc: Global, word: &str, instead: &str) -> VortexResult<String> {
-    let mut text = String::from_str(alloc, "a type")?;
-    write_other(&mut text, word)?;
-    put(&mut text, "; write ")?;
-    put(&mut text, instead)?;
-    put(&mut text, "; help types lists all")?;
-    Ok(text)
-}
-
-// Writes that a word isn't what was expected, and of its first character that can't be seen which it is.
-fn write_other(out: &mut String, word: &str) -> VortexResult<()> {
-    put(out, ", not \"")?;
-    write_visible(out, word)?;
-    put(out, "\"")?;
-    if let Some(hidden) = word.chars().find(|character| is_hidden(*character)) {
-        put(out, "; ")?;
-        write_code_point(out, hidden)?;
-        put(out, " can't be seen")?;
-    }
-    Ok(())
-}
-
-fn write_nearest(
-    out: &mut String,
-    nearest: Result<Vec<&'static str>, AllocError>,
-) -> VortexResult<()> {
-    let mut is_first = true;
-    for name in nearest? {
-        put(out, if is_first { "; nearest: " } else { ", " })?;
-        put(out, name)?;
-        is_first = false;
-    }
-    Ok(())
-}
-
-// Returns what stands of a word between the characters that can't be seen: of several such parts the first.
-fn visible_part(word: &str) -> &str {
-    let part = word.trim_start_matches(is_hidden);
-    match part.split_once(is_hidden) {
-        Some((first, _)) => first,
-        None => part,
-    }
 }
 
 /// Returns the error that there is no set, or no session, of this name, with the names that there are.

@@ -2,7 +2,8 @@
 // SPDX-FileCopyrightText: Copyright the Vortex contributors
 
 // The reader of messages in protobuf's text format. It bounds how deep they are.
-use console_core::{Argument, ConsoleResult, Line, MAX_LEVELS, expected_at, whole_number};
+use console_core::{Argument, ConsoleResult, Line, expected_at, whole_number};
+use dtype_text::MAX_LEVELS;
 use std::alloc::Global;
 use vortex_dtype::pb;
 

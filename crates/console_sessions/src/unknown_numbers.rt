@@ -2,7 +2,8 @@
 // SPDX-FileCopyrightText: Copyright the Vortex contributors
 
 // Numbers in messages that no primitive type has. The library's error tells that there is one, and not which.
-use console_core::{ConsoleError, ConsoleResult, MAX_LEVELS};
+use console_core::{ConsoleError, ConsoleResult};
+use dtype_text::MAX_LEVELS;
 use std::alloc::Global;
 use vortex_dtype::{DType, DTypeProto, DTypeSession, MessageFault, VortexError, VortexResult, pb};
 

@@ -3,8 +3,11 @@
 
 // The writer of messages in protobuf's text format. It bounds how deep they are: no message that was read, or written
 // from a type, is so deep.
-use console_core::{Call, ConsoleResult, MAX_WRITTEN_LEVELS, put, write_quoted};
+use console_core::{Call, ConsoleResult, put, write_quoted};
 use vortex_dtype::{PType, VortexResult, pb};
+
+// How deep messages are written: twice as deep as they are read.
+const MAX_WRITTEN_LEVELS: u32 = 256;
 
 /// Adds the message that the library returned to the answer, or returns its error.
 pub fn say_message_result(call: &mut Call<'_>, made: VortexResult<pb::DType>) -> ConsoleResult<()> {

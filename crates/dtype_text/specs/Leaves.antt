@@ -2,13 +2,13 @@
 -- SPDX-FileCopyrightText: Copyright the Vortex contributors
 
 -- What is read at the front of bytes: blanks, marks, numbers, names.
-use Rattle.std.specs.Prelude.{ℕ, zero, suc, ◌+◌, ◌-◌, ◌*◌, ◌^◌, List, [], ◌∷◌, ◌==◌, Bool, true, false, nat_le, nat_lt, ◌&&◌, ◌||◌, not, Option, Some, None, if◌then◌else◌, take, drop, length, codes, is_some, ℤ, pos, neg_ℤ}
+use Rattle.std.specs.Prelude.{ℕ, ◌+◌, ◌-◌, ◌*◌, ◌^◌, List, [], ◌∷◌, ◌==◌, Bool, true, false, nat_le, nat_lt, ◌&&◌, ◌||◌, not, Option, Some, None, if◌then◌else◌, take, drop, length, codes, is_some, ℤ, pos, neg_ℤ}
 use Rattle.std.specs.List.{prefix_len}
 use Rattle.std.specs.Str.{is_utf8, bytes_eq}
 use Rattle.std.specs.Char.{is_ascii_digit}
 use Rattle.dtype_base.specs.declared.nullability.Nullability.{Nullability}
 use Rattle.dtype_base.specs.declared.nullability.Nullability.TheVariants.{Nullable, NonNullable}
-use Rattle.dtype_text.specs.Bare.{is_bare_byte, is_id_byte, has_special, is_some_text, is_bare_name}
+use Rattle.dtype_text.specs.Bare.{is_bare_byte, is_id_byte, has_special, is_some_text}
 use Rattle.dtype_text.specs.Read.{◌>>=◌, byte_at, until}
 
 -- a space, a tab or the end of a line

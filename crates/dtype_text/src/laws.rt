@@ -12,6 +12,8 @@ ghost use Rattle.dtype_text.specs.Grammar.{Stands, AreTexts, levels};
 ///
 /// For example, no text stands both for a list of nullable elements and for a nullable list. So what a text means doesn't
 /// depend on who reads it.
+///
+/// About [`read_dtype`].
 pub fn a_text_stands_for_one_type()
     ensures { (t u : Tree) (text : List ℕ) → Stands t text → Stands u text → t ≡ u }
 {}
@@ -22,6 +24,8 @@ pub fn a_text_stands_for_one_type()
 /// For example, `union(a@5=i32, b@9=utf8?)` is written of a union with these variants and stands for it. With the contract
 /// of `read_dtype` it follows that what is written is read back as the same type. `write_dtype` ensures `AreTexts` of each
 /// type that it writes.
+///
+/// About [`write_dtype`], [`read_dtype`].
 pub fn what_is_written_stands_for_the_type()
     ensures { (t : Tree) → AreTexts t → Valid t → levels t ≤ 128 → Stands t (source t) }
 {}

@@ -6,7 +6,7 @@ ghost use Rattle.std.specs.Prelude.{◌≡◌, ◌+◌, ◌*◌, ◌<◌, ◌≤
 ghost use Rattle.std.specs.List.{prefix_len};
 ghost use Rattle.dtype_text.specs.Bare.{is_bare_byte as is_bare_spec, is_id_byte as is_id_spec};
 ghost use Rattle.dtype_text.specs.Leaves.{is_blank as is_blank_spec, is_in_line as is_in_line_spec, behind_comment as behind_comment_spec, is_number_byte as is_number_spec, front, past, skipped, nullability_at, digit_after, number_of, number_at, text_at, bare_at, hex_at, hex_byte_at, meaning as meaning_spec, escape_at, unit_at, quoted_at, name_at, equals_at, comma_at, signed_at, word_is as word_is_spec, bool_at, no_hex, metadata_at};
-ghost use Rattle.dtype_text.specs.Read.{Reads, shown, byte_at, until};
+ghost use Rattle.dtype_text.specs.Read.{IsMisread, Reads, shown, byte_at, until};
 
 use crate::bare::{has_special, is_bare_byte, is_id_byte, is_special};
 use crate::fault::{Fault, misread};
@@ -216,6 +216,14 @@ pub fn at_special<'a>(bytes: &'a [u8], word: &[u8]) -> &'a [u8] {
     bytes
 }
 
+/// Returns the fault that an id was expected at the front of these bytes, which begin with this word. Its place is that of
+/// the first character of the word that no bare id has.
+pub fn not_an_id(bytes: &[u8], word: &[u8]) -> Fault
+    ensures { IsMisread result }
+{
+    misread(at_special(bytes, word), Expected::Id)
+}
+
 // Reads a bare name.
 #[tactic(auto, unfolding(crate::specs::Leaves::bare_at))]
 fn bare(alloc: Global, bytes: &[u8]) -> Result<(FieldName, &[u8]), Fault>
@@ -372,6 +380,20 @@ fn equals_behind_bare(bytes: &[u8]) -> Result<&[u8], Fault>
 {
     match bytes {
         [b'-' | b'+' | b'.', ..] => Err(misread(bytes, Expected::EndOfName)),
+        [b'#', ..] => equals_behind_comment(bytes),
+        _ => equals(bytes),
+    }
+}
+
+// Reads an equals sign behind a comment, with blanks around it. A bare name is in front of the comment. If the comment
+// doesn't end, it may be meant as a part of the name.
+#[tactic(auto, unfolding(crate::specs::Leaves::equals_at))]
+fn equals_behind_comment(bytes: &[u8]) -> Result<&[u8], Fault>
+    ensures { Reads (λ rest. rest.now) result (equals_at bytes.now) }
+{
+    let rest = skip(bytes);
+    match rest {
+        [b'#', ..] if rest.len() == bytes.len() => Err(misread(bytes, Expected::EndOfName)),
         _ => equals(bytes),
     }
 }

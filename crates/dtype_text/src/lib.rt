@@ -28,14 +28,15 @@ mod type_parts;
 mod unions;
 mod writer;
 
-pub use bare::{is_bare_id, is_bare_name};
+pub use bare::is_bare_id;
 pub use fault::{Fault, misread};
 pub use keyword::{Keyword, keyword_of};
-pub use leaves::{after, at_special, byte, equals, name, nullability, number, quoted, skip};
+pub use leaves::{name, not_an_id, quoted};
 pub use path_reader::{path_at, path_step_at, read_path};
 pub use path_writer::{write_path, write_step};
 pub use reader::{MAX_LEVELS, read_dtype, type_at};
 pub use text_error::{Expected, Found, TextError};
+pub use type_parts::decimal_parts;
 pub use writer::{
     write_dtype, write_extension, write_fields, write_hex, write_id, write_map, write_name,
     write_union,

@@ -6,7 +6,7 @@ ghost use Rattle.std.specs.Prelude.{◌≡◌, map, IfOk, MatchResult, Some, Non
 ghost use Rattle.dtype_base.specs.Errors.{Makes};
 ghost use Rattle.dtype_types.specs.parts.FieldTypes.{field_tree};
 ghost use Rattle.dtype_types.specs.tree.Tree as of;
-ghost use Rattle.dtype_types.specs.tree.Tree.{fields};
+ghost use Rattle.dtype_types.specs.tree.Tree.{Tree, fields};
 ghost use Rattle.dtype_types.specs.tree.TreeOf.{tree, children};
 ghost use Rattle.dtype_text.specs.Outcome.{Gives, got, refused};
 ghost use Rattle.dtype_text.specs.TypeParts.{is_decimal, a_decimal};
@@ -429,9 +429,9 @@ pub fn read_dtype(alloc: Global, text: &str) -> Result<DType, TextError>
     // The text stands for the type.
     ensures found { IfOk result (λ d. Stands (tree d) text.now) }
     // What stands for a type is read, unless memory runs out.
-    ensures only { (t : of.Tree) → Stands t text.now → MatchResult result (λ d. tree d ≡ t) (λ e. e ≡ OutOfMemory) }
+    ensures only { (t : Tree) → Stands t text.now → MatchResult result (λ d. tree d ≡ t) (λ e. e ≡ OutOfMemory) }
     // Of a text that spells a type, only what isn't valid is refused, and only what has more than 128 levels is too deep.
-    ensures spelled { (t : of.Tree) → IsSpelled t text.now → IsReadAs t result }
+    ensures spelled { (t : Tree) → IsSpelled t text.now → IsReadAs t result }
 {
     match whole(alloc, text.as_bytes()) {
         Ok(dtype) => Ok(dtype),

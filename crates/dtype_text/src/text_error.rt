@@ -4,6 +4,7 @@
 // Why a text can't be read, with the place.
 ghost use Rattle.dtype_text.specs.Errors.{Tells};
 
+use crate::bare::{is_bare_byte, is_special};
 use crate::fault::Fault;
 use dtype_base::VortexError;
 use std::str;
@@ -67,7 +68,7 @@ pub enum Found {
     End,
     /// A word or a number of this many bytes.
     Word { length: usize },
-    /// Another character.
+    /// Another character, or one that no bare name has.
     Character(char),
 }
 
@@ -82,7 +83,7 @@ pub enum TextError {
     /// `decimal(0,0)`, a map with a nullable key type or a union with two variants of the same name.
     #[error("{0}")]
     Refused(VortexError),
-    /// A type begins at this position that is inside 128 others.
+    /// A type begins at this position that is inside more than 128 others.
     #[error("unreadable at {position}: expected at most 128 levels")]
     TooDeep {
         position: usize,
@@ -130,19 +131,22 @@ fn rest(text: &[u8], left: usize) -> &[u8] {
 // Returns what these bytes begin with.
 fn next_found(bytes: &[u8]) -> Found {
     let length = bytes.iter().take_while(|byte| is_word_byte(**byte)).count();
-    if length > 0 {
-        return Found::Word { length };
+    match first_character(bytes) {
+        Some(character) if length == 0 || is_special(character) => Found::Character(character),
+        Some(_) => Found::Word { length },
+        None => Found::End,
     }
+}
+
+// Returns the character with which bytes begin.
+fn first_character(bytes: &[u8]) -> Option<char> {
     match str::from_utf8(bytes) {
-        Ok(text) => match text.chars().next() {
-            Some(character) => Found::Character(character),
-            None => Found::End,
-        },
-        Err(_) => Found::End,
+        Ok(text) => text.chars().next(),
+        Err(_) => None,
     }
 }
 
 // Returns whether a byte may be in a word or a number.
 fn is_word_byte(byte: u8) -> bool {
-    byte == b'-' || byte == b'.' || crate::bare::is_bare_byte(byte)
+    byte == b'-' || byte == b'.' || is_bare_byte(byte)
 }

@@ -2,7 +2,7 @@
 // SPDX-FileCopyrightText: Copyright the Vortex contributors
 
 // The types that a word may have meant.
-use crate::near_names::NearNames;
+use crate::NearNames;
 use std::alloc::{AllocError, Global};
 
 /// Returns the types that this word may have meant: the one that Arrow or SQL call so, else those of the nearest names.
@@ -169,19 +169,20 @@ const ELSEWHERE: [(&str, &str); 67] = [
     ("decimal64", "decimal(P,S)"),
 ];
 
-// What Arrow, Parquet or SQL have and this library hasn't: what to write in its place, as is said behind `write `.
+// What Arrow, Parquet or SQL have and this library hasn't: what to write in its place, as is said behind `write `. The
+// extensions of dates, times and timestamps are those of docs/ARROW.md.
 #[rattlefmt::skip]
 const ABSENT: [(&str, &str); 22] = [
-    ("date", "an extension type with an id of your own, for example x.date[0x](i32)"),
-    ("date32", "an extension type with an id of your own, for example x.date[0x](i32)"),
-    ("date64", "an extension type with an id of your own, for example x.date[0x](i64)"),
-    ("time", "an extension type with an id of your own, for example x.time[0x](i64)"),
-    ("time32", "an extension type with an id of your own, for example x.time[0x](i32)"),
-    ("time64", "an extension type with an id of your own, for example x.time[0x](i64)"),
-    ("timestamp", "an extension type with an id of your own, for example x.timestamp[0x](i64)"),
-    ("timestamptz", "an extension type with an id of your own, for example x.timestamp[0x](i64)"),
-    ("timestamp_tz", "an extension type with an id of your own, for example x.timestamp[0x](i64)"),
-    ("datetime", "an extension type with an id of your own, for example x.timestamp[0x](i64)"),
+    ("date", "the extension of dates in days, vortex.date[0x04](i32)"),
+    ("date32", "the extension of dates in days, vortex.date[0x04](i32)"),
+    ("date64", "the extension of dates in milliseconds, vortex.date[0x02](i64)"),
+    ("time", "the extension of times in microseconds, vortex.time[0x01](i64)"),
+    ("time32", "the extension of times in milliseconds, vortex.time[0x02](i32)"),
+    ("time64", "the extension of times in microseconds, vortex.time[0x01](i64)"),
+    ("timestamp", "the extension of timestamps in microseconds, vortex.timestamp[0x010000](i64)"),
+    ("timestamptz", "the extension of timestamps in microseconds in UTC, vortex.timestamp[0x010300555443](i64)"),
+    ("timestamp_tz", "the extension of timestamps in microseconds in UTC, vortex.timestamp[0x010300555443](i64)"),
+    ("datetime", "the extension of timestamps in microseconds, vortex.timestamp[0x010000](i64)"),
     ("interval", "an extension type with an id of your own, for example x.interval[0x](i64)"),
     ("duration", "an extension type with an id of your own, for example x.duration[0x](i64)"),
     ("uuid", "an extension type with an id of your own, for example x.uuid[0x](fixed_size_list(u8)[16])"),

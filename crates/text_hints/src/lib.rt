@@ -1,0 +1,20 @@
+// SPDX-License-Identifier: Apache-2.0
+// SPDX-FileCopyrightText: Copyright the Vortex contributors
+
+//! The messages for texts of types and paths that can't be read, with the word that may have been meant. For example, of
+//! the text `{a=int32}` the message is `expected a type, not "int32"; nearest: i32`. The console and the exports print the
+//! same sentences.
+//!
+//! Begin with `hint_of`, which returns the place and the message of an error. It is proved that each function is safe and
+//! returns, and that the place is that of the error; the wording is tested.
+#![tactic(auto)]
+
+mod hint;
+mod near_names;
+mod near_types;
+mod visible;
+
+pub use hint::{Finding, OF_TEXTS, TextHint, Wording, hint_of, write_expected};
+pub use near_names::NearNames;
+pub use near_types::{in_place_of, nearest_ptype, nearest_type};
+pub use visible::{visible_part, write_found, write_nearest, write_other, write_visible};

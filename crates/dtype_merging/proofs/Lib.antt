@@ -2,3 +2,5 @@
 -- SPDX-FileCopyrightText: Copyright the Vortex contributors
 
 pub mod lemmas
+mod Collecting
+mod Visiting

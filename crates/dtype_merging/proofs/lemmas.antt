@@ -10,3 +10,4 @@ pub mod Columns
 pub mod Merging
 pub mod MergeLaws
 pub mod Filling
+pub mod Conflicting

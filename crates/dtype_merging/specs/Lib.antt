@@ -3,4 +3,6 @@
 
 pub mod ReadsAs
 pub mod MergedColumns
+pub mod Conflicts
 pub mod Filled
+pub mod private

@@ -23,7 +23,7 @@ ghost use Rattle.dtype_merging.specs.ReadsAs.{HaveNoReader, IsLeastReader, Reads
 /// For example, each of `{a=i32, b=utf8}` and `{b=utf8, a=i32}` can be read as the other. With this law a caller knows
 /// that a schema that was extended several times still reads the oldest file.
 ///
-/// About [`merge_nullability`].
+/// About [`merge_columns`].
 #[tactic(auto, using(crate::proofs::lemmas::Reading::reads_itself, crate::proofs::lemmas::Reading::reads_more, crate::proofs::lemmas::Reading::reads_back, crate::proofs::lemmas::Reading::same_reads))]
 pub fn reading_is_an_order()
     ensures itself { (t : Tree) → ReadsAs t t }
@@ -38,7 +38,7 @@ pub fn reading_is_an_order()
 ///
 /// For example, `{a=i32}` can be read as `{a=i32?}`. So the order by columns contains the order by nullability.
 ///
-/// About [`merge_nullability`].
+/// About [`merge_columns`].
 #[tactic(auto, using(crate::proofs::lemmas::Reading::sub_reads, crate::proofs::lemmas::Reading::reads_nullable))]
 pub fn subsets_can_be_read()
     ensures subset { (t u : Tree) → Sub t u → ReadsAs t u }
@@ -50,7 +50,7 @@ pub fn subsets_can_be_read()
 /// value `{b="x", a=1}` of `{b=utf8, a=i32}`, read as `{a=i32, b=utf8?, c=u8?}`, is `{a=1, b="x", c=null}`. With this law
 /// a caller knows that a reader can do what the name `ReadsAs` promises.
 ///
-/// About [`merge_nullability`].
+/// About [`merge_columns`].
 #[tactic(auto, using(crate::proofs::lemmas::Filling::of_filled))]
 pub fn values_are_filled()
     ensures { (t u : Tree) (v : Value) → ReadsAs t u → Of v t → Of (filled t u v) u }
@@ -66,7 +66,7 @@ pub fn values_are_filled()
 /// and `{b=utf8}` can be read as `{a=i32?, b=utf8?}`, which is their merged type, and as `{b=utf8?, a=i32?, c=u8?}`, as
 /// which the merged type can be read. The types `{a=i32}` and `{a=utf8}` can't be read as one type.
 ///
-/// About [`merge_nullability`].
+/// About [`merge_columns`].
 #[tactic(auto, using(crate::proofs::lemmas::MergeLaws::merged_is_least, crate::proofs::lemmas::MergeLaws::none_has_no_reader, crate::proofs::lemmas::MergeLaws::merge_valid))]
 pub fn what_is_merged_is_the_least_reader()
     ensures least { (a b c : Tree) → columns_merged a b ≡ Some c → IsLeastReader a b c }
@@ -78,7 +78,7 @@ pub fn what_is_merged_is_the_least_reader()
 /// `merge_nullability` makes of them, `merged a b`. So merging a type with itself returns that type. For example, merging
 /// `{a=i32}` and `{a=i32?}` returns `{a=i32?}`. With this law a caller can use one call for all schemas.
 ///
-/// About [`merge_nullability`].
+/// About [`merge_columns`].
 #[tactic(auto, using(crate::proofs::lemmas::MergeLaws::as_by_nullability))]
 pub fn equal_columns_are_merged_by_nullability()
     ensures { (a b : Tree) → Valid a → Valid b → erase a ≡ erase b → columns_merged a b ≡ merged a b }
@@ -94,7 +94,7 @@ pub fn equal_columns_are_merged_by_nullability()
 /// For example, merging `{a=i32}` and `{b=utf8}` returns `{a=i32?, b=utf8?}`, and merging `{b=utf8}` and `{a=i32}` returns
 /// `{b=utf8?, a=i32?}`. So a program can merge the schemas of several files in any order.
 ///
-/// About [`merge_nullability`].
+/// About [`merge_columns`].
 #[tactic(auto, using(crate::proofs::lemmas::MergeLaws::turned_around, crate::proofs::lemmas::MergeLaws::from_the_left, crate::proofs::lemmas::MergeLaws::from_the_right))]
 pub fn columns_are_merged_in_any_order()
     ensures commutative { (a b c : Tree) → Valid a → Valid b → columns_merged a b ≡ Some c

@@ -1,0 +1,123 @@
+-- SPDX-License-Identifier: Apache-2.0
+-- SPDX-FileCopyrightText: Copyright the Vortex contributors
+
+-- Columns that are collected one after another, and the types that are made of merged parts.
+use Rattle.std.proofs.Common.{◌≡◌, ◌∙◌, ◌&&◌, ◌+◌, ◌≤◌, ℕ, List, [], ◌∷◌, ◌++◌, true, false, Option, Some, None, refl, sym, ap, subst, append_assoc, arith}
+use Rattle.std.specs.Option.{option_map}
+use Rattle.std.specs.Prelude.{Bool, Result}
+use Rattle.std.proofs.Math.Bool.{beq}
+use Rattle.std.proofs.lemmas.List.{map-append}
+use Rattle.dtype_base.specs.Errors.{Makes}
+use Rattle.dtype_base.specs.Nullability.{either}
+use Rattle.dtype_base.specs.declared.nullability.Nullability.{Nullability}
+use Rattle.dtype_base.specs.declared.nullability.Nullability.TheVariants.{Nullable}
+use Rattle.dtype_base.specs.declared.vortex_error.VortexError.{VortexError}
+use Rattle.dtype_types.specs.declared.dtype.DType.{DType, Struct}
+use Rattle.dtype_types.specs.declared.field_dtype.FieldDType.{FieldDType}
+use Rattle.dtype_types.specs.declared.struct_fields.StructFields.{StructFields}
+use Rattle.dtype_types.specs.nullability.Merged.{merged}
+use Rattle.dtype_types.specs.nullability.Nullable.{IsNullable, nullability}
+use Rattle.dtype_types.specs.parts.FieldTypes.{field_tree}
+use Rattle.dtype_types.specs.parts.Lookups.{first_named}
+use Rattle.dtype_types.specs.tree.Tree.{Tree, fields, pairs, struct}
+use Rattle.dtype_types.specs.tree.TreeOf.{MapParts, children, fields_of, tree, with_trees}
+use Rattle.dtype_types.proofs.lemmas.TreeLaws.{pairs_of, tree_struct}
+use Rattle.dtype_types.proofs.lemmas.TypesBelow.{weight, weight_items}
+use Rattle.dtype_merging.specs.MergedColumns.{column, columns_merged, further, map_of_key, map_with, merged_by_name, no_repeats, prepend, struct_with}
+use Rattle.dtype_merging.specs.private.Collected.{collected, maps_merged}
+use Rattle.dtype_merging.proofs.lemmas.Finding.{Pairs}
+use Rattle.dtype_merging.proofs.lemmas.Merging.{pick_false, pick_true}
+
+-- a map with a nullable key
+map_of_nullable : (k : Tree) (o : Option Tree) (s : Bool) (n : Nullability) → nullability k ≡ Nullable → map_with (Some k) o s n ≡ None
+map_of_nullable k None s n e = refl
+map_of_nullable k (Some v) s n e = ap (λ m. map_of_key m k v s n) e
+
+same_flags : (x y : Bool) → x ≡ y → beq x y ≡ true
+same_flags true true e = refl
+same_flags true false e = cc
+same_flags false true e = cc
+same_flags false false e = refl
+
+-- two maps whose merged key type is nullable can't be merged
+pub keys_nullable : (a b : MapParts) (n : Nullability) (k : Tree) → a.2 ≡ b.2 → Some k ≡ columns_merged a.0 b.0 → IsNullable k → None ≡ maps_merged a b n
+keys_nullable a b n k same key nulls =
+    sym (pick_true (beq a.2 b.2) (map_with (columns_merged a.0 b.0) (columns_merged a.1 b.1) a.2 n) None (same_flags a.2 b.2 same)
+    ∙ ap (λ o. map_with o (columns_merged a.1 b.1) a.2 n) (sym key) ∙ map_of_nullable k (columns_merged a.1 b.1) a.2 n nulls)
+
+-- ---- structs
+
+-- the merged type of two structs, by whether a name repeats in one of them
+by_name : (ps qs : Pairs) (m n : Nullability) → (no_repeats ps && no_repeats qs) ≡ true → columns_merged (struct (fields ps) m) (struct (fields qs) n) ≡ struct_with (merged_by_name (fields ps) (fields qs)) (further ps qs) (either m n)
+by_name ps qs m n e =
+    let test = ap (λ xs. no_repeats xs && no_repeats (pairs (fields qs))) (pairs_of ps) ∙ ap (λ xs. no_repeats ps && no_repeats xs) (pairs_of qs) ∙ e in
+    pick_true (no_repeats (pairs (fields ps)) && no_repeats (pairs (fields qs))) (struct_with (merged_by_name (fields ps) (fields qs)) (further (pairs (fields ps)) (pairs (fields qs))) (either m n)) (merged (struct (fields ps) m) (struct (fields qs) n)) test
+    ∙ ap (λ xs. struct_with (merged_by_name (fields ps) (fields qs)) (further xs (pairs (fields qs))) (either m n)) (pairs_of ps)
+    ∙ ap (λ xs. struct_with (merged_by_name (fields ps) (fields qs)) (further ps xs) (either m n)) (pairs_of qs)
+
+pub by_position : (ps qs : Pairs) (m n : Nullability) → (no_repeats ps && no_repeats qs) ≡ false → columns_merged (struct (fields ps) m) (struct (fields qs) n) ≡ merged (struct (fields ps) m) (struct (fields qs) n)
+by_position ps qs m n e =
+    let test = ap (λ xs. no_repeats xs && no_repeats (pairs (fields qs))) (pairs_of ps) ∙ ap (λ xs. no_repeats ps && no_repeats xs) (pairs_of qs) ∙ e in
+    pick_false (no_repeats (pairs (fields ps)) && no_repeats (pairs (fields qs))) (struct_with (merged_by_name (fields ps) (fields qs)) (further (pairs (fields ps)) (pairs (fields qs))) (either m n)) (merged (struct (fields ps) m) (struct (fields qs) n)) test
+
+-- the same of two types that are structs
+pub structs_by_name : (d e : DType) (x y : StructFields) (m n k : Nullability) (r : Result (Option DType) VortexError)
+    → d ≡ Struct x m → e ≡ Struct y n → (no_repeats (children x) && no_repeats (children y)) ≡ true → k ≡ either m n
+    → Makes r (λ o. option_map tree o ≡ struct_with (merged_by_name (fields_of x) (fields_of y)) (further (children x) (children y)) k)
+    → Makes r (λ o. option_map tree o ≡ columns_merged (tree d) (tree e))
+structs_by_name d e x y m n k r is_d is_e test joined made =
+    let left = ap tree is_d ∙ tree_struct x m in
+    let right = ap tree is_e ∙ tree_struct y n in
+    let all = ap (λ t. columns_merged t (tree e)) left ∙ ap (λ t. columns_merged (struct (fields_of x) m) t) right ∙ by_name (children x) (children y) m n test
+    ∙ ap (λ z. struct_with (merged_by_name (fields_of x) (fields_of y)) (further (children x) (children y)) z) (sym joined) in
+    subst (λ z. Makes r (λ o. option_map tree o ≡ z)) (sym all) made
+
+pub structs_by_position : (d e : DType) (x y : StructFields) (m n : Nullability) (r : Result (Option DType) VortexError)
+    → d ≡ Struct x m → e ≡ Struct y n → (no_repeats (children x) && no_repeats (children y)) ≡ false
+    → Makes r (λ o. option_map tree o ≡ merged (tree d) (tree e)) → Makes r (λ o. option_map tree o ≡ columns_merged (tree d) (tree e))
+structs_by_position d e x y m n r is_d is_e test made =
+    let left = ap tree is_d ∙ tree_struct x m in
+    let right = ap tree is_e ∙ tree_struct y n in
+    let all = ap (λ t. columns_merged t (tree e)) left ∙ ap (λ t. columns_merged (struct (fields_of x) m) t) right ∙ by_position (children x) (children y) m n test
+    ∙ sym (ap (λ t. merged t (tree e)) left ∙ ap (λ t. merged (struct (fields_of x) m) t) right) in
+    subst (λ z. Makes r (λ o. option_map tree o ≡ z)) (sym all) made
+
+-- ---- columns
+
+-- the columns with one more
+collected_more : (done more : List (List ℕ × FieldDType)) (n : List ℕ) (c : FieldDType) → more ≡ done ++ (n, c) ∷ [] → collected more ≡ collected done ++ (n, field_tree c) ∷ []
+collected_more done more n c e = ap collected e ∙ map-append _ done ((n, c) ∷ [])
+
+-- the fields that are left weigh no more
+pub lighter : (left rest : List (List ℕ × DType)) (n : List ℕ) (d : DType) (k : ℕ) → left ≡ (n, d) ∷ rest → weight_items (fields (with_trees left)) ≤ k → weight_items (fields (with_trees rest)) ≤ k
+lighter left rest n d k next within =
+    let all : weight_items (fields (with_trees left)) ≡ weight (tree d) + weight_items (fields (with_trees rest)) = ap (λ qs. weight_items (fields (with_trees qs))) next in
+    omega (arith, all, within)
+
+-- a column is merged, of the fields that are left
+pub merged_more : (ps : Pairs) (done more : List (List ℕ × FieldDType)) (left rest : List (List ℕ × DType)) (n : List ℕ) (d x : DType) (c : FieldDType) (o : Option Tree) (all : Option Pairs)
+    → option_map (λ qs. collected done ++ qs) (merged_by_name (fields (with_trees left)) (fields ps)) ≡ all → left ≡ (n, d) ∷ rest → o ≡ first_named ps n
+    → Some (tree x) ≡ column (tree d) (λ u. columns_merged (tree d) u) o → field_tree c ≡ tree x → more ≡ done ++ (n, c) ∷ []
+    → option_map (λ qs. collected more ++ qs) (merged_by_name (fields (with_trees rest)) (fields ps)) ≡ all
+merged_more ps done more left rest n d x c o all so_far next found made same put =
+    let rows = merged_by_name (fields (with_trees rest)) (fields ps) in
+    let col : Some (field_tree c) ≡ column (tree d) (λ u. columns_merged (tree d) u) (first_named (pairs (fields ps)) n)
+    = ap Some same ∙ made ∙ ap (λ z. column (tree d) (λ u. columns_merged (tree d) u) z) (found ∙ ap (λ z. first_named z n) (sym (pairs_of ps))) in
+    ap (λ z. option_map (λ qs. z ++ qs) rows) (collected_more done more n c put)
+    ∙ behind rows
+    ∙ ap (λ z. option_map (λ qs. collected done ++ qs) (prepend n z rows)) col
+    ∙ ap (λ z. option_map (λ qs. collected done ++ qs) (merged_by_name (fields (with_trees z)) (fields ps))) (sym next) ∙ so_far
+  where
+    behind : (z : Option Pairs) → option_map (λ qs. (collected done ++ (n, field_tree c) ∷ []) ++ qs) z ≡ option_map (λ qs. collected done ++ qs) (prepend n (Some (field_tree c)) z)
+    behind None = refl
+    behind (Some qs) = ap Some (append_assoc (collected done) ((n, field_tree c) ∷ []) qs)
+
+-- a column can't be merged, of the fields that are left
+pub merged_stops : (ps : Pairs) (done : List (List ℕ × FieldDType)) (left rest : List (List ℕ × DType)) (n : List ℕ) (d : DType) (o : Option Tree) (all : Option Pairs)
+    → option_map (λ qs. collected done ++ qs) (merged_by_name (fields (with_trees left)) (fields ps)) ≡ all → left ≡ (n, d) ∷ rest → o ≡ first_named ps n
+    → None ≡ column (tree d) (λ u. columns_merged (tree d) u) o → None ≡ all
+merged_stops ps done left rest n d o all so_far next found none =
+    let rows = merged_by_name (fields (with_trees rest)) (fields ps) in
+    let col : None ≡ column (tree d) (λ u. columns_merged (tree d) u) (first_named (pairs (fields ps)) n)
+    = none ∙ ap (λ z. column (tree d) (λ u. columns_merged (tree d) u) z) (found ∙ ap (λ z. first_named z n) (sym (pairs_of ps))) in
+    ap (λ z. option_map (λ qs. collected done ++ qs) (prepend n z rows)) col ∙ ap (λ z. option_map (λ qs. collected done ++ qs) (merged_by_name (fields (with_trees z)) (fields ps))) (sym next) ∙ so_far

@@ -1,0 +1,68 @@
+-- SPDX-License-Identifier: Apache-2.0
+-- SPDX-FileCopyrightText: Copyright the Vortex contributors
+
+-- The first conflict of two structs, and of the fields that a loop has left.
+use Rattle.std.proofs.Common.{◌≡◌, ◌∙◌, ◌&&◌, ℕ, List, ◌∷◌, true, false, Option, Some, None, option_and_then, sym, ap}
+use Rattle.std.specs.Option.{option_map}
+use Rattle.dtype_base.specs.declared.nullability.Nullability.{Nullability}
+use Rattle.dtype_types.specs.declared.dtype.DType.{DType, Struct}
+use Rattle.dtype_types.specs.declared.struct_fields.StructFields.{StructFields}
+use Rattle.dtype_types.specs.nullability.Merged.{merged}
+use Rattle.dtype_types.specs.parts.Lookups.{first_named}
+use Rattle.dtype_types.specs.tree.Tree.{Tree, fields, pairs, struct}
+use Rattle.dtype_types.specs.tree.TreeOf.{children, fields_of, tree, with_trees}
+use Rattle.dtype_types.proofs.lemmas.TreeLaws.{pairs_of, tree_struct}
+use Rattle.dtype_paths.specs.declared.field.Field.{Field}
+use Rattle.dtype_paths.specs.declared.field.Field.TheVariants.{Name}
+use Rattle.dtype_merging.specs.Conflicts.{fields_conflict, first_conflict, first_of, root_unless}
+use Rattle.dtype_merging.specs.MergedColumns.{columns_merged, no_repeats}
+use Rattle.dtype_merging.proofs.Collecting.{by_position}
+use Rattle.dtype_merging.proofs.lemmas.Finding.{Pairs}
+use Rattle.dtype_merging.proofs.lemmas.Merging.{pick_false, pick_true}
+
+-- ---- two types that are structs
+
+-- in which no name repeats
+pub structs_visited : (d e : DType) (x y : StructFields) (m n : Nullability) → d ≡ Struct x m → e ≡ Struct y n → (no_repeats (children x) && no_repeats (children y)) ≡ true
+    → first_conflict (tree d) (tree e) ≡ fields_conflict (fields_of x) (fields_of y)
+structs_visited d e x y m n is_d is_e test =
+    let named = ap (λ xs. no_repeats xs && no_repeats (pairs (fields_of y))) (pairs_of (children x)) ∙ ap (λ xs. no_repeats (children x) && no_repeats xs) (pairs_of (children y)) ∙ test in
+    ap (λ t. first_conflict t (tree e)) (ap tree is_d ∙ tree_struct x m) ∙ ap (λ t. first_conflict (struct (fields_of x) m) t) (ap tree is_e ∙ tree_struct y n)
+    ∙ pick_true (no_repeats (pairs (fields_of x)) && no_repeats (pairs (fields_of y))) (fields_conflict (fields_of x) (fields_of y)) (root_unless (merged (struct (fields_of x) m) (struct (fields_of y) n))) named
+
+-- in one of which a name repeats
+pub structs_whole : (d e : DType) (x y : StructFields) (m n : Nullability) → d ≡ Struct x m → e ≡ Struct y n → (no_repeats (children x) && no_repeats (children y)) ≡ false
+    → first_conflict (tree d) (tree e) ≡ root_unless (columns_merged (tree d) (tree e))
+structs_whole d e x y m n is_d is_e test =
+    let named = ap (λ xs. no_repeats xs && no_repeats (pairs (fields_of y))) (pairs_of (children x)) ∙ ap (λ xs. no_repeats (children x) && no_repeats xs) (pairs_of (children y)) ∙ test in
+    let left = ap tree is_d ∙ tree_struct x m in
+    let right = ap tree is_e ∙ tree_struct y n in
+    ap (λ t. first_conflict t (tree e)) left ∙ ap (λ t. first_conflict (struct (fields_of x) m) t) right
+    ∙ pick_false (no_repeats (pairs (fields_of x)) && no_repeats (pairs (fields_of y))) (fields_conflict (fields_of x) (fields_of y)) (root_unless (merged (struct (fields_of x) m) (struct (fields_of y) n))) named
+    ∙ ap root_unless (sym (by_position (children x) (children y) m n test)) ∙ sym (ap (λ t. root_unless (columns_merged t (tree e))) left ∙ ap (λ t. root_unless (columns_merged (struct (fields_of x) m) t)) right)
+
+-- ---- the fields that are left
+
+-- of a field and those behind it
+one_visited : (ps : Pairs) (left rest : List (List ℕ × DType)) (n : List ℕ) (d : DType) (o : Option Tree) → left ≡ (n, d) ∷ rest → o ≡ first_named ps n
+    → fields_conflict (fields (with_trees left)) (fields ps) ≡ first_of (option_map (λ p. Name n ∷ p) (option_and_then (λ u. first_conflict (tree d) u) o)) (fields_conflict (fields (with_trees rest)) (fields ps))
+one_visited ps left rest n d o next found =
+    ap (λ z. fields_conflict (fields (with_trees z)) (fields ps)) next
+    ∙ ap (λ z. first_of (option_map (λ p. Name n ∷ p) (option_and_then (λ u. first_conflict (tree d) u) z)) (fields_conflict (fields (with_trees rest)) (fields ps))) (ap (λ z. first_named z n) (pairs_of ps) ∙ sym found)
+
+-- a field with a conflict
+pub conflict_found : (ps : Pairs) (left rest : List (List ℕ × DType)) (n : List ℕ) (d : DType) (u : Tree) (q : List Field) (all : Option (List Field))
+    → fields_conflict (fields (with_trees left)) (fields ps) ≡ all → left ≡ (n, d) ∷ rest → Some u ≡ first_named ps n → Some q ≡ first_conflict (tree d) u → Some (Name n ∷ q) ≡ all
+conflict_found ps left rest n d u q all so_far next found some =
+    ap (λ z. first_of (option_map (λ p. Name n ∷ p) z) (fields_conflict (fields (with_trees rest)) (fields ps))) some ∙ sym (one_visited ps left rest n d (Some u) next found) ∙ so_far
+
+-- a field without one
+pub conflict_later : (ps : Pairs) (left rest : List (List ℕ × DType)) (n : List ℕ) (d : DType) (u : Tree) (all : Option (List Field))
+    → fields_conflict (fields (with_trees left)) (fields ps) ≡ all → left ≡ (n, d) ∷ rest → Some u ≡ first_named ps n → None ≡ first_conflict (tree d) u → fields_conflict (fields (with_trees rest)) (fields ps) ≡ all
+conflict_later ps left rest n d u all so_far next found none =
+    ap (λ z. first_of (option_map (λ p. Name n ∷ p) z) (fields_conflict (fields (with_trees rest)) (fields ps))) none ∙ sym (one_visited ps left rest n d (Some u) next found) ∙ so_far
+
+-- a field that the other struct lacks
+pub conflict_beside : (ps : Pairs) (left rest : List (List ℕ × DType)) (n : List ℕ) (d : DType) (all : Option (List Field))
+    → fields_conflict (fields (with_trees left)) (fields ps) ≡ all → left ≡ (n, d) ∷ rest → None ≡ first_named ps n → fields_conflict (fields (with_trees rest)) (fields ps) ≡ all
+conflict_beside ps left rest n d all so_far next lacks = sym (one_visited ps left rest n d None next lacks) ∙ so_far

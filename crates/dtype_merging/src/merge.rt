@@ -1,0 +1,225 @@
+// SPDX-License-Identifier: Apache-2.0
+// SPDX-FileCopyrightText: Copyright the Vortex contributors
+
+ghost use Rattle.std.specs.Prelude.{◌≡◌, ◌&&◌, ◌++◌, IfNone, IfOk, IfSome};
+ghost use Rattle.std.specs.Option.{option_map};
+ghost use Rattle.dtype_base.specs.Errors.{Makes};
+ghost use Rattle.dtype_types.specs.tree.TreeOf.{children, extension_tree, fields_of, map_shown, shown, tree};
+ghost use Rattle.dtype_types.specs.tree.Valid.{Valid};
+ghost use Rattle.dtype_types.specs.values.Value.{Of, Value};
+ghost use Rattle.dtype_merging.specs.Filled.{filled};
+ghost use Rattle.dtype_merging.specs.MergedColumns.{column, columns_merged, further, merged_by_name, no_repeats, struct_with};
+ghost use Rattle.dtype_merging.specs.ReadsAs.{HaveNoReader, IsLeastReader};
+ghost use Rattle.dtype_merging.specs.private.Collected.{collected, maps_merged};
+
+use dtype_base::{FieldName, Nullability, VortexResult};
+use dtype_types::{DType, ExtDTypeRef, FieldDType, MapDType, StructFields, merge_nullability};
+use std::alloc::Global;
+
+/// Returns the least type as which both types can be read, or `None` if there is none. A program that reads several
+/// files as one table needs this type if the files have different columns.
+///
+/// The rules are:
+/// - A struct has the fields of the first in their order, and then those of the second that the first lacks. A field
+///   that both have is merged by these rules. A field that one of the two lacks is nullable.
+/// - Lists, fixed-size lists of the same size, maps with the same flag, and extensions with the same id and the same
+///   metadata are merged by their parts. Maps whose merged key type would be nullable can't be merged.
+/// - All other types are merged as `merge_nullability` merges them. So are structs in which a name repeats, because
+///   their columns can't be told apart by name.
+/// - In each place, at every depth, the merged type is nullable if one of the two types is nullable there.
+///
+/// For example, merging `{a=i32, b=utf8}` and `{c=u8, a=i32?}` returns `{a=i32?, b=utf8?, c=u8?}`. Merging `{a=i32}` and
+/// `{a=utf8}` returns `None`, and `merge_conflict` returns the path `a` and the two types there.
+///
+/// The Rust library has no such call.
+///
+/// The call looks each name of a struct up twice: in the struct itself, to find out whether a name repeats, and in the
+/// other struct. Apart from these lookups, its time grows with the sizes of the two types. It copies the types of fields
+/// that only one of the two has, and these copies share their fields with the originals.
+///
+/// # Errors
+///
+/// - `OutOfMemory` (0): an allocation fails, or a reference count is at its maximum.
+#[tactic(auto, using(crate::proofs::lemmas::MergeLaws::returned))]
+pub fn merge_columns(alloc: Global, a: &DType, b: &DType) -> VortexResult<Option<DType>>
+    ensures ok { Makes result (λ r. option_map tree r ≡ columns_merged (tree a.now) (tree b.now)) }
+    ensures least { IfOk result (λ r. IfSome r (λ c. IsLeastReader (tree a.now) (tree b.now) (tree c))) }
+    ensures none { IfOk result (λ r. IfNone r (HaveNoReader (tree a.now) (tree b.now))) }
+    ensures values { IfOk result (λ r. IfSome r (λ c.
+        ((v : Value) → Of v (tree a.now) → Of (filled (tree a.now) (tree c) v) (tree c))
+        × ((v : Value) → Of v (tree b.now) → Of (filled (tree b.now) (tree c) v) (tree c)))) }
+    ensures valid { Valid (tree a.now) → Valid (tree b.now) → IfOk result (λ r. IfSome r (λ c. Valid (tree c))) }
+{
+    Ok(merge(alloc, a, b)?)
+}
+
+// Returns the merged type, or `None` if there is none.
+#[cycle(merging)]
+fn merge(alloc: Global, a: &DType, b: &DType) -> VortexResult<Option<DType>>
+    ensures { Makes result (λ r. option_map tree r ≡ columns_merged (tree a.now) (tree b.now)) }
+{
+    match (a, b) {
+        (DType::List(t, m), DType::List(u, n)) => match merge(alloc, t, u)? {
+            Some(element) => Ok(Some(DType::list(alloc, element, *m | *n)?)),
+            None => Ok(None),
+        },
+        (DType::FixedSizeList(t, j, m), DType::FixedSizeList(u, k, n)) => {
+            if *j != *k {
+                return Ok(None);
+            }
+            match merge(alloc, t, u)? {
+                Some(element) => Ok(Some(DType::fixed_size_list(alloc, element, *j, *m | *n)?)),
+                None => Ok(None),
+            }
+        }
+        (DType::Map(t, m), DType::Map(u, n)) => merge_maps(alloc, t, u, *m | *n),
+        (DType::Struct(fields, m), DType::Struct(others, n)) => {
+            if have_no_repeats(fields, others) {
+                merge_structs(alloc, fields, others, *m | *n)
+            } else {
+                merge_nullability(alloc, a, b)
+            }
+        }
+        (DType::Extension(t), DType::Extension(u)) => merge_extensions(alloc, t, u),
+        _ => merge_nullability(alloc, a, b),
+    }
+}
+
+// Returns the merged type of two maps. Its outer nullability is `n`.
+#[cycle(merging)]
+fn merge_maps(
+    alloc: Global,
+    a: &MapDType,
+    b: &MapDType,
+    n: Nullability,
+) -> VortexResult<Option<DType>>
+    ensures { Makes result (λ r. option_map tree r ≡ maps_merged (map_shown a.now) (map_shown b.now) n) }
+{
+    let keys_sorted = a.keys_sorted();
+    if keys_sorted != b.keys_sorted() {
+        return Ok(None);
+    }
+    let Some(key) = merge(alloc, a.key_dtype(), b.key_dtype())? else {
+        return Ok(None);
+    };
+    if key.is_nullable() {
+        return Ok(None);
+    }
+    match merge(alloc, a.value_dtype(), b.value_dtype())? {
+        Some(value) => Ok(Some(DType::map(alloc, key, value, keys_sorted, n)?)),
+        None => Ok(None),
+    }
+}
+
+// Returns the merged type of two extensions.
+#[cycle(merging)]
+fn merge_extensions(alloc: Global, a: &ExtDTypeRef, b: &ExtDTypeRef) -> VortexResult<Option<DType>>
+    ensures { Makes result (λ r. option_map tree r ≡ columns_merged (extension_tree a.now) (extension_tree b.now)) }
+{
+    if a.id() != b.id() || a.metadata_bytes() != b.metadata_bytes() {
+        return Ok(None);
+    }
+    match merge(alloc, a.storage_dtype(), b.storage_dtype())? {
+        Some(storage) => {
+            let id = a.id().try_clone(alloc)?;
+            let metadata = a.serialize_metadata(alloc)?;
+            let extension = ExtDTypeRef::from_parts(alloc, id, metadata, storage)?;
+            Ok(Some(DType::Extension(extension)))
+        }
+        None => Ok(None),
+    }
+}
+
+// Returns the merged type of two structs in which no name repeats. Its outer nullability is `n`.
+#[cycle(merging)]
+fn merge_structs(
+    alloc: Global,
+    a: &StructFields,
+    b: &StructFields,
+    n: Nullability,
+) -> VortexResult<Option<DType>>
+    ensures { Makes result (λ r. option_map tree r
+        ≡ struct_with (merged_by_name (fields_of a.now) (fields_of b.now)) (further (children a.now) (children b.now)) n) }
+{
+    match merge_by_name(alloc, a, b)? {
+        Some(columns) => {
+            let columns = with_further(alloc, columns, a, b)?;
+            Ok(Some(DType::Struct(StructFields::from_iter(alloc, columns)?, n)))
+        }
+        None => Ok(None),
+    }
+}
+
+// Returns the fields of the first, each merged with the field of its name in the second. Returns `None` if two such
+// fields can't be merged.
+#[cycle(merging)]
+fn merge_by_name(
+    alloc: Global,
+    a: &StructFields,
+    b: &StructFields,
+) -> VortexResult<Option<Vec<(FieldName, FieldDType)>>>
+    ensures { Makes result (λ r. option_map (λ v. collected v.items) r ≡ merged_by_name (fields_of a.now) (fields_of b.now)) }
+{
+    let mut columns = Vec::with_capacity(alloc, a.nfields())?;
+    for (name, dtype) in a.pairs() {
+        match merge_column(alloc, dtype, b.field(name.as_str()))? {
+            Some(column) => columns.push((name.try_clone(alloc)?, FieldDType::from(column)))?,
+            None => return Ok(None),
+        }
+    }
+    Ok(Some(columns))
+}
+
+// Returns the type of a column whose type in the other struct is `other`, or which the other struct lacks.
+#[cycle(merging)]
+fn merge_column(alloc: Global, dtype: &DType, other: Option<&DType>) -> VortexResult<Option<DType>>
+    ensures { Makes result (λ r. option_map tree r
+        ≡ column (tree dtype.now) (λ u. columns_merged (tree dtype.now) u) (shown tree other.entry)) }
+{
+    match other {
+        Some(other) => merge(alloc, dtype, other),
+        None => Ok(Some(dtype.as_nullable(alloc)?)),
+    }
+}
+
+// Returns these columns followed by the fields of the second struct that the first lacks, made nullable.
+fn with_further(
+    alloc: Global,
+    columns: Vec<(FieldName, FieldDType)>,
+    a: &StructFields,
+    b: &StructFields,
+) -> VortexResult<Vec<(FieldName, FieldDType)>>
+    ensures { Makes result (λ v. collected v.items ≡ collected columns.items ++ further (children a.now) (children b.now)) }
+{
+    let mut columns = columns;
+    for (name, dtype) in b.pairs() {
+        if a.field(name.as_str()).is_none() {
+            let column = FieldDType::from(dtype.as_nullable(alloc)?);
+            columns.push((name.try_clone(alloc)?, column))?;
+        }
+    }
+    Ok(columns)
+}
+
+// Returns whether no name repeats in either of the two.
+pub(crate) fn have_no_repeats(one: &StructFields, other: &StructFields) -> bool
+    ensures { result ≡ (no_repeats (children one.now) && no_repeats (children other.now)) }
+{
+    has_no_repeats(one) && has_no_repeats(other)
+}
+
+// Returns whether no two of the fields have the same name.
+#[tactic(auto, using(crate::proofs::lemmas::Repeats::first_more, crate::proofs::lemmas::Repeats::all_are_first, crate::proofs::lemmas::Repeats::not_first, std::proofs::lemmas::Option::slice_get_read))]
+fn has_no_repeats(fields: &StructFields) -> bool
+    ensures { result ≡ no_repeats (children fields.now) }
+{
+    for (i, name) in fields.names().as_slice().iter().enumerate() {
+        let Some(first) = fields.find(name.as_str()) else {
+            return false;
+        };
+        if first != i {
+            return false;
+        }
+    }
+    true
+}

@@ -25,3 +25,4 @@ pub mod Zipped
 pub mod Smaller
 pub mod Collected
 pub mod Unions
+pub mod Unfound

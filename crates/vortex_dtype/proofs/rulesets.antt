@@ -4,7 +4,8 @@
 -- The rulesets from which a caller chooses, one for each topic. A line at the top of a file names those that its contracts
 -- need, and `#[tactic(..)]` names those of one function:
 --     #![tactic(auto, using(vortex_dtype::proofs::rulesets::lookups, vortex_dtype::proofs::rulesets::structs))]
--- Smaller parts of large rulesets, and single lemmas, are in `parts`. The lemmas of each topic are proved in the crate whose
+-- First come those for a topic each, then smaller rulesets and single lemmas: a search among few lemmas goes further, so one
+-- of these proves some functions for which the whole ruleset of a topic doesn't. The lemmas are proved in the crate whose
 -- definitions they are about.
 
 -- of dtype_base: primitive and decimal types
@@ -16,24 +17,56 @@ pub use Rattle.dtype_types.proofs.lemmas.MadeOf.{made_of}
 pub use Rattle.dtype_types.proofs.lemmas.NullValues.{null_values}
 pub use Rattle.dtype_types.proofs.lemmas.Order.{order}
 pub use Rattle.dtype_types.proofs.lemmas.Validity.{validity}
--- of dtype_paths and dtype_projection: path sets and how many paths they have, sets, paths and masks that are stepped
+-- of dtype_paths and dtype_projection: path sets, how many paths they have and how two are related, sets, paths and masks that are stepped
 -- along (one step of a type too), the paths that a type lacks, and types that are projected
 pub use Rattle.dtype_paths.proofs.lemmas.Covering.{count_bounds, counting, covering, members}
 pub use Rattle.dtype_paths.proofs.lemmas.LentPaths.{lent_paths}
 pub use Rattle.dtype_paths.proofs.lemmas.MaskLists.{mask_lists}
 pub use Rattle.dtype_paths.proofs.lemmas.PathsBelow.{set_cursors, walked_cursors}
+pub use Rattle.dtype_paths.proofs.lemmas.SetRelations.{set_relations}
 pub use Rattle.dtype_paths.proofs.lemmas.Stepping.{stepped_masks, stepping, types_along}
 pub use Rattle.dtype_paths.proofs.lemmas.Unresolved.{unresolved_paths}
 pub use Rattle.dtype_projection.proofs.lemmas.Projecting.{projecting, projecting_one}
 -- of vortex_dtype: sessions; and what callers of the crates below need and their own proofs don't: names that are among
--- the names of fields, also each of many, fields that a contract names one after another, and counts
+-- the names of fields, also each of many, fields that a contract names one after another, counts, and values at a path at
+-- which there is no type
 pub use Rattle.vortex_dtype.proofs.lemmas.Sessions.{sessions}
 pub use Rattle.vortex_dtype.proofs.lemmas.NamesAmong.{among}
 pub use Rattle.vortex_dtype.proofs.lemmas.EachAmong.{each_among}
 pub use Rattle.vortex_dtype.proofs.lemmas.FieldLists.{listed_fields}
 pub use Rattle.vortex_dtype.proofs.lemmas.Counted.{counted}
+pub use Rattle.vortex_dtype.proofs.lemmas.Unfound.{unfound_values}
+-- ---- smaller rulesets, and single lemmas
+-- sets of paths: parts of `covering`, `members` and `counting`
+pub use Rattle.dtype_paths.proofs.lemmas.Covering.{collected_paths, covered_paths, covers_members, has_members, inserted_paths, least_paths, made_coverage, opened_counts, opened_paths, set_unions, united_coverage}
+-- cursors, paths of one name, and single steps
+pub use Rattle.dtype_paths.proofs.lemmas.PathsBelow.{stepping_into}
+pub use Rattle.dtype_paths.proofs.lemmas.Stepping.{one_column}
+pub use Rattle.dtype_paths.proofs.lemmas.Steps.{one_step}
+-- two lists side by side
+pub use Rattle.vortex_dtype.proofs.lemmas.Zipped.{zipped}
+-- what a loop has collected in a list, and loops that go from a type to a part of it
+pub use Rattle.vortex_dtype.proofs.lemmas.Collected.{collected}
+pub use Rattle.vortex_dtype.proofs.lemmas.Smaller.{smaller_parts}
+-- the ids of a session, each of many
+pub use Rattle.vortex_dtype.proofs.lemmas.EachRegistered.{each_registered}
+-- several types that a loop merges
+pub use Rattle.vortex_dtype.proofs.lemmas.MergedAll.{merging_all}
+-- a type and a cursor that are stepped together, and its lemmas one by one, for answers that a caller writes
+pub use Rattle.dtype_projection.proofs.lemmas.Descending.{descending, opened_after, opened_nowhere, opened_uncontained}
+-- single lemmas, each for the line of one function: the set of paths that a loop has collected, and how many names a lookup
+-- compares
+pub use Rattle.dtype_base.proofs.lemmas.Lookups.{few_compared}
+pub use Rattle.dtype_paths.proofs.lemmas.Covering.{of_push}
+-- the variants of a type that is a union, and that a tag is at one position
+pub use Rattle.vortex_dtype.proofs.lemmas.Unions.{tag_at_one, union_listed}
+-- a union in the other order: beside `covering` a search would turn it back and forth
+pub use Rattle.dtype_paths.proofs.lemmas.Covering.{union_swap}
+-- types that are subsets of each other are equal: beside `order` a search would go from `Sub` to `Sub`
+pub use Rattle.dtype_types.proofs.lemmas.Order.{sub_antisymmetric}
+-- ---- what the rulesets below are made of
 use Rattle.dtype_base.proofs.lemmas.BinaryDigits.{digits_fewest, digits_reach}
-use Rattle.dtype_base.proofs.lemmas.Lookups.{lookups as name_lookups, few_compared, found_compared, most_compared}
+use Rattle.dtype_base.proofs.lemmas.Lookups.{lookups as name_lookups, found_compared, most_compared, absent_of_place, first_of_place, found_first, no_place, none_absent, place_found, place_of_first}
 use Rattle.dtype_messages.proofs.lemmas.Equality.{equality as message_equality, dtype_Decides}
 use Rattle.dtype_messages.proofs.lemmas.Names.{names}
 use Rattle.dtype_messages.proofs.lemmas.Numbers.{numbers}
@@ -43,14 +76,17 @@ use Rattle.dtype_types.proofs.lemmas.DistinctFields.{distinct_fields as fields_d
 use Rattle.dtype_types.proofs.lemmas.Equality.{equality as type_equality}
 use Rattle.dtype_types.proofs.lemmas.Lookups.{lookups as field_lookups}
 use Rattle.dtype_types.proofs.lemmas.Merging.{intersecting as types_intersected, merging as types_merged}
-use Rattle.dtype_types.proofs.lemmas.Nullabilities.{nullabilities as nullabilities_set}
+use Rattle.dtype_types.proofs.lemmas.Nullabilities.{nullabilities as nullabilities_set, set_is, set_keeps}
 use Rattle.dtype_types.proofs.lemmas.Presence.{presence as names_present, placed_is_among}
 use Rattle.dtype_types.proofs.lemmas.Structs.{structs as fields_of_structs}
 use Rattle.dtype_types.proofs.lemmas.Tags.{tags as union_tags}
-use Rattle.dtype_types.proofs.lemmas.Validity.{set_valid}
+use Rattle.dtype_types.proofs.lemmas.ValidParts.{struct_fields_valid, valid_parts, borrowed_list_element, borrowed_fixed_size_element, borrowed_any_size_element, owned_list_element, owned_fixed_size_element, owned_any_size_element, borrowed_map, owned_map, borrowed_struct, owned_struct, borrowed_union, owned_union, extension_is_valid, borrowed_extension}
+use Rattle.dtype_types.proofs.lemmas.Validity.{set_valid, types_in_valid_parts, list_of_valid, fixed_size_list_of_valid, map_of_valid, struct_valid, union_valid, map_valid, extension_valid, field_valid, named_field_valid, variant_valid, named_variant_valid, struct_of_valid, removal_valid, made_map_valid}
 use Rattle.vortex_dtype.proofs.lemmas.AddedColumns.{named_last, projects_one, unplaced_unnamed}
+use Rattle.vortex_dtype.proofs.lemmas.Collected.{each_pushed, more_taken, moved}
 use Rattle.vortex_dtype.proofs.lemmas.Compared.{compared_up_to, compared_within}
 use Rattle.vortex_dtype.proofs.lemmas.Differences.{differences}
+use Rattle.vortex_dtype.proofs.lemmas.FieldLists.{valid_fields}
 use Rattle.vortex_dtype.proofs.lemmas.InOrder.{read_reads, reads_once, reads_read}
 use Rattle.vortex_dtype.proofs.lemmas.Intersected.{given_values_of_both, values_of_both}
 use Rattle.vortex_dtype.proofs.lemmas.NamesAmong.{among_before, among_behind, distinct_removed, few_variants, removed_not_among, some_variants, tag_at_is_among, unnamed_not_among, unplaced_not_among}
@@ -60,7 +96,6 @@ use Rattle.vortex_dtype.proofs.lemmas.Reading.{reading}
 use Rattle.vortex_dtype.proofs.lemmas.Reads.{copy_accepted, fault_none, fault_refused, normal_again, other_nullability, read_alike, reads_accepted, refused_faulty, same_normal, unread_refused, written_accepted, written_normal, written_read}
 use Rattle.vortex_dtype.proofs.lemmas.Registered.{keeps_nothing, keeps_other, keeps_registered, keeps_unknown, keeps_unless_unknown}
 use Rattle.vortex_dtype.proofs.lemmas.Sessions.{admits-set_null, admits_allow_unknown_in, admits_extension, admits_field, admits_fields_appended, admits_more, admits_one_more, flag_allow_unknown_in, flag_register_in, kept_allow_unknown_in, keeps_again, keeps_outer, others_register_in, registered_allow_unknown_in, registered_before, registered_empty_meaning, registered_register_in, unknown_empty_meaning, unknown_kept_after_allowing, unknown_register_in, unrefused, unregistered_allow_unknown_in}
-use Rattle.vortex_dtype.proofs.lemmas.Unions.{tag_at_one, union_listed}
 use Rattle.vortex_dtype.proofs.lemmas.Widened.{merged_nullable}
 use Rattle.vortex_dtype.proofs.lemmas.Written.{written_is}
 
@@ -119,3 +154,32 @@ pub ruleset registrations = (registered_register_in, others_register_in, registe
 pub ruleset keeping = (keeps_registered, keeps_other, keeps_nothing, keeps_unknown, keeps_unless_unknown, kept_allow_unknown_in, keeps_again, keeps_outer, unrefused)
 
 pub ruleset admitting = (admits_allow_unknown_in, admits_one_more, admits_more, admits_fields_appended, admits_field, admits_extension, admits-set_null)
+
+-- ---- smaller rulesets
+
+-- what is found, and where
+pub ruleset found_names = (place_of_first, no_place, place_found, first_of_place, absent_of_place, found_first, none_absent, field_lookups)
+
+-- `==` of types and of their parts
+pub ruleset equal_types = (type_equality)
+
+-- `==` of messages
+pub ruleset equal_messages = (message_equality)
+
+-- `!=` of types and of messages
+pub ruleset unequal = (differences)
+
+-- what is borrowed from a valid type
+pub ruleset valid_held = (valid_parts, borrowed_list_element, borrowed_fixed_size_element, borrowed_any_size_element, borrowed_map, borrowed_struct, borrowed_union, borrowed_extension, extension_is_valid)
+
+-- what is moved out of a valid type
+pub ruleset valid_moved = (owned_list_element, owned_fixed_size_element, owned_any_size_element, owned_map, owned_struct, owned_union)
+
+-- the types of the fields and variants of a valid type
+pub ruleset valid_columns = (types_in_valid_parts, struct_fields_valid, borrowed_struct, field_valid, named_field_valid, variant_valid, named_variant_valid)
+
+-- what is made of valid types
+pub ruleset valid_made = (list_of_valid, fixed_size_list_of_valid, map_of_valid, struct_valid, union_valid, map_valid, extension_valid, struct_of_valid, removal_valid, set_valid, made_map_valid, valid_fields)
+
+-- the types that a loop has collected, each with a nullability that was set
+pub ruleset set_collected = (set_is, set_keeps, each_pushed, more_taken, moved)

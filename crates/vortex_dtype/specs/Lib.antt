@@ -69,12 +69,17 @@ pub use Rattle.dtype_paths.specs.Cursors
 pub use Rattle.dtype_paths.specs.PathPredicates
 pub use Rattle.dtype_paths.specs.PathOrder
 pub use Rattle.dtype_types.specs.nullability.Merged
+pub use Rattle.dtype_merging.specs.Conflicts
+pub use Rattle.dtype_merging.specs.Filled
+pub use Rattle.dtype_merging.specs.MergedColumns
+pub use Rattle.dtype_merging.specs.ReadsAs
 pub use Rattle.dtype_projection.specs.IsPart
 pub use Rattle.dtype_projection.specs.Projected
 pub use Rattle.dtype_projection.specs.Restricted
 pub use Rattle.dtype_base.specs.Distinct
 pub use Rattle.dtype_types.specs.parts.FieldTypes
 pub use Rattle.dtype_paths.specs.PathOrderLaws
+pub use Rattle.dtype_paths.specs.SetEquality
 pub use Rattle.dtype_paths.specs.Texts as PathTexts
 pub use Rattle.dtype_messages.specs.Message
 pub use Rattle.dtype_messages.specs.MessageOf

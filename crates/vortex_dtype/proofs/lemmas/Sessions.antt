@@ -29,6 +29,11 @@ pub registered_register_in : (m n : Meaning) (i : List ℕ) (r : Rewrites) → n
 unfolding register_in
 registered_register_in m n i r e = grind (arith, e, (bytes_eq-Decides i i).1 refl)
 
+-- the same of an id and of a plugin's meaning that a caller has in other words. (Each of the two is an equation, so that a
+-- search takes the lemma at any id.)
+pub registered_as : (m n : Meaning) (i id : List ℕ) (r q : Rewrites) → n ≡ register_in i r m → i ≡ id → r ≡ q → n.registered id ≡ Some q
+registered_as m n i id r q e f g = subst (λ x. n.registered x ≡ Some q) f (registered_register_in m n i r e ∙ ap Some g)
+
 pub others_register_in : (m n : Meaning) (i id : List ℕ) (r : Rewrites) → n ≡ register_in i r m → i ≢ id → n.registered id ≡ m.registered id
 unfolding register_in
 others_register_in m n i id r e other = grind (arith, e, other, bytes_eq-Decides i id)
@@ -167,7 +172,7 @@ unrefused m id b s e is h = grind arith
 
 -- What calls of a session change and leave alone, what it keeps and what it admits: for callers' proofs. It is all of the
 -- topic, since what is kept follows from what is registered; the address of all rulesets has it by question too.
-pub ruleset sessions = (registered_register_in, others_register_in, registered_before, unknown_register_in, flag_register_in, registered_allow_unknown_in, unknown_kept_after_allowing, flag_allow_unknown_in, registered_empty_meaning, unregistered_allow_unknown_in, unknown_empty_meaning, admits_allow_unknown_in, kept_allow_unknown_in, admits_one_more, admits_more, admits_fields_appended, admits_field, admits_extension, keeps_again, keeps_outer, unrefused)
+pub ruleset sessions = (registered_register_in, registered_as, others_register_in, registered_before, unknown_register_in, flag_register_in, registered_allow_unknown_in, unknown_kept_after_allowing, flag_allow_unknown_in, registered_empty_meaning, unregistered_allow_unknown_in, unknown_empty_meaning, admits_allow_unknown_in, kept_allow_unknown_in, admits_one_more, admits_more, admits_fields_appended, admits_field, admits_extension, keeps_again, keeps_outer, unrefused)
 
 -- What is registered and allowed after any calls, and what is admitted whatever the outer nullability: for the laws.
 pub ruleset session_laws = (after-last, after-left_alone, after-unknown, admits-set_null)

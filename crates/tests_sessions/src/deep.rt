@@ -3,7 +3,7 @@
 
 // Messages of types and extensions 200 deep, deeper than a command of the console accepts.
 use crate::sessions::tagging;
-use fixtures_plugins::{byte, extension, list, nothing, tagged};
+use fixtures_plugins::{byte, extension, list};
 use std::alloc::Global;
 use std::test::Fail;
 use vortex_dtype::{DType, DTypeProto, DTypeSession, VortexResult, pb};
@@ -40,17 +40,6 @@ fn deep_extension(alloc: Global, metadata: &[u8]) -> VortexResult<pb::DType> {
     Ok(proto)
 }
 
-// Whether reading the message returns the error of this number.
-fn is_refused(
-    alloc: Global,
-    session: &DTypeSession,
-    proto: &pb::DType,
-    number: u8,
-) -> VortexResult<bool> {
-    let read = DType::from_proto(alloc, proto, session);
-    Ok(read.is_err_and(|refused| refused.number() == number))
-}
-
 #[test]
 fn lists_are_kept_200_deep(rt: HostRuntime) -> Result<(), Fail> {
     let alloc = rt.alloc();
@@ -65,16 +54,5 @@ fn extensions_are_rewritten_200_deep(rt: HostRuntime) -> Result<(), Fail> {
     let proto = deep_extension(alloc, b"AB")?;
     let normal = deep_extension(alloc, b"ab")?;
     assert!(rt; is_rewritten(alloc, &tagging(alloc)?, &proto, &normal)?);
-    Ok(())
-}
-
-#[test]
-fn a_fault_is_found_200_deep(rt: HostRuntime) -> Result<(), Fail> {
-    let alloc = rt.alloc();
-    let session = tagging(alloc)?;
-    let missing = deep_list(alloc, nothing())?;
-    assert!(rt; is_refused(alloc, &session, &missing, 24)?);
-    let refused = deep_list(alloc, tagged(alloc, "x.tag", Some(b"a!"))?)?;
-    assert!(rt; is_refused(alloc, &session, &refused, 22)?);
     Ok(())
 }

@@ -2,7 +2,7 @@
 // SPDX-FileCopyrightText: Copyright the Vortex contributors
 
 // Sessions, plugins and typed extensions.
-use fixtures_plugins::{Tag, TagName, TextAlone, Word};
+use fixtures_plugins::{Tag, TagName, TextAlone};
 use fixtures_values::is_printed;
 use std::alloc::Global;
 use std::fmt::Debug;
@@ -26,34 +26,6 @@ pub(crate) fn tagging(alloc: Global) -> VortexResult<DTypeSession> {
 fn erased(alloc: Global, id: &str, metadata: &[u8], storage: DType) -> VortexResult<ExtDTypeRef> {
     let metadata = Vec::from_slice(alloc, metadata)?;
     ExtDTypeRef::from_parts(alloc, ExtId::new(alloc, id)?, metadata, storage)
-}
-
-// Whether the downcast returns the error of this number, and hands back an equal extension.
-fn is_handed_back<V: ExtVTable + Drop>(
-    alloc: Global,
-    vtable: V,
-    handed_in: &ExtDTypeRef,
-    number: u8,
-) -> VortexResult<bool>
-where
-    V::Metadata: Drop,
-{
-    match ExtDType::try_downcast(alloc, handed_in.try_clone(alloc)?, vtable) {
-        Ok(_) => Ok(false),
-        Err((back, fault)) => Ok(back == *handed_in && fault.number() == number),
-    }
-}
-
-#[test]
-fn a_refused_downcast_hands_back_an_equal_value(rt: HostRuntime) -> Result<(), Fail> {
-    let alloc = rt.alloc();
-    for (id, metadata, number) in [("y", b"AB", 23), ("x.tag", b"a!", 22), ("y.tag", b"a!", 23)] {
-        let handed_in = erased(alloc, id, metadata, TEXT)?;
-        assert!(rt; is_handed_back(alloc, Tag, &handed_in, number)?, "{id}");
-    }
-    let handed_in = erased(alloc, "x.word", b"AB", DType::Null)?;
-    assert!(rt; is_handed_back(alloc, Word, &handed_in, 22)?);
-    Ok(())
 }
 
 #[test]

@@ -5,10 +5,11 @@
 // They are among the tests, since the gate accepts functions that return trait objects nowhere else.
 #![tactic(auto, using(vortex_dtype::proofs::rulesets::sessions))]
 
-ghost use Rattle.std.specs.Prelude.{◌≡◌, IfOk, IsOkUnless, Some};
+ghost use Rattle.std.specs.Prelude.{◌≡◌, IfOk, IsOkUnless, Some, codes};
 ghost use Rattle.dtype_base.specs.declared.vortex_error.VortexError.TheVariants.{OutOfMemory};
 ghost use Rattle.vortex_dtype.specs.Meaning.{allow_unknown_in, empty_meaning, register_in};
 ghost use Rattle.vortex_dtype.specs.Session.{meaning};
+ghost use Rattle.fixtures_plugins.specs.TextPlugin.{text_only};
 
 use fixtures_plugins::{Tag, TextAlone};
 use std::alloc::Global;
@@ -48,6 +49,24 @@ pub fn with_one(alloc: Global, plugin: Box<dyn ExtDTypePlugin>) -> VortexResult<
     let mut session = DTypeSession::new(alloc);
     session.register(plugin)?;
     Ok(session)
+}
+
+/// Returns a session that knows `x.text` and no other id.
+pub fn for_texts(alloc: Global) -> VortexResult<DTypeSession>
+    ensures { IfOk result (λ s. meaning (λ b. rewrites (b.vtable, b.value)) s
+        ≡ register_in (codes "x.text") text_only empty_meaning) }
+{
+    let mut session = DTypeSession::new(alloc);
+    session.register(text_plugin(alloc)?)?;
+    Ok(session)
+}
+
+// Returns the plugin of `x.text`.
+fn text_plugin(alloc: Global) -> VortexResult<Box<dyn ExtDTypePlugin>>
+    ensures id { IfOk result (λ b. id_text b ≡ codes "x.text") }
+    ensures bytes { IfOk result (λ b. rewrites b ≡ text_only) }
+{
+    Ok(Box::new(alloc, TextAlone)?)
 }
 
 fn two(alloc: Global) -> VortexResult<DTypeSession> {

@@ -44,7 +44,7 @@ pub fn reads_whole(asked: &FieldPathSet, column: &Field) -> bool
 }
 
 /// What either of two queries asks for, of the second its least paths alone: it covers the same.
-#[tactic(auto, using(vortex_dtype::proofs::parts::set_unions))]
+#[tactic(auto, using(vortex_dtype::proofs::rulesets::set_unions))]
 pub fn both_queries(mut asked: FieldPathSet, more: FieldPathSet) -> VortexResult<FieldPathSet>
     ensures { IfOk result (λ s. SameCoverage s (set.union asked more)) }
 {
@@ -61,7 +61,7 @@ pub fn number_missing(asked: &FieldPathSet, table: &DType) -> VortexResult<usize
 }
 
 /// The columns to open: no two of them overlap.
-#[tactic(auto, using(vortex_dtype::proofs::parts::least_paths))]
+#[tactic(auto, using(vortex_dtype::proofs::rulesets::least_paths))]
 pub fn open_apart(asked: FieldPathSet) -> VortexResult<vec::IntoIter<FieldPath>>
     ensures { IfOk result (λ r. (p q : List Field) → Contains (into_iter_items r) p
         → Contains (into_iter_items r) q → Overlaps p q → p ≡ q) }

@@ -2,7 +2,7 @@
 // SPDX-FileCopyrightText: Copyright the Vortex contributors
 
 //! A reader that descends a table by a cursor: what a query asks for further down.
-#![tactic(auto, using(vortex_dtype::proofs::parts::stepping_into))]
+#![tactic(auto, using(vortex_dtype::proofs::rulesets::stepping_into))]
 
 ghost use Rattle.std.specs.Prelude.{◌≡◌, ◌↔◌, ◌<◌, ◌∷◌, IsTrue, List, None};
 ghost use Rattle.std.specs.FinSet as set;

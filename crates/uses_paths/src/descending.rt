@@ -3,7 +3,7 @@
 
 //! A layout reader that descends a table and a query together, step by step, and comes exactly to what `project_paths`
 //! keeps.
-#![tactic(auto, using(vortex_dtype::proofs::parts::descending))]
+#![tactic(auto, using(vortex_dtype::proofs::rulesets::descending))]
 
 ghost use Rattle.std.specs.Prelude.{◌≡◌, option_and_then};
 ghost use Rattle.std.specs.FinSet as set;
@@ -27,7 +27,7 @@ pub enum Piece<'a> {
 }
 
 /// The type after one step.
-#[tactic(auto, using(vortex_dtype::proofs::parts::one_step))]
+#[tactic(auto, using(vortex_dtype::proofs::rulesets::one_step))]
 pub fn type_after<'a>(dtype: &'a DType, field: &Field) -> Option<&'a DType>
     ensures { shown tree result ≡ step (tree dtype.now) field.now }
 {

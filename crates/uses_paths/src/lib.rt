@@ -7,7 +7,8 @@
 //! `merging` and `path_sets`, and proofs by hand for two functions of `descending`. The tactics find all else.
 //!
 //! - Which columns a query opens: `asked`, `binding` (those that a table lacks), `paths`, `path_sets`, `path_lists`,
-//!   `projections`, `merging` (several files read as one, and rows written for two readers).
+//!   `related` (what several queries ask for), `projections`, `merging` (several files read as one, and rows written for
+//!   two readers).
 //! - What is read further down: `masks`, `cursors`, `named` (the columns that are wanted, one by one), `descending` (a table
 //!   and a query at once).
 //! - What is stored: `messages` (of types and paths), `stored` (schemas written and read back).
@@ -28,5 +29,6 @@ pub mod path_sets;
 pub mod paths;
 pub mod plugins;
 pub mod projections;
+pub mod related;
 pub mod sessions;
 pub mod stored;

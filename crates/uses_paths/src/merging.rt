@@ -45,7 +45,7 @@ pub fn merge_files(alloc: Global, first: &DType, others: &[DType]) -> VortexResu
 
 /// Returns the type to read several files as one, or `None` if their types differ in more than nullability. It is the least
 /// type of which the types of all files are subsets, so that each value of each file is a value of it.
-#[tactic(auto, using(vortex_dtype::proofs::parts::merging_all))]
+#[tactic(auto, using(vortex_dtype::proofs::rulesets::merging_all))]
 pub fn read_all_as_one(
     alloc: Global,
     first: &DType,

@@ -15,7 +15,7 @@ use std::string::String;
 use vortex_dtype::{DType, DTypeProto, DTypeSession, FieldPath, FieldPathProto, VortexResult, pb};
 
 /// Whether two messages of structs have the same names, types and flag.
-#[tactic(auto, using(vortex_dtype::proofs::parts::equal_messages))]
+#[tactic(auto, using(vortex_dtype::proofs::rulesets::equal_messages))]
 pub fn is_same_struct(a: &pb::Struct, b: &pb::Struct) -> bool
     ensures { IsTrue result ↔ (struct_content a.now ≡ struct_content b.now) }
 {

@@ -26,7 +26,7 @@ pub fn is_listed(alloc: Global, columns: Vec<FieldPath>, column: &FieldPath) -> 
 }
 
 /// Asks for what another reader asks for: a column that it covers is covered then, as is one that was.
-#[tactic(auto, using(vortex_dtype::proofs::parts::covers_members))]
+#[tactic(auto, using(vortex_dtype::proofs::rulesets::covers_members))]
 pub fn ask_for_other(
     asked: &mut FieldPathSet,
     other: FieldPathSet,
@@ -41,7 +41,7 @@ pub fn ask_for_other(
 }
 
 /// A query with one path more: it covers what it covered, and what begins with that path.
-#[tactic(auto, using(vortex_dtype::proofs::parts::made_coverage))]
+#[tactic(auto, using(vortex_dtype::proofs::rulesets::made_coverage))]
 pub fn with_one_more(mut asked: FieldPathSet, path: FieldPath) -> VortexResult<FieldPathSet>
     ensures { IfOk result (λ s. (p : List Field) → IsTrue (covers s p)
         ↔ (IsTrue (covers asked p) ⊎ Beginning path p)) }
@@ -51,7 +51,7 @@ pub fn with_one_more(mut asked: FieldPathSet, path: FieldPath) -> VortexResult<F
 }
 
 /// Asks for what another reader asks for: what either covers is covered then.
-#[tactic(auto, using(vortex_dtype::proofs::parts::united_coverage))]
+#[tactic(auto, using(vortex_dtype::proofs::rulesets::united_coverage))]
 pub fn ask_union(asked: &mut FieldPathSet, other: FieldPathSet) -> VortexResult<()>
     ensures { OnOk result ((q : List Field) → IsTrue (covers asked.new q)
         ↔ (IsTrue (covers asked.old q) ⊎ IsTrue (covers other q))) }
@@ -60,7 +60,7 @@ pub fn ask_union(asked: &mut FieldPathSet, other: FieldPathSet) -> VortexResult<
 }
 
 /// Asks for a column if a table has it: all that is asked for is in the table still.
-#[tactic(auto, using(vortex_dtype::proofs::parts::has_members))]
+#[tactic(auto, using(vortex_dtype::proofs::rulesets::has_members))]
 pub fn ask_if_known(asked: &mut FieldPathSet, path: FieldPath, table: &DType) -> VortexResult<bool>
     requires { (p : List Field) → IsTrue (set.contains asked.old p) → ExistsIn (tree table.now) p }
     ensures known { OnOk result ((p : List Field)

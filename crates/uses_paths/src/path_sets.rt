@@ -4,18 +4,20 @@
 //! A reader of columns: what is asked of it, and what it opens for that.
 #![tactic(auto, using(vortex_dtype::proofs::rulesets::covering))]
 
-ghost use Rattle.std.specs.Prelude.{◌≡◌, ◌+◌, ◌≤◌, IfOk, IsTrue, List};
+ghost use Rattle.std.specs.Prelude.{◌≡◌, ◌+◌, ◌≤◌, IfNone, IfOk, IsTrue, List};
 ghost use Rattle.std.specs.FinSet as set;
 ghost use Rattle.std.specs.List.{Contains};
 ghost use Rattle.std.specs.Vec.Iter.{into_iter_items};
+ghost use Rattle.vortex_dtype.specs.At.{ExistsIn};
 ghost use Rattle.vortex_dtype.specs.Covering.{covers, least};
 ghost use Rattle.vortex_dtype.specs.Overlaps.{Overlaps};
 ghost use Rattle.vortex_dtype.specs.PathOrder.{set_of};
+ghost use Rattle.vortex_dtype.specs.TreeOf.{tree};
 ghost use Rattle.vortex_dtype.specs.Types.Field.{Field};
 
 use std::alloc::Global;
 use std::vec;
-use vortex_dtype::{Field, FieldPath, FieldPathSet, VortexResult};
+use vortex_dtype::{DType, Field, FieldPath, FieldPathSet, VortexResult};
 
 /// Returns the columns to open for a query. Each column of the query is under one of them.
 pub fn cover_of_query(
@@ -41,7 +43,7 @@ pub fn number_with(asked: FieldPathSet, path: FieldPath) -> VortexResult<usize>
 }
 
 /// The number of columns to open: at most that of the paths that are asked for.
-#[tactic(auto, using(vortex_dtype::proofs::parts::opened_counts))]
+#[tactic(auto, using(vortex_dtype::proofs::rulesets::opened_counts))]
 pub fn number_to_open(asked: FieldPathSet) -> VortexResult<usize>
     ensures { IfOk result (λ n. n ≤ set.len asked) }
 {
@@ -49,7 +51,7 @@ pub fn number_to_open(asked: FieldPathSet) -> VortexResult<usize>
 }
 
 /// The columns to open, of which no two overlap: nothing is read twice.
-#[tactic(auto, using(vortex_dtype::proofs::parts::opened_paths))]
+#[tactic(auto, using(vortex_dtype::proofs::rulesets::opened_paths))]
 pub fn opened_apart(asked: FieldPathSet) -> VortexResult<vec::IntoIter<FieldPath>>
     ensures { IfOk result (λ r. (p q : List Field) → Contains (into_iter_items r) p
         → Contains (into_iter_items r) q → Overlaps p q → p ≡ q) }
@@ -58,7 +60,7 @@ pub fn opened_apart(asked: FieldPathSet) -> VortexResult<vec::IntoIter<FieldPath
 }
 
 /// Returns the set of the paths of a list, which are inserted one by one.
-#[tactic(auto, using(vortex_dtype::proofs::parts::of_push))]
+#[tactic(auto, using(vortex_dtype::proofs::rulesets::of_push))]
 pub fn listed(alloc: Global, paths: Vec<FieldPath>) -> VortexResult<FieldPathSet>
     ensures { IfOk result (λ s. s ≡ set_of paths.items) }
 {
@@ -70,7 +72,7 @@ pub fn listed(alloc: Global, paths: Vec<FieldPath>) -> VortexResult<FieldPathSet
 }
 
 /// What one of two queries asks, whose scan is shared: the paths of the second are inserted one by one.
-#[tactic(auto, using(vortex_dtype::proofs::parts::collected_paths))]
+#[tactic(auto, using(vortex_dtype::proofs::rulesets::collected_paths))]
 pub fn shared_scan(first: FieldPathSet, second: &FieldPathSet) -> VortexResult<FieldPathSet>
     ensures { IfOk result (λ s. s ≡ set.union first second.now) }
 {
@@ -81,8 +83,25 @@ pub fn shared_scan(first: FieldPathSet, second: &FieldPathSet) -> VortexResult<F
     Ok(both)
 }
 
+/// Returns a path of a query that a table lacks, or `None` if the table has all of them.
+#[tactic(auto, using(vortex_dtype::proofs::rulesets::lent_paths))]
+pub fn first_lacking<'a>(
+    asked: &'a FieldPathSet,
+    table: &DType,
+) -> VortexResult<Option<&'a FieldPath>>
+    ensures { IfOk result (λ r. IfNone r ((p : List Field)
+        → IsTrue (set.contains asked.now p) → ExistsIn (tree table.now) p)) }
+{
+    for column in asked.iter()? {
+        if !column.exists_in(table) {
+            return Ok(Some(column));
+        }
+    }
+    Ok(None)
+}
+
 /// The paths of two queries: whose come first doesn't matter.
-#[tactic(auto, using(vortex_dtype::proofs::rulesets::covering, vortex_dtype::proofs::parts::union_swap))]
+#[tactic(auto, using(vortex_dtype::proofs::rulesets::covering, vortex_dtype::proofs::rulesets::union_swap))]
 pub fn asked_by_both(one: &FieldPathSet, other: Vec<FieldPath>) -> VortexResult<FieldPathSet>
     ensures { IfOk result (λ s. s ≡ set.union (set_of other.items) one.now) }
 {
@@ -93,7 +112,7 @@ pub fn asked_by_both(one: &FieldPathSet, other: Vec<FieldPath>) -> VortexResult<
 
 /// Returns the columns to open for a query and for one column more. That column is under one of them, and so is each column
 /// that the query covers.
-#[tactic(auto, using(vortex_dtype::proofs::parts::covered_paths))]
+#[tactic(auto, using(vortex_dtype::proofs::rulesets::covered_paths))]
 pub fn open_with(asked: FieldPathSet, column: FieldPath) -> VortexResult<vec::IntoIter<FieldPath>>
     ensures column { IfOk result (λ r. IsTrue (covers (set_of (into_iter_items r)) column)) }
     ensures query { (p : List Field) → IsTrue (covers asked p)

@@ -9,10 +9,13 @@ ghost use Rattle.std.specs.Option.{option_map};
 ghost use Rattle.vortex_dtype.specs.Along.{along};
 ghost use Rattle.vortex_dtype.specs.At.{At};
 ghost use Rattle.vortex_dtype.specs.Beginning.{Beginning};
+ghost use Rattle.vortex_dtype.specs.Crosses.{CrossesNoExtension};
+ghost use Rattle.vortex_dtype.specs.Found.{FoundIn};
 ghost use Rattle.vortex_dtype.specs.Nullable.{nullability};
 ghost use Rattle.vortex_dtype.specs.TreeOf.{shown, tree};
 ghost use Rattle.vortex_dtype.specs.Types.Field.{Field};
 ghost use Rattle.vortex_dtype.specs.Types.Nullability.{Nullability};
+ghost use Rattle.vortex_dtype.specs.Value.{Value};
 
 use vortex_dtype::{DType, Field, FieldPath, Nullability};
 
@@ -25,7 +28,7 @@ pub fn nullability_along(path: &FieldPath, dtype: &DType) -> Option<Nullability>
 }
 
 /// The type of a table's column by its name: the type along the path of that name, or `None` where there is none.
-#[tactic(auto, using(vortex_dtype::proofs::parts::one_column))]
+#[tactic(auto, using(vortex_dtype::proofs::rulesets::one_column))]
 pub fn column_of_struct<'a>(table: &'a DType, column: &str) -> Option<&'a DType>
     ensures { shown tree result ≡ along (tree table.now) (Field.Name column.now ∷ []) }
 {
@@ -42,7 +45,7 @@ pub fn resolve_joined<'a>(path: &FieldPath, rest: &FieldPath, dtype: &'a DType) 
 }
 
 /// The type of the elements of the list along a path: the type one step further, or none where there is none.
-#[tactic(auto, using(vortex_dtype::proofs::parts::one_step))]
+#[tactic(auto, using(vortex_dtype::proofs::rulesets::one_step))]
 pub fn element_type<'a>(path: &FieldPath, dtype: &'a DType) -> Option<&'a DType>
     ensures { shown tree result ≡ along (tree dtype.now) (path.now ++ Field.ElementType ∷ []) }
 {
@@ -55,4 +58,13 @@ pub fn is_within(path: &FieldPath, parent: &FieldPath) -> bool
     ensures { IsTrue result ↔ Beginning parent.now path.now }
 {
     path.parts().starts_with(parent.parts())
+}
+
+/// Returns whether no row of a table can have a value at a path, because the table has no type there.
+#[tactic(auto, using(vortex_dtype::proofs::rulesets::unfound_values))]
+pub fn has_no_values(path: &FieldPath, table: &DType) -> bool
+    requires { CrossesNoExtension (tree table.now) path.now }
+    ensures { IsTrue result → (v : Value) → FoundIn (tree table.now) path.now v → ⊥ }
+{
+    path.resolve(table).is_none()
 }

@@ -55,7 +55,7 @@ pub fn pruned_to_one(
 }
 
 // The set of one column.
-#[tactic(auto, using(vortex_dtype::proofs::parts::inserted_paths))]
+#[tactic(auto, using(vortex_dtype::proofs::rulesets::inserted_paths))]
 fn set_of_one(alloc: Global, column: FieldPath) -> VortexResult<FieldPathSet>
     ensures { IfOk result (λ s. s ≡ set.insert set.empty column) }
 {

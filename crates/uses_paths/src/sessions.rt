@@ -4,13 +4,14 @@
 //! Sessions: what is known after registrations, of which ids it is known, what is kept of metadata, and which errors come.
 #![tactic(auto, using(vortex_dtype::proofs::rulesets::sessions, vortex_dtype::proofs::rulesets::messages))]
 
-ghost use Rattle.std.specs.Prelude.{◌≡◌, ◌↔◌, ℕ, List, All, Contains, IfNone, IfOk, IfSome, IsSome, IsTrue, Some, map};
-ghost use Rattle.vortex_dtype.specs.Meaning.{keeps};
+ghost use Rattle.std.specs.Prelude.{◌≡◌, ◌↔◌, ℕ, List, [], All, Contains, IfNone, IfOk, IfSome, IsSome, IsTrue, Some, codes, map};
+ghost use Rattle.vortex_dtype.specs.Meaning.{empty_meaning, keeps, register_in};
 ghost use Rattle.vortex_dtype.specs.Names.{IsAmong};
 ghost use Rattle.vortex_dtype.specs.Registered.{IsRegistered};
 ghost use Rattle.vortex_dtype.specs.Session.{meaning};
 ghost use Rattle.vortex_dtype.specs.TreeOf.{extension_metadata, tree};
 ghost use Rattle.vortex_dtype.specs.Valid.{Valid};
+ghost use Rattle.uses_paths.specs.Plugins.{over_lists};
 
 use std::alloc::Global;
 use vortex_dtype::laws::base::slices_hold_bytes;
@@ -27,7 +28,7 @@ pub fn known_ids(session: &DTypeSession) -> VortexResult<Vec<&str>>
 }
 
 /// Returns whether the session has a plugin for each of the ids.
-#[tactic(auto, using(vortex_dtype::proofs::parts::each_registered))]
+#[tactic(auto, using(vortex_dtype::proofs::rulesets::each_registered))]
 pub fn knows_all(session: &DTypeSession, ids: &[&str]) -> VortexResult<bool>
     ensures { IfOk result (λ all. IsTrue all ↔ All (λ id. IsRegistered
         (meaning (λ b. rewrites (b.vtable, b.value)) session.now) id.now) ids.now) }
@@ -37,7 +38,7 @@ pub fn knows_all(session: &DTypeSession, ids: &[&str]) -> VortexResult<bool>
 }
 
 /// Returns the first id for which the session has no plugin, or `None` if it has one for each.
-#[tactic(auto, using(vortex_dtype::proofs::parts::each_registered))]
+#[tactic(auto, using(vortex_dtype::proofs::rulesets::each_registered))]
 pub fn unknown_id<'a>(session: &DTypeSession, ids: &[&'a str]) -> VortexResult<Option<&'a str>>
     ensures unknown { IfOk result (λ r. IfSome r (λ id. ¬ (IsRegistered
         (meaning (λ b. rewrites (b.vtable, b.value)) session.now) id.now))) }
@@ -52,7 +53,7 @@ pub fn unknown_id<'a>(session: &DTypeSession, ids: &[&'a str]) -> VortexResult<O
 }
 
 // Returns whether the list has the id.
-#[tactic(auto, using(vortex_dtype::proofs::parts::each_registered))]
+#[tactic(auto, using(vortex_dtype::proofs::rulesets::each_registered))]
 fn is_listed(known: &[&str], id: &str) -> bool
     ensures { IsTrue result ↔ IsAmong (map (λ k. k.now) known.now) id.now }
 {
@@ -75,6 +76,17 @@ pub fn read_by_last_plugin(
     session.register(first)?;
     session.register(second)?;
     session.deserialize(id, metadata, storage)
+}
+
+/// Returns the extension `x.tags` over a storage type, in a session that knows the plugin `Tags` alone.
+#[tactic(auto, using(vortex_dtype::proofs::rulesets::sessions))]
+pub fn tags(session: &DTypeSession, storage: DType) -> VortexResult<ExtDTypeRef>
+    requires valid { Valid (tree storage) }
+    requires plugin { meaning (λ b. rewrites (b.vtable, b.value)) session.now
+        ≡ register_in (codes "x.tags") over_lists empty_meaning }
+    ensures { IfOk result (λ e. over_lists [] (tree storage) ≡ Some (extension_metadata e)) }
+{
+    session.deserialize("x.tags", &[], storage)
 }
 
 /// An extension over a storage made nullable: its metadata is what the session keeps over the storage.

@@ -34,7 +34,7 @@ pub fn stored_and_read_back(
 
 /// The type of a column as a receiver reads it, or `None` where there is no such column: the column's type, where the
 /// session admits the columns.
-#[tactic(auto, using(vortex_dtype::proofs::rulesets::admitting, vortex_dtype::proofs::rulesets::written_messages, vortex_dtype::proofs::parts::valid_columns))]
+#[tactic(auto, using(vortex_dtype::proofs::rulesets::admitting, vortex_dtype::proofs::rulesets::written_messages, vortex_dtype::proofs::rulesets::valid_columns))]
 pub fn column_through_message(
     alloc: Global,
     session: &DTypeSession,

@@ -11,7 +11,7 @@ ghost use Rattle.dtype_types.specs.tree.TreeOf.{children, tree};
 use vortex_dtype::{DType, FieldName, StructFields};
 
 /// Whether a column's type isn't the one that was planned.
-#[tactic(auto, using(vortex_dtype::proofs::parts::unequal))]
+#[tactic(auto, using(vortex_dtype::proofs::rulesets::unequal))]
 pub fn differs_from_plan(column: &DType, planned: &DType) -> bool
     ensures { IsTrue result ↔ (tree column.now ≢ tree planned.now) }
 {
@@ -36,7 +36,7 @@ pub struct Entry {
 }
 
 /// Whether a function is called with types that it was compiled for.
-#[tactic(auto, using(vortex_dtype::proofs::parts::equal_types))]
+#[tactic(auto, using(vortex_dtype::proofs::rulesets::equal_types))]
 pub fn is_same_signature(compiled: &[DType], called: &[DType]) -> bool
     ensures { IsTrue result ↔ (map tree compiled.now ≡ map tree called.now) }
 {

@@ -14,7 +14,7 @@ use std::alloc::Global;
 use vortex_dtype::{DType, FieldNames, StructFields, VortexResult};
 
 /// The type of the first field of the name, by its position.
-#[tactic(auto, using(vortex_dtype::proofs::parts::found_names))]
+#[tactic(auto, using(vortex_dtype::proofs::rulesets::found_names))]
 pub fn field_by_find<'a>(fields: &'a StructFields, name: &str) -> Option<&'a DType>
     ensures { shown tree result ≡ first_named (children fields.now) name.now }
 {

@@ -9,7 +9,7 @@ use std::vec;
 use vortex_dtype::{
     DType, DTypeProto, DTypeSession, Field, FieldDType, FieldMask, FieldName, FieldNames,
     FieldPath, FieldPathCursor, FieldPathSet, MessageFault, Nullability, PType, StructFields,
-    VortexError, VortexResult, field_path, pb, project_paths,
+    VortexError, VortexResult, field_path, merge_columns, merge_conflict, pb, project_paths,
 };
 
 /// Returns the columns `id=u64, name=utf8?`.
@@ -127,6 +127,30 @@ pub fn required(alloc: Global, dtype: &DType) -> VortexResult<Option<DType>> {
         return Ok(None);
     }
     Ok(Some(dtype.as_nonnullable(alloc)?))
+}
+
+/// Returns one schema for several files, or `None` if two of them disagree about a column. A column that a file lacks is
+/// nullable.
+pub fn one_schema(alloc: Global, first: &DType, others: &[DType]) -> VortexResult<Option<DType>> {
+    let mut schema = first.try_clone(alloc)?;
+    for other in others {
+        match merge_columns(alloc, &schema, other)? {
+            Some(merged) => schema = merged,
+            None => return Ok(None),
+        }
+    }
+    Ok(Some(schema))
+}
+
+/// Returns what two schemas disagree about, for example `$customer.$id is u64 and utf8`, or `None` if they can be merged.
+pub fn disagreement(alloc: Global, a: &DType, b: &DType) -> VortexResult<Option<String>> {
+    match merge_conflict(alloc, a, b)? {
+        Some(conflict) => {
+            let (path, left, right) = (&conflict.path, conflict.left, conflict.right);
+            Ok(Some(format!(in alloc; "{path} is {left} and {right}")?))
+        }
+        None => Ok(None),
+    }
 }
 
 /// Reads a stored schema, and keeps extensions with unknown ids as they are.

@@ -13,11 +13,13 @@
 //! - Pages: `orders` is the code of `docs/TUTORIAL.md`, and `guide` that of `docs/GUIDE.md`.
 //! - By user: `arrays` (how wide a row and a decimal are), `binder` (column references).
 //! - By topic: `structs`, `fields`, `over_fields`, `loops` (to copy), `presence`, `wanted` (many names), `unions`,
-//!   `equality`, `nullabilities`, `validity`, `registered` (sessions that a contract names).
+//!   `equality`, `nullabilities`, `columns` (files with different columns), `validity`, `registered` (sessions that a
+//!   contract names).
 #![tactic(auto)]
 
 pub mod arrays;
 pub mod binder;
+pub mod columns;
 pub mod equality;
 pub mod fields;
 pub mod guide;

@@ -100,7 +100,7 @@ pub fn bind_all<'a>(
 }
 
 /// Returns the element type of the innermost list, or the type itself if it is no list.
-#[tactic(auto, using(vortex_dtype::proofs::parts::smaller_parts))]
+#[tactic(auto, using(vortex_dtype::proofs::rulesets::smaller_parts))]
 pub fn innermost(dtype: &DType) -> &DType
     ensures { tree result.now ≡ innermost_type (tree dtype.now) }
 {

@@ -42,7 +42,7 @@ pub fn can_append(dtype: &DType, more: &DType) -> bool
 }
 
 /// Whether each of two arrays may be appended to the other. Then their types are equal.
-#[tactic(auto, using(vortex_dtype::proofs::parts::sub_antisymmetric))]
+#[tactic(auto, using(vortex_dtype::proofs::rulesets::sub_antisymmetric))]
 pub fn can_append_both_ways(first: &DType, second: &DType) -> bool
     ensures exact { IsTrue result ↔ (Sub (tree first.now) (tree second.now) × Sub (tree second.now) (tree first.now)) }
     ensures equal { IsTrue result → tree first.now ≡ tree second.now }

@@ -42,7 +42,7 @@ pub fn is_flat(table: &StructFields) -> bool
 
 /// Returns whether the columns of two tables are nullable alike, position by position. Columns behind the end of the
 /// shorter table don't count.
-#[tactic(auto, using(vortex_dtype::proofs::parts::zipped))]
+#[tactic(auto, using(vortex_dtype::proofs::rulesets::zipped))]
 pub fn are_nullable_alike(left: &StructFields, right: &StructFields) -> bool
     ensures { IsTrue result ↔ AllByRecursion (λ p. IsNullable p.0 ↔ IsNullable p.1)
         (zip (field_types (children left.now)) (field_types (children right.now))) }

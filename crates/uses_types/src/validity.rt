@@ -3,7 +3,7 @@
 
 // What a caller has of a valid type: that its parts are valid, and what is made of valid types. Where a function gives a
 // part, an equation says which; of what is made, only that it is valid is claimed here.
-#![tactic(auto, using(vortex_dtype::proofs::parts::valid_held, vortex_dtype::proofs::parts::valid_columns))]
+#![tactic(auto, using(vortex_dtype::proofs::rulesets::valid_held, vortex_dtype::proofs::rulesets::valid_columns))]
 
 ghost use Rattle.std.specs.Prelude.{◌≡◌, ◌<◌, All, IfOk, IfSome, length, option_and_then, slice_get, vec_len};
 ghost use Rattle.std.specs.Option.{option_map};
@@ -34,7 +34,7 @@ pub fn element_of(dtype: &DType) -> Option<&DType>
 }
 
 /// The element type of a list, moved out of the list, or `None` of another type; valid where that type is.
-#[tactic(auto, using(vortex_dtype::proofs::parts::valid_moved))]
+#[tactic(auto, using(vortex_dtype::proofs::rulesets::valid_moved))]
 pub fn into_element(dtype: DType) -> Option<Box<DType>>
     ensures element { option_map (λ b. tree b.value) result ≡ list_element (tree dtype) }
     ensures valid { Valid (tree dtype) → IfSome result (λ b. Valid (tree b.value)) }
@@ -43,7 +43,7 @@ pub fn into_element(dtype: DType) -> Option<Box<DType>>
 }
 
 /// The struct of these names and types.
-#[tactic(auto, using(vortex_dtype::proofs::parts::valid_made))]
+#[tactic(auto, using(vortex_dtype::proofs::rulesets::valid_made))]
 pub fn struct_of(alloc: Global, names: FieldNames, dtypes: Vec<DType>) -> VortexResult<StructFields>
     requires { length names ≡ vec_len dtypes }
     ensures { All (λ d. Valid (tree d)) dtypes.items → IfOk result (λ s. ValidItems (fields_of s)) }

@@ -104,6 +104,8 @@ impl Console {
             Command::Parts(command) => parts::answer(call, command),
             Command::MergeNullability => merging::answer(call),
             Command::IntersectNullability => merging::answer_intersected(call),
+            Command::MergeColumns => merging::answer_columns(call),
+            Command::MergeConflict => merging::answer_conflict(call),
             Command::Comparisons(command) => comparisons::answer(call, command),
             Command::Structs(command) => structs::answer(call, command),
             Command::Unions(command) => unions::answer(call, command),
@@ -215,13 +217,15 @@ fn show_examples(call: &mut Call<'_>, lines: &[&str]) -> ConsoleResult<()> {
     Ok(())
 }
 
-const SET_EXAMPLES: [&str; 12] = [
+const SET_EXAMPLES: [&str; 14] = [
     "set s new",
     "set s insert a.c",
     "set s extend b.[].x b",
     "set s contains a.c",
     "set s below b",
     "set s missing {a={c=i32}}",
+    "set s compare a.c b b.[].x x",
+    "set s union x",
     "set s iter",
     "set s cover",
     "set s drain",

@@ -2,9 +2,10 @@
 // SPDX-FileCopyrightText: Copyright the Vortex contributors
 
 // How steps and paths are read and written.
-use console_core::{Argument, Call, ConsoleResult, Line, write_name};
+use console_core::{Argument, Call, ConsoleResult, Line};
 use dtype_base::VortexResult;
 use dtype_paths::{Field, FieldPath};
+use dtype_text::{path_at, path_step_at, write_path, write_step};
 use std::alloc::Global;
 use std::vec;
 
@@ -65,28 +66,20 @@ impl Argument for Paths {
 }
 
 fn read_step(alloc: Global, line: &mut Line<'_>) -> ConsoleResult<Field> {
-    if line.accepts("[]") {
-        return Ok(Field::ElementType);
-    }
-    let _ = line.accepts("$");
-    Ok(Field::Name(line.step_name(alloc)?))
+    let step = line.read(path_step_at(alloc, line.rest()))?;
+    line.end_word(b"-+#")?;
+    Ok(step)
 }
 
-/// Reads a path, its steps or a dot where it has none, and returns it.
+/// Reads a path, its steps or a dot if it has none, and returns it.
 pub fn read_path(alloc: Global, line: &mut Line<'_>) -> ConsoleResult<FieldPath> {
-    if line.accepts(".") {
+    let path = line.read(path_at(alloc, line.rest()))?;
+    if path.is_root() {
         end_root(line)?;
-        return Ok(FieldPath::root(alloc));
+    } else {
+        end_path(line)?;
     }
-    let mut steps = Vec::new(alloc);
-    for _ in 0..line.max_items() {
-        steps.push(read_step(alloc, line)?)?;
-        if !line.accepts(".") {
-            break;
-        }
-    }
-    end_path(line)?;
-    Ok(FieldPath::from_vec(steps))
+    Ok(path)
 }
 
 // Returns an error where a step follows the dot of the root.
@@ -102,6 +95,7 @@ fn end_root(line: &Line<'_>) -> ConsoleResult<()> {
 
 // Returns an error where a path goes on without a dot.
 fn end_path(line: &Line<'_>) -> ConsoleResult<()> {
+    line.end_word(b"-+#")?;
     match line.peek() {
         Some(b'[') => Err(line.expected_found(
             "a blank or a dot",
@@ -113,28 +107,6 @@ fn end_path(line: &Line<'_>) -> ConsoleResult<()> {
         )),
         _ => Ok(()),
     }
-}
-
-fn write_step(out: &mut String, step: &Field) -> VortexResult<()> {
-    match step {
-        Field::ElementType => Ok(out.push_str("[]")?),
-        Field::Name(name) => write_name(out, name),
-    }
-}
-
-fn write_path(out: &mut String, path: &FieldPath) -> VortexResult<()> {
-    let mut is_first = true;
-    for step in path.parts() {
-        if !is_first {
-            out.push('.')?;
-        }
-        write_step(out, step)?;
-        is_first = false;
-    }
-    if is_first {
-        out.push('.')?;
-    }
-    Ok(())
 }
 
 /// Adds a step to the answer.

@@ -4,10 +4,11 @@
 // Commands on sets of paths, and the sets with a name, which last from line to line.
 use crate::forms::{Path, Paths, say_borrowed_paths, say_paths, say_sorted};
 use console_core::{
-    Call, ConsoleError, ConsoleResult, SetCommand, expected_at, unknown_name, unless, write_name,
+    Call, ConsoleError, ConsoleResult, SetCommand, expected_at, unknown_name, unless,
 };
 use dtype_base::FieldName;
 use dtype_paths::{FieldPathCursor, FieldPathSet};
+use dtype_text::write_name;
 use dtype_types::DType;
 use std::alloc::Global;
 use std::mem;
@@ -160,6 +161,8 @@ enum SetChange {
     Contains,
     Below,
     Missing,
+    Compare,
+    Union,
     Iter,
     Cover,
     Drain,
@@ -169,7 +172,7 @@ enum SetChange {
 // Reads a command on a set.
 fn read_change(call: &mut Call<'_>) -> ConsoleResult<SetChange> {
     const EXPECTED: &str =
-        "new, insert, extend, contains, below, missing, iter, cover, drain or drop";
+        "new, insert, extend, contains, below, missing, compare, union, iter, cover, drain or drop";
     call.line.separate()?;
     let position = call.line.position();
     match call.line.word(EXPECTED)? {
@@ -179,6 +182,8 @@ fn read_change(call: &mut Call<'_>) -> ConsoleResult<SetChange> {
         "contains" => Ok(SetChange::Contains),
         "below" => Ok(SetChange::Below),
         "missing" => Ok(SetChange::Missing),
+        "compare" => Ok(SetChange::Compare),
+        "union" => Ok(SetChange::Union),
         "iter" => Ok(SetChange::Iter),
         "cover" => Ok(SetChange::Cover),
         "drain" => Ok(SetChange::Drain),
@@ -196,6 +201,8 @@ fn change(call: &mut Call<'_>, command: SetChange, set: &mut FieldPathSet) -> Co
         SetChange::Contains => contains_last(call, set),
         SetChange::Below => below(call, set),
         SetChange::Missing => missing(call, set),
+        SetChange::Compare => compare(call, set),
+        SetChange::Union => union(call, set),
         SetChange::Iter => iter(call, set),
         SetChange::Cover => cover_copy(call, set),
         SetChange::Drain => drain(call, set),
@@ -286,6 +293,26 @@ fn named_text(
 fn missing(call: &mut Call<'_>, set: &FieldPathSet) -> ConsoleResult<()> {
     let dtype: DType = call.last()?;
     say_borrowed_paths(call, set.unresolved(&dtype)?.into_iter())
+}
+
+// How many paths the set has and how many the set of the paths of the line has, and how the two are related.
+fn compare(call: &mut Call<'_>, set: &FieldPathSet) -> ConsoleResult<()> {
+    let other = last_set(call)?;
+    call.say(set.len())?;
+    call.say(other.len())?;
+    call.say_some_words(&[
+        ("empty", set.is_empty()),
+        ("equal", *set == other),
+        ("subset", set.is_subset(&other)),
+        ("superset", set.is_superset(&other)),
+        ("disjoint", set.is_disjoint(&other)),
+    ])
+}
+
+// The paths of the set and those of the line.
+fn union(call: &mut Call<'_>, set: &FieldPathSet) -> ConsoleResult<()> {
+    let other = last_set(call)?;
+    say_members(call, &set.union(&other)?)
 }
 
 fn cover_copy(call: &mut Call<'_>, set: &FieldPathSet) -> ConsoleResult<()> {

@@ -21,9 +21,11 @@
 //! object, is tested and not proved, because a body that forgets the object would meet every contract.
 #![tactic(auto)]
 
+pub use failure::Failure;
 pub use object::Object;
 pub use slot::Slot;
 
+mod failure;
 mod loose;
 mod object;
 mod slot;

@@ -2,6 +2,8 @@
 // SPDX-FileCopyrightText: Copyright the Vortex contributors
 
 // The values that a slot may have.
+use crate::failure::Failure;
+use dtype_base::FieldName;
 use dtype_messages::pb;
 use dtype_paths::{FieldMask, FieldPath, FieldPathSet};
 use dtype_types::DType;
@@ -21,4 +23,8 @@ pub enum Object {
     Mask(FieldMask),
     /// The protobuf message that describes a logical type.
     Message(pb::DType),
+    /// Names with types, from which a struct or a union is made.
+    Fields(Vec<(FieldName, DType)>),
+    /// The reason for which a call failed.
+    Error(Failure),
 }

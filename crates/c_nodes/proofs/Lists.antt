@@ -2,16 +2,19 @@
 -- SPDX-FileCopyrightText: Copyright the Vortex contributors
 
 -- The nodes, the texts, the number and the depth of the messages of a list, and how many nodes of a list may have parts.
-use Rattle.std.proofs.Common.{◌≡◌, ◌⊎◌, ◌<◌, ◌≤◌, ◌+◌, ◌&&◌, ◌||◌, ◌==◌, nat_le, true, max, ℕ, zero, suc, List, [], ◌∷◌, ◌++◌, get_or, length, map, refl, ap, inl, inr, subst, arith}
-use Rattle.std.proofs.lemmas.Bool.{le-leb}
+use Rattle.std.proofs.Common.{◌≡◌, ◌<◌, ◌≤◌, ◌+◌, max, ℕ, zero, suc, List, [], ◌∷◌, ◌++◌, get_or, length, map, refl, ap, subst, arith}
 use Rattle.std.proofs.lemmas.List.{get_or-map, length-map}
 use Rattle.std.specs.List.{flat_map}
+use Rattle.std.specs.String.{string_bytes}
+use Rattle.std.specs.declared.alloc.Global.{Global}
+use Rattle.std.specs.declared.string.String.{String}
 use Rattle.dtype_messages.specs.Message.{Message, messages}
 use Rattle.dtype_messages.specs.MessageOf.{message}
 use Rattle.dtype_messages.specs.declared.pb.DType.{DType}
-use Rattle.c_nodes.specs.Depth.{depth, depth_all, holders, may_have_parts}
+use Rattle.c_nodes.specs.Depth.{depth, depth_all, holders}
 use Rattle.c_nodes.specs.declared.node.Node.{Node}
-use Rattle.c_nodes.specs.Flat.{bit, flat_nodes, flat_texts, all_nodes, all_texts, count}
+use Rattle.c_nodes.specs.Greatest.{greatest, greatest_all, longest}
+use Rattle.c_nodes.specs.Flat.{flat_nodes, flat_texts, all_nodes, all_texts, count}
 
 pub all_nodes_is : (ms : List Message) → all_nodes (messages ms) ≡ flat_map flat_nodes ms
 all_nodes_is [] = refl
@@ -41,6 +44,36 @@ depth_at ps i d l =
     subst (λ m. depth m < depth_all (messages (map message ps))) (get_or-map message ps i d (message d) l)
     (depth_below (map message ps) i (message d) (omega (arith, length-map ps message)))
 
+-- the same of the greatest number
+pub greatest_push : (ms : List Message) (m : Message) → greatest_all (messages (ms ++ m ∷ [])) ≡ max (greatest_all (messages ms)) (greatest m)
+greatest_push [] m = omega arith
+greatest_push (n ∷ ms) m = omega (arith, greatest_push ms m)
+
+greatest_within : (ms : List Message) (i : ℕ) (d : Message) → i < length ms → greatest (get_or ms i d) ≤ greatest_all (messages ms)
+greatest_within [] i d l = absurd (omega arith)
+greatest_within (m ∷ ms) zero d l = omega arith
+greatest_within (m ∷ ms) (suc i) d l = omega (arith, greatest_within ms i d (omega arith))
+
+pub greatest_at : (ps : List DType) (i : ℕ) (d : DType) → i < length ps → greatest (message (get_or ps i d)) ≤ greatest_all (messages (map message ps))
+greatest_at ps i d l =
+    subst (λ m. greatest m ≤ greatest_all (messages (map message ps))) (get_or-map message ps i d (message d) l)
+    (greatest_within (map message ps) i (message d) (omega (arith, length-map ps message)))
+
+-- the same of the longest text
+pub longest_push : (ts : List (List ℕ)) (t : List ℕ) → longest (ts ++ t ∷ []) ≡ max (longest ts) (length t)
+longest_push [] t = omega arith
+longest_push (s ∷ ts) t = omega (arith, longest_push ts t)
+
+longest_within : (ts : List (List ℕ)) (i : ℕ) (d : List ℕ) → i < length ts → length (get_or ts i d) ≤ longest ts
+longest_within [] i d l = absurd (omega arith)
+longest_within (t ∷ ts) zero d l = omega arith
+longest_within (t ∷ ts) (suc i) d l = omega (arith, longest_within ts i d (omega arith))
+
+pub longest_at : (ns : List (String Global)) (i : ℕ) (d : String Global) → i < length ns → length (string_bytes (get_or ns i d)) ≤ longest (map string_bytes ns)
+longest_at ns i d l =
+    subst (λ t. length t ≤ longest (map string_bytes ns)) (get_or-map string_bytes ns i d (string_bytes d) l)
+    (longest_within (map string_bytes ns) i (string_bytes d) (omega (arith, length-map ns string_bytes)))
+
 -- a map is as deep as its key or its value
 pub either_depth : (k v : ℕ) → (k ≤ max k v) × (v ≤ max k v)
 either_depth k v = (omega arith, omega arith)
@@ -50,15 +83,5 @@ unfolding holders
 holders_both [] os = omega arith
 holders_both (n ∷ ns) os = omega (arith, holders_both ns os)
 
--- a node that may have parts is one more
-pub holders_more : (n : Node) (ns : List Node) → ((7 ≤ n.kind) × (n.kind ≤ 11)) ⊎ (n.kind ≡ 13) → holders (n ∷ ns) ≡ 1 + holders ns
-unfolding holders
-holders_more n ns (inl within) = ap (λ b. bit b + holders ns) (ap (λ b. b || (n.kind == 13)) (both within.0 within.1))
-  where
-    both : 7 ≤ n.kind → n.kind ≤ 11 → (nat_le 7 n.kind && nat_le n.kind 11) ≡ true
-    both above below = rw (le-leb 7 n.kind above, le-leb n.kind 11 below)
-holders_more n ns (inr is) = ap (λ k. bit (may_have_parts k) + holders ns) is
-
-pub holders_least : (n : Node) (ns : List Node) → holders ns ≤ holders (n ∷ ns)
-unfolding holders
-holders_least n ns = omega arith
+-- what the writer needs of the messages of a list
+pub ruleset parts_of_lists = (all_nodes_is, all_texts_is, count_is, depth_push, depth_at, greatest_push)

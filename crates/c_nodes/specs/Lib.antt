@@ -3,3 +3,9 @@
 
 pub mod Depth
 pub mod Flat
+pub mod Greatest
+pub mod Kinds
+pub mod Read
+pub mod Rests
+pub mod Texts
+pub mod Written

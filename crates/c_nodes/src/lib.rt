@@ -10,18 +10,27 @@
 //! one type. The second is the name, which has one byte. The third is the primitive type 6 (`i32`), which is nullable.
 //! The texts are the byte `a`.
 //!
-//! What is proved (`specs/Flat`):
-//! - The nodes and the texts of the message that `message_of` returns are exactly the nodes and the texts that were
-//!   passed.
-//! - The nodes and the texts that `nodes_of` returns are exactly those of the message.
+//! What is proved:
+//! - `message_of` returns what `specs/Read` says: a message, or the first fault that is met when the nodes are read in
+//!   order. Only a failed allocation may come first.
+//! - This is a message exactly if the nodes and the texts are those of this message (`specs/Flat`), no message in it is
+//!   nested in more than 128 others, and its names and ids are UTF-8. So a fault is returned only if no such message has
+//!   these nodes and texts ([`laws`]).
+//! - The nodes and the texts that `nodes_of` returns are exactly those of the message. Unless an allocation fails, it
+//!   returns a fault exactly if a message is nested in more than 128 others, which is the fault `TooDeep`, or if none is
+//!   and a number of names, tags, types or bytes is above 2^32 - 1.
 #![tactic(auto)]
 
 pub use fault::NodeFault;
+pub use kind::NodeKind;
 pub use node::Node;
 pub use reader::message_of;
 pub use writer::nodes_of;
 
+mod depth;
 mod fault;
+mod kind;
+pub mod laws;
 mod node;
 mod reader;
 mod writer;

@@ -2,15 +2,18 @@
 // SPDX-FileCopyrightText: Copyright the Vortex contributors
 
 // Messages from nodes and texts. What is read is taken from the front of both.
-ghost use Rattle.std.specs.Prelude.{◌≡◌, ◌≢◌, ◌≤◌, ◌<◌, ◌∷◌, ◌++◌, [], length, map, IfErr, IfOk, string_bytes};
-ghost use Rattle.std.specs.List.{flat_map};
-ghost use Rattle.dtype_messages.specs.Message.{messages};
+ghost use Rattle.std.specs.Prelude.{◌≡◌, ◌<◌, IfErr, IfOk, MatchResult, map, string_bytes};
+ghost use Rattle.dtype_messages.specs.Message.{Message};
 ghost use Rattle.dtype_messages.specs.MessageOf.{message, kind_message, child_message, bytes_of};
-ghost use Rattle.c_nodes.specs.Flat.{flat_nodes, flat_texts, part_nodes, part_texts, all_nodes, all_texts, count, bytes_nodes, bytes_texts, is_present, has_bytes, text_node, tag_node};
-ghost use Rattle.c_nodes.specs.Depth.{depth, depth_all, depth_child, holders};
-ghost use Rattle.c_nodes.specs.declared.fault.NodeFault.TheVariants.{TooDeep};
+ghost use Rattle.c_nodes.specs.Read.{Reads, ReadsAll, kind_at, bytes_at, text_at, name_at, tag_at, metadata_at, times, child_by, list_by, fixed_by, map_by, struct_by, union_by, extension_by, after_kind, message_by, part_at, read_flat};
+ghost use Rattle.c_nodes.specs.Depth.{holders};
+ghost use Rattle.c_nodes.specs.Flat.{extension_of};
+ghost use Rattle.c_nodes.specs.Rests.{left};
+ghost use Rattle.c_nodes.specs.Texts.{IsFlat};
+ghost use Rattle.c_nodes.specs.declared.fault.NodeFault.TheVariants.{OutOfMemory, TooDeep};
 
-use crate::{Node, NodeFault, node};
+use crate::kind::NodeKind;
+use crate::{Node, NodeFault};
 use dtype_messages::pb;
 use std::alloc::Global;
 use std::str;
@@ -30,15 +33,29 @@ struct Rest<'a> {
 ///
 /// # Errors
 ///
-/// - `OutOfRange`: they aren't the nodes and texts of one message.
+/// The first of these that is met when the nodes are read in order:
+///
+/// - `OutOfRange`: a node isn't one that a message has at this place, nodes or bytes end too early, or some are left.
 /// - `NotUtf8`: a name or an id isn't UTF-8.
 /// - `TooDeep`: a message is nested in more than 128 others.
 /// - `OutOfMemory`: an allocation fails.
 pub fn message_of(alloc: Global, nodes: &[Node], texts: &[u8]) -> Result<pb::DType, NodeFault>
-    ensures nodes { IfOk result (λ m. flat_nodes (message m) ≡ nodes.now) }
-    ensures texts { IfOk result (λ m. flat_texts (message m) ≡ texts.now) }
-    ensures depth { IfOk result (λ m. depth (message m) ≤ 128) }
+    // The message or the fault is that which is read, unless memory runs out.
+    ensures read { ReadsAll message result (read_flat nodes.now texts.now) }
+    // The nodes and the texts are those of the message.
+    ensures flat { IfOk result (λ m. IsFlat nodes.now texts.now (message m)) }
+    // What is flat is read, unless memory runs out.
+    ensures only { (m : Message) → IsFlat nodes.now texts.now m → MatchResult result (λ d. message d ≡ m) (λ e. e ≡ OutOfMemory) }
+    // Each level needs a node that may have parts.
     ensures too_deep { IfErr result (λ e. e ≡ TooDeep → 128 < holders nodes.now) }
+{
+    whole(alloc, nodes, texts)
+}
+
+// Reads a message, and nothing may be left.
+#[tactic(auto, unfolding(crate::specs::Read::read_flat))]
+fn whole(alloc: Global, nodes: &[Node], texts: &[u8]) -> Result<pb::DType, NodeFault>
+    ensures { ReadsAll message result (read_flat nodes.now texts.now) }
 {
     let mut rest = Rest { nodes, texts };
     let message = read(alloc, &mut rest, MAX_LEVELS)?;
@@ -51,37 +68,51 @@ pub fn message_of(alloc: Global, nodes: &[Node], texts: &[u8]) -> Result<pb::DTy
 
 impl<'a> Rest<'a> {
     // Takes the next node.
-    fn node(&mut self) -> Result<Node, NodeFault>
-        ensures nodes { IfOk result (λ n. self.old.nodes.now ≡ n ∷ self.new.nodes.now) }
-        ensures texts { self.new.texts.now ≡ self.old.texts.now }
-        ensures errors { IfErr result (λ e. e ≢ TooDeep) }
+    #[tactic(auto, unfolding(crate::specs::Read::kind_at))]
+    fn kind(&mut self) -> Result<NodeKind, NodeFault>
+        ensures { Reads (λ k. k) result (left self.new) (kind_at (left self.old)) }
     {
-        match self.nodes.split_first() {
-            Some((first, rest)) => {
+        match self.nodes {
+            [first, rest @ ..] => {
                 self.nodes = rest;
-                Ok(*first)
+                match NodeKind::of(first) {
+                    Some(kind) => Ok(kind),
+                    None => Err(NodeFault::OutOfRange),
+                }
             }
-            None => Err(NodeFault::OutOfRange),
+            [] => Err(NodeFault::OutOfRange),
         }
     }
 
     // Takes a text with its node.
+    #[tactic(auto, unfolding(crate::specs::Read::text_at))]
     fn text(&mut self) -> Result<&'a [u8], NodeFault>
-        ensures nodes { IfOk result (λ t. self.old.nodes.now ≡ text_node t.now ∷ self.new.nodes.now) }
-        ensures texts { IfOk result (λ t. self.old.texts.now ≡ t.now ++ self.new.texts.now) }
-        ensures errors { IfErr result (λ e. e ≢ TooDeep) }
+        ensures { Reads (λ t. t.now) result (left self.new) (text_at (left self.old)) }
     {
-        let node = self.node()?;
-        expect(&node, &node::sized_node(node.number))?;
-        self.bytes(node.number)
+        match self.kind()? {
+            NodeKind::Text { bytes } => Ok(self.bytes(bytes)?),
+            NodeKind::Missing
+            | NodeKind::Null
+            | NodeKind::Bool { .. }
+            | NodeKind::Primitive { .. }
+            | NodeKind::Decimal { .. }
+            | NodeKind::Utf8 { .. }
+            | NodeKind::Binary { .. }
+            | NodeKind::List { .. }
+            | NodeKind::FixedSizeList { .. }
+            | NodeKind::Map { .. }
+            | NodeKind::Struct { .. }
+            | NodeKind::Union { .. }
+            | NodeKind::Variant { .. }
+            | NodeKind::Extension { .. }
+            | NodeKind::Tag { .. } => Err(NodeFault::OutOfRange),
+        }
     }
 
     // Takes this many bytes.
+    #[tactic(auto, unfolding(crate::specs::Read::bytes_at))]
     fn bytes(&mut self, wanted: u32) -> Result<&'a [u8], NodeFault>
-        ensures length { IfOk result (λ t. length t.now ≡ wanted) }
-        ensures texts { IfOk result (λ t. self.old.texts.now ≡ t.now ++ self.new.texts.now) }
-        ensures nodes { self.new.nodes.now ≡ self.old.nodes.now }
-        ensures errors { IfErr result (λ e. e ≢ TooDeep) }
+        ensures { Reads (λ t. t.now) result (left self.new) (bytes_at wanted (left self.old)) }
     {
         let wanted = wanted as usize;
         if wanted > self.texts.len() {
@@ -93,10 +124,9 @@ impl<'a> Rest<'a> {
     }
 
     // Takes a name or an id with its node.
+    #[tactic(auto, unfolding(crate::specs::Read::name_at), using(crate::proofs::Reading::utf8))]
     fn name(&mut self, alloc: Global) -> Result<String, NodeFault>
-        ensures nodes { IfOk result (λ s. self.old.nodes.now ≡ text_node (string_bytes s) ∷ self.new.nodes.now) }
-        ensures texts { IfOk result (λ s. self.old.texts.now ≡ string_bytes s ++ self.new.texts.now) }
-        ensures errors { IfErr result (λ e. e ≢ TooDeep) }
+        ensures { Reads string_bytes result (left self.new) (name_at (left self.old)) }
     {
         match str::from_utf8(self.text()?) {
             Ok(text) => Ok(String::from_str(alloc, text)?),
@@ -106,51 +136,64 @@ impl<'a> Rest<'a> {
 
     // Takes this many names with their nodes.
     fn names(&mut self, alloc: Global, wanted: u32) -> Result<Vec<String>, NodeFault>
-        ensures length { IfOk result (λ v. length (map string_bytes v.items) ≡ wanted) }
-        ensures nodes { IfOk result (λ v. self.old.nodes.now ≡ map text_node (map string_bytes v.items) ++ self.new.nodes.now) }
-        ensures texts { IfOk result (λ v. self.old.texts.now ≡ flat_map (λ n. n) (map string_bytes v.items) ++ self.new.texts.now) }
-        ensures errors { IfErr result (λ e. e ≢ TooDeep) }
+        ensures { Reads (λ v. map string_bytes v.items) result (left self.new) (times wanted name_at (left self.old)) }
     {
-        let mut names = Vec::with_capacity(alloc, self.at_most(wanted)?)?;
+        let mut names = Vec::with_capacity(alloc, self.at_most(wanted))?;
         for _at in 0..wanted {
             names.push(self.name(alloc)?)?;
         }
         Ok(names)
     }
 
-    // Takes this many tags.
-    fn tags(&mut self, alloc: Global, wanted: u32) -> Result<Vec<i32>, NodeFault>
-        ensures length { IfOk result (λ v. length v.items ≡ wanted) }
-        ensures nodes { IfOk result (λ v. self.old.nodes.now ≡ map tag_node v.items ++ self.new.nodes.now) }
-        ensures texts { IfOk result (λ v. self.old.texts.now ≡ self.new.texts.now) }
-        ensures errors { IfErr result (λ e. e ≢ TooDeep) }
+    // Takes a tag.
+    #[tactic(auto, unfolding(crate::specs::Read::tag_at))]
+    fn tag(&mut self) -> Result<i32, NodeFault>
+        ensures { Reads (λ t. t) result (left self.new) (tag_at (left self.old)) }
     {
-        let mut tags = Vec::with_capacity(alloc, self.at_most(wanted)?)?;
+        match self.kind()? {
+            NodeKind::Tag { tag } => Ok(tag),
+            NodeKind::Missing
+            | NodeKind::Null
+            | NodeKind::Bool { .. }
+            | NodeKind::Primitive { .. }
+            | NodeKind::Decimal { .. }
+            | NodeKind::Utf8 { .. }
+            | NodeKind::Binary { .. }
+            | NodeKind::List { .. }
+            | NodeKind::FixedSizeList { .. }
+            | NodeKind::Map { .. }
+            | NodeKind::Struct { .. }
+            | NodeKind::Union { .. }
+            | NodeKind::Variant { .. }
+            | NodeKind::Extension { .. }
+            | NodeKind::Text { .. } => Err(NodeFault::OutOfRange),
+        }
+    }
+
+    // Takes this many tags.
+    #[tactic(auto, using(crate::proofs::Reading::times_more))]
+    fn tags(&mut self, alloc: Global, wanted: u32) -> Result<Vec<i32>, NodeFault>
+        ensures { Reads (λ v. v.items) result (left self.new) (times wanted tag_at (left self.old)) }
+    {
+        let mut tags = Vec::with_capacity(alloc, self.at_most(wanted))?;
         for _at in 0..wanted {
-            let node = self.node()?;
-            expect(&node, &node::tag_node(node.value))?;
-            tags.push(node.value)?;
+            tags.push(self.tag()?)?;
         }
         Ok(tags)
     }
 
-    // Returns this number, unless there aren't as many nodes.
-    fn at_most(&self, wanted: u32) -> Result<usize, NodeFault>
-        ensures { IfErr result (λ e. e ≢ TooDeep) }
-    {
+    // Returns this number, or the number of nodes that are left if that is less. Each item has a node, so this is enough
+    // memory for so many items, and nodes that announce more items than follow can't demand more.
+    fn at_most(&self, wanted: u32) -> usize {
+        let nodes = self.nodes.len();
         let wanted = wanted as usize;
-        if wanted > self.nodes.len() {
-            return Err(NodeFault::OutOfRange);
-        }
-        Ok(wanted)
+        if wanted < nodes { wanted } else { nodes }
     }
 
     // Takes the metadata of an extension that has some.
+    #[tactic(auto, unfolding(crate::specs::Read::metadata_at))]
     fn metadata(&mut self, alloc: Global, is_there: bool) -> Result<Option<Vec<u8>>, NodeFault>
-        ensures there { IfOk result (λ b. has_bytes (bytes_of b) ≡ is_there) }
-        ensures nodes { IfOk result (λ b. self.old.nodes.now ≡ bytes_nodes (bytes_of b) ++ self.new.nodes.now) }
-        ensures texts { IfOk result (λ b. self.old.texts.now ≡ bytes_texts (bytes_of b) ++ self.new.texts.now) }
-        ensures errors { IfErr result (λ e. e ≢ TooDeep) }
+        ensures { Reads bytes_of result (left self.new) (metadata_at is_there (left self.old)) }
     {
         if !is_there {
             return Ok(None);
@@ -159,123 +202,102 @@ impl<'a> Rest<'a> {
     }
 }
 
-// Returns an error unless the node is the one that is expected.
-fn expect(node: &Node, expected: &Node) -> Result<(), NodeFault>
-    ensures same { IfOk result (λ _. node.now ≡ expected.now) }
-    ensures errors { IfErr result (λ e. e ≢ TooDeep) }
-{
-    if *node == *expected {
-        Ok(())
-    } else {
-        Err(NodeFault::OutOfRange)
-    }
-}
-
 // Reads a message, with at most so many levels below it.
 #[cycle(reading)]
+#[tactic(auto, unfolding(crate::specs::Read::message_by))]
 fn read(alloc: Global, rest: &mut Rest<'_>, levels: u32) -> Result<pb::DType, NodeFault>
-    ensures nodes { IfOk result (λ m. rest.old.nodes.now ≡ flat_nodes (message m) ++ rest.new.nodes.now) }
-    ensures texts { IfOk result (λ m. rest.old.texts.now ≡ flat_texts (message m) ++ rest.new.texts.now) }
-    ensures depth { IfOk result (λ m. depth (message m) ≤ levels) }
-    ensures too_deep { IfErr result (λ e. e ≡ TooDeep → levels < holders rest.old.nodes.now) }
+    ensures { Reads message result (left rest.new) (message_by (part_at levels) (left rest.old)) }
 {
-    let node = rest.node()?;
-    if node.kind == 0 {
-        expect(&node, &node::plain(0))?;
-        return Ok(pb::DType { dtype_type: None });
-    }
-    let kind = read_kind(alloc, &node, rest, levels)?;
+    let kind = rest.kind()?;
+    read_kind(alloc, kind, rest, levels)
+}
+
+// Reads what is behind the first node of a message, which is of this kind.
+#[cycle(reading)]
+#[tactic(auto, unfolding(crate::specs::Read::after_kind))]
+fn read_kind(
+    alloc: Global,
+    kind: NodeKind,
+    rest: &mut Rest<'_>,
+    levels: u32,
+) -> Result<pb::DType, NodeFault>
+    ensures { Reads message result (left rest.new) (after_kind (part_at levels) kind (left rest.old)) }
+{
+    let read = match kind {
+        NodeKind::Missing => return Ok(pb::DType { dtype_type: None }),
+        NodeKind::Null => pb::DtypeType::Null(pb::Null {}),
+        NodeKind::Bool { nullable } => pb::DtypeType::Bool(pb::Bool { nullable }),
+        NodeKind::Primitive { ptype, nullable } => {
+            pb::DtypeType::Primitive(pb::Primitive { ptype, nullable })
+        }
+        NodeKind::Decimal {
+            precision,
+            scale,
+            nullable,
+        } => pb::DtypeType::Decimal(pb::Decimal {
+            precision,
+            scale,
+            nullable,
+        }),
+        NodeKind::Utf8 { nullable } => pb::DtypeType::Utf8(pb::Utf8 { nullable }),
+        NodeKind::Binary { nullable } => pb::DtypeType::Binary(pb::Binary { nullable }),
+        NodeKind::List {
+            has_element,
+            nullable,
+        } => read_list(alloc, rest, has_element, nullable, levels)?,
+        NodeKind::FixedSizeList {
+            has_element,
+            size,
+            nullable,
+        } => read_fixed(alloc, rest, has_element, size, nullable, levels)?,
+        NodeKind::Map {
+            has_key,
+            has_value,
+            keys_sorted,
+            nullable,
+        } => read_map(
+            alloc,
+            rest,
+            (has_key, has_value),
+            keys_sorted,
+            nullable,
+            levels,
+        )?,
+        NodeKind::Struct {
+            names,
+            types,
+            nullable,
+        } => read_struct(alloc, rest, names, types, nullable, levels)?,
+        NodeKind::Union {
+            names,
+            tags,
+            types,
+            nullable,
+        } => read_union(alloc, rest, (names, tags, types), nullable, levels)?,
+        NodeKind::Variant { nullable } => pb::DtypeType::Variant(pb::Variant { nullable }),
+        NodeKind::Extension {
+            has_storage,
+            has_metadata,
+        } => read_extension(alloc, rest, has_storage, has_metadata, levels)?,
+        NodeKind::Text { .. } | NodeKind::Tag { .. } => return Err(NodeFault::OutOfRange),
+    };
     Ok(pb::DType {
-        dtype_type: Some(kind),
+        dtype_type: Some(read),
     })
 }
 
-// Reads a kind, of which this is the first node.
+// Reads the part of a list, if there is one.
 #[cycle(reading)]
-#[tactic(auto, using(std::proofs::lemmas::Grind::common_steps, crate::proofs::Lists::holders_more))]
-fn read_kind(
-    alloc: Global,
-    node: &Node,
-    rest: &mut Rest<'_>,
-    levels: u32,
-) -> Result<pb::DtypeType, NodeFault>
-    ensures nodes { IfOk result (λ k. node.now ∷ rest.old.nodes.now ≡ flat_nodes (kind_message k) ++ rest.new.nodes.now) }
-    ensures texts { IfOk result (λ k. rest.old.texts.now ≡ flat_texts (kind_message k) ++ rest.new.texts.now) }
-    ensures depth { IfOk result (λ k. depth (kind_message k) ≤ levels) }
-    ensures too_deep { IfErr result (λ e. e ≡ TooDeep → levels < holders (node.now ∷ rest.old.nodes.now)) }
-{
-    match node.kind {
-        7 => read_list(alloc, node, rest, levels),
-        8 => read_fixed(alloc, node, rest, levels),
-        9 => read_map(alloc, node, rest, levels),
-        10 => read_struct(alloc, node, rest, levels),
-        11 => read_union(alloc, node, rest, levels),
-        13 => read_extension(alloc, node, rest, levels),
-        _ => leaf(node),
-    }
-}
-
-// Returns the kind of a node that nothing follows.
-fn leaf(node: &Node) -> Result<pb::DtypeType, NodeFault>
-    ensures nodes { IfOk result (λ k. flat_nodes (kind_message k) ≡ node.now ∷ []) }
-    ensures texts { IfOk result (λ k. flat_texts (kind_message k) ≡ []) }
-    ensures depth { IfOk result (λ k. depth (kind_message k) ≡ 0) }
-    ensures errors { IfErr result (λ e. e ≢ TooDeep) }
-{
-    let nullable = node.nullable == 1;
-    match node.kind {
-        1 => {
-            expect(node, &node::plain(1))?;
-            Ok(pb::DtypeType::Null(pb::Null {}))
-        }
-        2 => {
-            expect(node, &node::flagged(2, nullable))?;
-            Ok(pb::DtypeType::Bool(pb::Bool { nullable }))
-        }
-        3 => {
-            expect(node, &node::primitive_node(node.value, nullable))?;
-            let ptype = node.value;
-            Ok(pb::DtypeType::Primitive(pb::Primitive { ptype, nullable }))
-        }
-        4 => {
-            expect(node, &node::decimal_node(node.number, node.value, nullable))?;
-            Ok(pb::DtypeType::Decimal(pb::Decimal {
-                precision: node.number,
-                scale: node.value,
-                nullable,
-            }))
-        }
-        5 => {
-            expect(node, &node::flagged(5, nullable))?;
-            Ok(pb::DtypeType::Utf8(pb::Utf8 { nullable }))
-        }
-        6 => {
-            expect(node, &node::flagged(6, nullable))?;
-            Ok(pb::DtypeType::Binary(pb::Binary { nullable }))
-        }
-        12 => {
-            expect(node, &node::flagged(12, nullable))?;
-            Ok(pb::DtypeType::Variant(pb::Variant { nullable }))
-        }
-        _ => Err(NodeFault::OutOfRange),
-    }
-}
-
-// Reads a list.
-#[cycle(reading)]
+#[tactic(auto, unfolding(crate::specs::Read::list_by))]
 fn read_list(
     alloc: Global,
-    node: &Node,
     rest: &mut Rest<'_>,
+    has_element: bool,
+    nullable: bool,
     levels: u32,
 ) -> Result<pb::DtypeType, NodeFault>
-    ensures nodes { IfOk result (λ k. node.now ∷ rest.old.nodes.now ≡ flat_nodes (kind_message k) ++ rest.new.nodes.now) }
-    ensures texts { IfOk result (λ k. rest.old.texts.now ≡ flat_texts (kind_message k) ++ rest.new.texts.now) }
-    ensures depth { IfOk result (λ k. depth (kind_message k) ≤ levels) }
-    ensures too_deep { IfErr result (λ e. e ≡ TooDeep → levels ≤ holders rest.old.nodes.now) }
+    ensures { Reads kind_message result (left rest.new) (list_by (part_at levels) has_element nullable (left rest.old)) }
 {
-    let (has_element, nullable) = (node.has_first == 1, node.nullable == 1);
-    expect(node, &node::part_node(7, has_element, 0, nullable))?;
     let element_type = read_child(alloc, rest, has_element, levels)?;
     let list = pb::List {
         element_type,
@@ -284,22 +306,19 @@ fn read_list(
     Ok(pb::DtypeType::List(Box::new(alloc, list)?))
 }
 
-// Reads a fixed-size list.
+// Reads the part of a fixed-size list, if there is one.
 #[cycle(reading)]
+#[tactic(auto, unfolding(crate::specs::Read::fixed_by))]
 fn read_fixed(
     alloc: Global,
-    node: &Node,
     rest: &mut Rest<'_>,
+    has_element: bool,
+    size: u32,
+    nullable: bool,
     levels: u32,
 ) -> Result<pb::DtypeType, NodeFault>
-    ensures nodes { IfOk result (λ k. node.now ∷ rest.old.nodes.now ≡ flat_nodes (kind_message k) ++ rest.new.nodes.now) }
-    ensures texts { IfOk result (λ k. rest.old.texts.now ≡ flat_texts (kind_message k) ++ rest.new.texts.now) }
-    ensures depth { IfOk result (λ k. depth (kind_message k) ≤ levels) }
-    ensures too_deep { IfErr result (λ e. e ≡ TooDeep → levels ≤ holders rest.old.nodes.now) }
+    ensures { Reads kind_message result (left rest.new) (fixed_by (part_at levels) has_element size nullable (left rest.old)) }
 {
-    let (has_element, nullable) = (node.has_first == 1, node.nullable == 1);
-    let size = node.number;
-    expect(node, &node::part_node(8, has_element, size, nullable))?;
     let element_type = read_child(alloc, rest, has_element, levels)?;
     let list = pb::FixedSizeList {
         element_type,
@@ -309,26 +328,20 @@ fn read_fixed(
     Ok(pb::DtypeType::FixedSizeList(Box::new(alloc, list)?))
 }
 
-// Reads a map.
+// Reads the key and the value of a map, as far as they are there.
 #[cycle(reading)]
-#[tactic(auto, using(std::proofs::lemmas::Grind::common_steps, crate::proofs::Lists::holders_both))]
+#[tactic(auto, unfolding(crate::specs::Read::map_by))]
 fn read_map(
     alloc: Global,
-    node: &Node,
     rest: &mut Rest<'_>,
+    has: (bool, bool),
+    keys_sorted: bool,
+    nullable: bool,
     levels: u32,
 ) -> Result<pb::DtypeType, NodeFault>
-    ensures nodes { IfOk result (λ k. node.now ∷ rest.old.nodes.now ≡ flat_nodes (kind_message k) ++ rest.new.nodes.now) }
-    ensures texts { IfOk result (λ k. rest.old.texts.now ≡ flat_texts (kind_message k) ++ rest.new.texts.now) }
-    ensures depth { IfOk result (λ k. depth (kind_message k) ≤ levels) }
-    ensures too_deep { IfErr result (λ e. e ≡ TooDeep → levels ≤ holders rest.old.nodes.now) }
+    ensures { Reads kind_message result (left rest.new) (map_by (part_at levels) has.0 has.1 keys_sorted nullable (left rest.old)) }
 {
-    let (has_key, has_value) = (node.has_first == 1, node.has_second == 1);
-    let (keys_sorted, nullable) = (node.keys_sorted == 1, node.nullable == 1);
-    expect(
-        node,
-        &node::map_node(has_key, has_value, keys_sorted, nullable),
-    )?;
+    let (has_key, has_value) = has;
     let key_type = read_child(alloc, rest, has_key, levels)?;
     let value_type = read_child(alloc, rest, has_value, levels)?;
     let map = pb::Map {
@@ -340,27 +353,21 @@ fn read_map(
     Ok(pb::DtypeType::Map(Box::new(alloc, map)?))
 }
 
-// Reads a struct.
+// Reads the names and the types of a struct.
 #[cycle(reading)]
-#[tactic(auto, using(std::proofs::lemmas::Grind::common_steps, crate::proofs::Lists::holders_both))]
+#[tactic(auto, unfolding(crate::specs::Read::struct_by))]
 fn read_struct(
     alloc: Global,
-    node: &Node,
     rest: &mut Rest<'_>,
+    names: u32,
+    types: u32,
+    nullable: bool,
     levels: u32,
 ) -> Result<pb::DtypeType, NodeFault>
-    ensures nodes { IfOk result (λ k. node.now ∷ rest.old.nodes.now ≡ flat_nodes (kind_message k) ++ rest.new.nodes.now) }
-    ensures texts { IfOk result (λ k. rest.old.texts.now ≡ flat_texts (kind_message k) ++ rest.new.texts.now) }
-    ensures depth { IfOk result (λ k. depth (kind_message k) ≤ levels) }
-    ensures too_deep { IfErr result (λ e. e ≡ TooDeep → levels ≤ holders rest.old.nodes.now) }
+    ensures { Reads kind_message result (left rest.new) (struct_by (part_at levels) names types nullable (left rest.old)) }
 {
-    let nullable = node.nullable == 1;
-    expect(
-        node,
-        &node::fields_node(10, node.names, 0, node.types, nullable),
-    )?;
-    let names = rest.names(alloc, node.names)?;
-    let dtypes = read_all(alloc, rest, node.types, levels)?;
+    let names = rest.names(alloc, names)?;
+    let dtypes = read_all(alloc, rest, types, levels)?;
     Ok(pb::DtypeType::Struct(pb::Struct {
         names,
         dtypes,
@@ -368,28 +375,22 @@ fn read_struct(
     }))
 }
 
-// Reads a union.
+// Reads the names, the tags and the types of a union, of which there are these numbers.
 #[cycle(reading)]
-#[tactic(auto, using(std::proofs::lemmas::Grind::common_steps, crate::proofs::Lists::holders_both))]
+#[tactic(auto, unfolding(crate::specs::Read::union_by))]
 fn read_union(
     alloc: Global,
-    node: &Node,
     rest: &mut Rest<'_>,
+    counts: (u32, u32, u32),
+    nullable: bool,
     levels: u32,
 ) -> Result<pb::DtypeType, NodeFault>
-    ensures nodes { IfOk result (λ k. node.now ∷ rest.old.nodes.now ≡ flat_nodes (kind_message k) ++ rest.new.nodes.now) }
-    ensures texts { IfOk result (λ k. rest.old.texts.now ≡ flat_texts (kind_message k) ++ rest.new.texts.now) }
-    ensures depth { IfOk result (λ k. depth (kind_message k) ≤ levels) }
-    ensures too_deep { IfErr result (λ e. e ≡ TooDeep → levels ≤ holders rest.old.nodes.now) }
+    ensures { Reads kind_message result (left rest.new) (union_by (part_at levels) counts.0 counts.1 counts.2 nullable (left rest.old)) }
 {
-    let nullable = node.nullable == 1;
-    expect(
-        node,
-        &node::fields_node(11, node.names, node.tags, node.types, nullable),
-    )?;
-    let names = rest.names(alloc, node.names)?;
-    let type_ids = rest.tags(alloc, node.tags)?;
-    let dtypes = read_all(alloc, rest, node.types, levels)?;
+    let (names, tags, types) = counts;
+    let names = rest.names(alloc, names)?;
+    let type_ids = rest.tags(alloc, tags)?;
+    let dtypes = read_all(alloc, rest, types, levels)?;
     Ok(pb::DtypeType::Union(pb::Union {
         names,
         dtypes,
@@ -398,25 +399,33 @@ fn read_union(
     }))
 }
 
-// Reads an extension.
+// Reads the id of an extension, and its metadata and its storage type as far as they are there.
 #[cycle(reading)]
-#[tactic(auto, using(std::proofs::lemmas::Grind::common_steps, crate::proofs::Lists::holders_both, crate::proofs::Lists::holders_least))]
+#[tactic(auto, unfolding(crate::specs::Read::extension_by))]
 fn read_extension(
     alloc: Global,
-    node: &Node,
     rest: &mut Rest<'_>,
+    has_storage: bool,
+    has_metadata: bool,
     levels: u32,
 ) -> Result<pb::DtypeType, NodeFault>
-    ensures nodes { IfOk result (λ k. node.now ∷ rest.old.nodes.now ≡ flat_nodes (kind_message k) ++ rest.new.nodes.now) }
-    ensures texts { IfOk result (λ k. rest.old.texts.now ≡ flat_texts (kind_message k) ++ rest.new.texts.now) }
-    ensures depth { IfOk result (λ k. depth (kind_message k) ≤ levels) }
-    ensures too_deep { IfErr result (λ e. e ≡ TooDeep → levels ≤ holders rest.old.nodes.now) }
+    ensures { Reads kind_message result (left rest.new) (extension_by (part_at levels) has_storage has_metadata (left rest.old)) }
 {
-    let (has_storage, has_metadata) = (node.has_first == 1, node.has_second == 1);
-    expect(node, &node::extension_node(has_storage, has_metadata))?;
     let id = rest.name(alloc)?;
     let metadata = rest.metadata(alloc, has_metadata)?;
     let storage_dtype = read_child(alloc, rest, has_storage, levels)?;
+    Ok(made_extension(alloc, id, metadata, storage_dtype)?)
+}
+
+fn made_extension(
+    alloc: Global,
+    id: String,
+    metadata: Option<Vec<u8>>,
+    storage_dtype: Option<Box<pb::DType>>,
+) -> Result<pb::DtypeType, NodeFault>
+    ensures made { IfOk result (λ k. kind_message k ≡ extension_of id metadata storage_dtype) }
+    ensures memory { IfErr result (λ e. e ≡ OutOfMemory) }
+{
     let extension = pb::Extension {
         id,
         storage_dtype,
@@ -427,31 +436,26 @@ fn read_extension(
 
 // Reads a part, a level deeper.
 #[cycle(reading)]
+#[tactic(auto, using(crate::proofs::Reading::parts))]
 fn read_part(alloc: Global, rest: &mut Rest<'_>, levels: u32) -> Result<pb::DType, NodeFault>
-    ensures nodes { IfOk result (λ m. rest.old.nodes.now ≡ flat_nodes (message m) ++ rest.new.nodes.now) }
-    ensures texts { IfOk result (λ m. rest.old.texts.now ≡ flat_texts (message m) ++ rest.new.texts.now) }
-    ensures depth { IfOk result (λ m. depth (message m) < levels) }
-    ensures too_deep { IfErr result (λ e. e ≡ TooDeep → levels ≤ holders rest.old.nodes.now) }
+    ensures { Reads message result (left rest.new) (part_at levels (left rest.old)) }
 {
-    match levels.checked_sub(1) {
-        Some(levels) => read(alloc, rest, levels),
-        None => Err(NodeFault::TooDeep),
+    if levels == 0 {
+        return Err(NodeFault::TooDeep);
     }
+    read(alloc, rest, levels - 1)
 }
 
 // Reads a part, if it is there, a level deeper.
 #[cycle(reading)]
+#[tactic(auto, unfolding(crate::specs::Read::child_by))]
 fn read_child(
     alloc: Global,
     rest: &mut Rest<'_>,
     is_there: bool,
     levels: u32,
 ) -> Result<Option<Box<pb::DType>>, NodeFault>
-    ensures there { IfOk result (λ c. is_present (child_message c) ≡ is_there) }
-    ensures nodes { IfOk result (λ c. rest.old.nodes.now ≡ part_nodes (child_message c) ++ rest.new.nodes.now) }
-    ensures texts { IfOk result (λ c. rest.old.texts.now ≡ part_texts (child_message c) ++ rest.new.texts.now) }
-    ensures depth { IfOk result (λ c. depth_child (child_message c) ≤ levels) }
-    ensures too_deep { IfErr result (λ e. e ≡ TooDeep → levels ≤ holders rest.old.nodes.now) }
+    ensures { Reads child_message result (left rest.new) (child_by (part_at levels) is_there (left rest.old)) }
 {
     if !is_there {
         return Ok(None);
@@ -462,20 +466,15 @@ fn read_child(
 
 // Reads this many messages, a level deeper.
 #[cycle(reading)]
-#[tactic(auto, using(std::proofs::lemmas::Grind::common_steps, crate::proofs::Lists::all_nodes_is, crate::proofs::Lists::all_texts_is, crate::proofs::Lists::count_is, crate::proofs::Lists::depth_push, crate::proofs::Lists::holders_both))]
 fn read_all(
     alloc: Global,
     rest: &mut Rest<'_>,
     wanted: u32,
     levels: u32,
 ) -> Result<Vec<pb::DType>, NodeFault>
-    ensures number { IfOk result (λ v. count (messages (map message v.items)) ≡ wanted) }
-    ensures nodes { IfOk result (λ v. rest.old.nodes.now ≡ all_nodes (messages (map message v.items)) ++ rest.new.nodes.now) }
-    ensures texts { IfOk result (λ v. rest.old.texts.now ≡ all_texts (messages (map message v.items)) ++ rest.new.texts.now) }
-    ensures depth { IfOk result (λ v. depth_all (messages (map message v.items)) ≤ levels) }
-    ensures too_deep { IfErr result (λ e. e ≡ TooDeep → levels ≤ holders rest.old.nodes.now) }
+    ensures { Reads (λ v. map message v.items) result (left rest.new) (times wanted (part_at levels) (left rest.old)) }
 {
-    let mut protos = Vec::with_capacity(alloc, rest.at_most(wanted)?)?;
+    let mut protos = Vec::with_capacity(alloc, rest.at_most(wanted))?;
     for _at in 0..wanted {
         protos.push(read_part(alloc, rest, levels)?)?;
     }

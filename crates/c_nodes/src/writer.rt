@@ -2,14 +2,17 @@
 // SPDX-FileCopyrightText: Copyright the Vortex contributors
 
 // Nodes and texts from messages.
-ghost use Rattle.std.specs.Prelude.{◌≡◌, ◌≢◌, ◌≤◌, ◌<◌, ◌∷◌, [], map, IfErr, IfOk, string_bytes};
+ghost use Rattle.std.specs.Prelude.{◌≡◌, ◌≢◌, ◌≤◌, ◌<◌, ◌∷◌, [], length, map, IfErr, IfOk, string_bytes};
 ghost use Rattle.std.specs.List.{flat_map};
 ghost use Rattle.dtype_messages.specs.Message.{messages};
 ghost use Rattle.dtype_messages.specs.MessageOf.{message, kind_message, child_message, bytes_of};
 ghost use Rattle.c_nodes.specs.Flat.{GrowsBy, flat_nodes, flat_texts, part_nodes, part_texts, all_nodes, all_texts, bytes_nodes, bytes_texts, text_node, tag_node, map_with, struct_of, union_of, extension_of};
 ghost use Rattle.c_nodes.specs.Depth.{depth, depth_all, depth_child};
-ghost use Rattle.c_nodes.specs.declared.fault.NodeFault.TheVariants.{TooDeep};
+ghost use Rattle.c_nodes.specs.Greatest.{bytes_count, greatest, greatest_all, greatest_child, longest, most_in_node};
+ghost use Rattle.c_nodes.specs.Written.{WritesNodes, WritesTexts};
+ghost use Rattle.c_nodes.specs.declared.fault.NodeFault.TheVariants.{OutOfRange, TooDeep};
 
+use crate::depth::fits;
 use crate::reader::MAX_LEVELS;
 use crate::{Node, NodeFault, node};
 use dtype_messages::pb;
@@ -28,20 +31,26 @@ struct Flat {
 /// # Errors
 ///
 /// - `TooDeep`: a message is nested in more than 128 others.
-/// - `OutOfRange`: a number of names, tags, types or bytes is above 2^32 - 1.
+/// - `OutOfRange`: no message is, and a number of names, tags, types or bytes is above 2^32 - 1.
 /// - `OutOfMemory`: an allocation fails.
 pub fn nodes_of(alloc: Global, proto: &pb::DType) -> Result<(Vec<Node>, Vec<u8>), NodeFault>
     ensures nodes { IfOk result (λ r. r.0.items ≡ flat_nodes (message proto.now)) }
     ensures texts { IfOk result (λ r. r.1.items ≡ flat_texts (message proto.now)) }
     ensures depth { IfOk result (λ _. depth (message proto.now) ≤ 128) }
+    ensures fits { IfOk result (λ _. greatest (message proto.now) ≤ most_in_node) }
     ensures too_deep { IfErr result (λ e. e ≡ TooDeep → 128 < depth (message proto.now)) }
+    ensures too_great { IfErr result (λ e. e ≡ OutOfRange
+        → (depth (message proto.now) ≤ 128) × (most_in_node < greatest (message proto.now))) }
 {
     let mut flat = Flat {
         nodes: Vec::new(alloc),
         texts: Vec::new(alloc),
     };
-    flat.message(proto, MAX_LEVELS)?;
-    Ok((flat.nodes, flat.texts))
+    match flat.message(proto, MAX_LEVELS) {
+        Ok(()) => Ok((flat.nodes, flat.texts)),
+        Err(NodeFault::OutOfRange) if !fits(proto, MAX_LEVELS) => Err(NodeFault::TooDeep),
+        Err(fault) => Err(fault),
+    }
 }
 
 impl Flat {
@@ -50,6 +59,7 @@ impl Flat {
         ensures nodes { IfOk result (λ _. GrowsBy (node ∷ []) self.old.nodes.items self.new.nodes.items) }
         ensures texts { self.new.texts.items ≡ self.old.texts.items }
         ensures errors { IfErr result (λ e. e ≢ TooDeep) }
+        ensures too_great { IfErr result (λ e. e ≢ OutOfRange) }
     {
         self.nodes.push(node)?;
         Ok(())
@@ -59,7 +69,9 @@ impl Flat {
     fn text(&mut self, text: &[u8]) -> Result<(), NodeFault>
         ensures nodes { IfOk result (λ _. GrowsBy (text_node text.now ∷ []) self.old.nodes.items self.new.nodes.items) }
         ensures texts { IfOk result (λ _. GrowsBy text.now self.old.texts.items self.new.texts.items) }
+        ensures fits { IfOk result (λ _. length text.now ≤ most_in_node) }
         ensures errors { IfErr result (λ e. e ≢ TooDeep) }
+        ensures too_great { IfErr result (λ e. e ≡ OutOfRange → most_in_node < length text.now) }
     {
         self.node(node::sized_node(number_of(text.len())?))?;
         self.texts.extend_from_slice(text)?;
@@ -67,10 +79,13 @@ impl Flat {
     }
 
     // Adds names with their nodes.
+    #[tactic(auto, using(std::proofs::lemmas::Grind::common_steps, crate::proofs::Lists::longest_push))]
     fn names(&mut self, names: &[String]) -> Result<(), NodeFault>
         ensures nodes { IfOk result (λ _. GrowsBy (map text_node (map string_bytes names.now)) self.old.nodes.items self.new.nodes.items) }
         ensures texts { IfOk result (λ _. GrowsBy (flat_map (λ n. n) (map string_bytes names.now)) self.old.texts.items self.new.texts.items) }
+        ensures fits { IfOk result (λ _. longest (map string_bytes names.now) ≤ most_in_node) }
         ensures errors { IfErr result (λ e. e ≢ TooDeep) }
+        ensures too_great { IfErr result (λ e. e ≡ OutOfRange → most_in_node < longest (map string_bytes names.now)) }
     {
         for name in names {
             self.text(name.as_bytes())?;
@@ -83,6 +98,7 @@ impl Flat {
         ensures nodes { IfOk result (λ _. GrowsBy (map tag_node tags.now) self.old.nodes.items self.new.nodes.items) }
         ensures texts { IfOk result (λ _. self.new.texts.items ≡ self.old.texts.items) }
         ensures errors { IfErr result (λ e. e ≢ TooDeep) }
+        ensures too_great { IfErr result (λ e. e ≢ OutOfRange) }
     {
         for tag in tags {
             self.node(node::tag_node(*tag))?;
@@ -94,7 +110,9 @@ impl Flat {
     fn metadata(&mut self, metadata: &Option<Vec<u8>>) -> Result<(), NodeFault>
         ensures nodes { IfOk result (λ _. GrowsBy (bytes_nodes (bytes_of metadata.now)) self.old.nodes.items self.new.nodes.items) }
         ensures texts { IfOk result (λ _. GrowsBy (bytes_texts (bytes_of metadata.now)) self.old.texts.items self.new.texts.items) }
+        ensures fits { IfOk result (λ _. bytes_count (bytes_of metadata.now) ≤ most_in_node) }
         ensures errors { IfErr result (λ e. e ≢ TooDeep) }
+        ensures too_great { IfErr result (λ e. e ≡ OutOfRange → most_in_node < bytes_count (bytes_of metadata.now)) }
     {
         match metadata {
             Some(bytes) => self.text(bytes),
@@ -105,10 +123,12 @@ impl Flat {
     // Adds a message, with at most so many levels below it.
     #[cycle(writing)]
     fn message(&mut self, proto: &pb::DType, levels: u32) -> Result<(), NodeFault>
-        ensures nodes { IfOk result (λ _. GrowsBy (flat_nodes (message proto.now)) self.old.nodes.items self.new.nodes.items) }
-        ensures texts { IfOk result (λ _. GrowsBy (flat_texts (message proto.now)) self.old.texts.items self.new.texts.items) }
+        ensures nodes { WritesNodes result (message proto.now) self.old.nodes.items self.new.nodes.items }
+        ensures texts { WritesTexts result (message proto.now) self.old.texts.items self.new.texts.items }
         ensures depth { IfOk result (λ _. depth (message proto.now) ≤ levels) }
         ensures too_deep { IfErr result (λ e. e ≡ TooDeep → levels < depth (message proto.now)) }
+        ensures fits { IfOk result (λ _. greatest (message proto.now) ≤ most_in_node) }
+        ensures too_great { IfErr result (λ e. e ≡ OutOfRange → most_in_node < greatest (message proto.now)) }
     {
         match &proto.dtype_type {
             Some(kind) => self.kind(kind, levels),
@@ -119,10 +139,12 @@ impl Flat {
     // Adds the message of a kind.
     #[cycle(writing)]
     fn kind(&mut self, kind: &pb::DtypeType, levels: u32) -> Result<(), NodeFault>
-        ensures nodes { IfOk result (λ _. GrowsBy (flat_nodes (kind_message kind.now)) self.old.nodes.items self.new.nodes.items) }
-        ensures texts { IfOk result (λ _. GrowsBy (flat_texts (kind_message kind.now)) self.old.texts.items self.new.texts.items) }
+        ensures nodes { WritesNodes result (kind_message kind.now) self.old.nodes.items self.new.nodes.items }
+        ensures texts { WritesTexts result (kind_message kind.now) self.old.texts.items self.new.texts.items }
         ensures depth { IfOk result (λ _. depth (kind_message kind.now) ≤ levels) }
         ensures too_deep { IfErr result (λ e. e ≡ TooDeep → levels < depth (kind_message kind.now)) }
+        ensures fits { IfOk result (λ _. greatest (kind_message kind.now) ≤ most_in_node) }
+        ensures too_great { IfErr result (λ e. e ≡ OutOfRange → most_in_node < greatest (kind_message kind.now)) }
     {
         match kind {
             pb::DtypeType::Null(_) => self.node(node::plain(1)),
@@ -181,10 +203,12 @@ impl Flat {
         nullable: bool,
         levels: u32,
     ) -> Result<(), NodeFault>
-        ensures nodes { IfOk result (λ _. GrowsBy (flat_nodes (map_with key.now value.now keys_sorted nullable)) self.old.nodes.items self.new.nodes.items) }
-        ensures texts { IfOk result (λ _. GrowsBy (flat_texts (map_with key.now value.now keys_sorted nullable)) self.old.texts.items self.new.texts.items) }
+        ensures nodes { WritesNodes result (map_with key.now value.now keys_sorted nullable) self.old.nodes.items self.new.nodes.items }
+        ensures texts { WritesTexts result (map_with key.now value.now keys_sorted nullable) self.old.texts.items self.new.texts.items }
         ensures depth { IfOk result (λ _. depth (map_with key.now value.now keys_sorted nullable) ≤ levels) }
         ensures too_deep { IfErr result (λ e. e ≡ TooDeep → levels < depth (map_with key.now value.now keys_sorted nullable)) }
+        ensures fits { IfOk result (λ _. greatest (map_with key.now value.now keys_sorted nullable) ≤ most_in_node) }
+        ensures too_great { IfErr result (λ e. e ≡ OutOfRange → most_in_node < greatest (map_with key.now value.now keys_sorted nullable)) }
     {
         let (has_key, has_value) = (key.is_some(), value.is_some());
         self.node(node::map_node(has_key, has_value, keys_sorted, nullable))?;
@@ -195,7 +219,7 @@ impl Flat {
 
     // Adds a struct.
     #[cycle(writing)]
-    #[tactic(auto, using(std::proofs::lemmas::Grind::common_steps, crate::proofs::Lists::all_nodes_is, crate::proofs::Lists::all_texts_is, crate::proofs::Lists::count_is, crate::proofs::Lists::depth_push, crate::proofs::Lists::depth_at))]
+    #[tactic(auto, using(std::proofs::lemmas::Grind::common_steps, crate::proofs::Lists::parts_of_lists))]
     fn fields(
         &mut self,
         names: &[String],
@@ -203,10 +227,12 @@ impl Flat {
         nullable: bool,
         levels: u32,
     ) -> Result<(), NodeFault>
-        ensures nodes { IfOk result (λ _. GrowsBy (flat_nodes (struct_of names.now dtypes.now nullable)) self.old.nodes.items self.new.nodes.items) }
-        ensures texts { IfOk result (λ _. GrowsBy (flat_texts (struct_of names.now dtypes.now nullable)) self.old.texts.items self.new.texts.items) }
+        ensures nodes { WritesNodes result (struct_of names.now dtypes.now nullable) self.old.nodes.items self.new.nodes.items }
+        ensures texts { WritesTexts result (struct_of names.now dtypes.now nullable) self.old.texts.items self.new.texts.items }
         ensures depth { IfOk result (λ _. depth (struct_of names.now dtypes.now nullable) ≤ levels) }
         ensures too_deep { IfErr result (λ e. e ≡ TooDeep → levels < depth (struct_of names.now dtypes.now nullable)) }
+        ensures fits { IfOk result (λ _. greatest (struct_of names.now dtypes.now nullable) ≤ most_in_node) }
+        ensures too_great { IfErr result (λ e. e ≡ OutOfRange → most_in_node < greatest (struct_of names.now dtypes.now nullable)) }
     {
         let (name_count, types) = (number_of(names.len())?, number_of(dtypes.len())?);
         self.node(node::fields_node(10, name_count, 0, types, nullable))?;
@@ -217,7 +243,7 @@ impl Flat {
 
     // Adds a union.
     #[cycle(writing)]
-    #[tactic(auto, using(std::proofs::lemmas::Grind::common_steps, crate::proofs::Lists::all_nodes_is, crate::proofs::Lists::all_texts_is, crate::proofs::Lists::count_is, crate::proofs::Lists::depth_push, crate::proofs::Lists::depth_at))]
+    #[tactic(auto, using(std::proofs::lemmas::Grind::common_steps, crate::proofs::Lists::parts_of_lists))]
     fn variants(
         &mut self,
         names: &[String],
@@ -226,10 +252,12 @@ impl Flat {
         nullable: bool,
         levels: u32,
     ) -> Result<(), NodeFault>
-        ensures nodes { IfOk result (λ _. GrowsBy (flat_nodes (union_of names.now type_ids.now dtypes.now nullable)) self.old.nodes.items self.new.nodes.items) }
-        ensures texts { IfOk result (λ _. GrowsBy (flat_texts (union_of names.now type_ids.now dtypes.now nullable)) self.old.texts.items self.new.texts.items) }
+        ensures nodes { WritesNodes result (union_of names.now type_ids.now dtypes.now nullable) self.old.nodes.items self.new.nodes.items }
+        ensures texts { WritesTexts result (union_of names.now type_ids.now dtypes.now nullable) self.old.texts.items self.new.texts.items }
         ensures depth { IfOk result (λ _. depth (union_of names.now type_ids.now dtypes.now nullable) ≤ levels) }
         ensures too_deep { IfErr result (λ e. e ≡ TooDeep → levels < depth (union_of names.now type_ids.now dtypes.now nullable)) }
+        ensures fits { IfOk result (λ _. greatest (union_of names.now type_ids.now dtypes.now nullable) ≤ most_in_node) }
+        ensures too_great { IfErr result (λ e. e ≡ OutOfRange → most_in_node < greatest (union_of names.now type_ids.now dtypes.now nullable)) }
     {
         let (name_count, types) = (number_of(names.len())?, number_of(dtypes.len())?);
         let tags = number_of(type_ids.len())?;
@@ -242,7 +270,7 @@ impl Flat {
 
     // Adds an extension.
     #[cycle(writing)]
-    #[tactic(auto, using(std::proofs::lemmas::Grind::common_steps, crate::proofs::Lists::all_nodes_is, crate::proofs::Lists::all_texts_is, crate::proofs::Lists::count_is, crate::proofs::Lists::depth_push, crate::proofs::Lists::depth_at))]
+    #[tactic(auto, using(std::proofs::lemmas::Grind::common_steps, crate::proofs::Lists::parts_of_lists))]
     fn extension(
         &mut self,
         id: &String,
@@ -250,10 +278,12 @@ impl Flat {
         storage: &Option<Box<pb::DType>>,
         levels: u32,
     ) -> Result<(), NodeFault>
-        ensures nodes { IfOk result (λ _. GrowsBy (flat_nodes (extension_of id.now metadata.now storage.now)) self.old.nodes.items self.new.nodes.items) }
-        ensures texts { IfOk result (λ _. GrowsBy (flat_texts (extension_of id.now metadata.now storage.now)) self.old.texts.items self.new.texts.items) }
+        ensures nodes { WritesNodes result (extension_of id.now metadata.now storage.now) self.old.nodes.items self.new.nodes.items }
+        ensures texts { WritesTexts result (extension_of id.now metadata.now storage.now) self.old.texts.items self.new.texts.items }
         ensures depth { IfOk result (λ _. depth (extension_of id.now metadata.now storage.now) ≤ levels) }
         ensures too_deep { IfErr result (λ e. e ≡ TooDeep → levels < depth (extension_of id.now metadata.now storage.now)) }
+        ensures fits { IfOk result (λ _. greatest (extension_of id.now metadata.now storage.now) ≤ most_in_node) }
+        ensures too_great { IfErr result (λ e. e ≡ OutOfRange → most_in_node < greatest (extension_of id.now metadata.now storage.now)) }
     {
         let (has_storage, has_metadata) = (storage.is_some(), metadata.is_some());
         self.node(node::extension_node(has_storage, has_metadata))?;
@@ -266,10 +296,12 @@ impl Flat {
     // Adds a part, a level deeper.
     #[cycle(writing)]
     fn part(&mut self, proto: &pb::DType, levels: u32) -> Result<(), NodeFault>
-        ensures nodes { IfOk result (λ _. GrowsBy (flat_nodes (message proto.now)) self.old.nodes.items self.new.nodes.items) }
-        ensures texts { IfOk result (λ _. GrowsBy (flat_texts (message proto.now)) self.old.texts.items self.new.texts.items) }
+        ensures nodes { WritesNodes result (message proto.now) self.old.nodes.items self.new.nodes.items }
+        ensures texts { WritesTexts result (message proto.now) self.old.texts.items self.new.texts.items }
         ensures depth { IfOk result (λ _. depth (message proto.now) < levels) }
         ensures too_deep { IfErr result (λ e. e ≡ TooDeep → levels ≤ depth (message proto.now)) }
+        ensures fits { IfOk result (λ _. greatest (message proto.now) ≤ most_in_node) }
+        ensures too_great { IfErr result (λ e. e ≡ OutOfRange → most_in_node < greatest (message proto.now)) }
     {
         match levels.checked_sub(1) {
             Some(levels) => self.message(proto, levels),
@@ -284,6 +316,8 @@ impl Flat {
         ensures texts { IfOk result (λ _. GrowsBy (part_texts (child_message child.now)) self.old.texts.items self.new.texts.items) }
         ensures depth { IfOk result (λ _. depth_child (child_message child.now) ≤ levels) }
         ensures too_deep { IfErr result (λ e. e ≡ TooDeep → levels < depth_child (child_message child.now)) }
+        ensures fits { IfOk result (λ _. greatest_child (child_message child.now) ≤ most_in_node) }
+        ensures too_great { IfErr result (λ e. e ≡ OutOfRange → most_in_node < greatest_child (child_message child.now)) }
     {
         match child {
             Some(proto) => self.part(proto, levels),
@@ -293,12 +327,14 @@ impl Flat {
 
     // Adds messages, a level deeper.
     #[cycle(writing)]
-    #[tactic(auto, using(std::proofs::lemmas::Grind::common_steps, crate::proofs::Lists::all_nodes_is, crate::proofs::Lists::all_texts_is, crate::proofs::Lists::count_is, crate::proofs::Lists::depth_push, crate::proofs::Lists::depth_at))]
+    #[tactic(auto, using(std::proofs::lemmas::Grind::common_steps, crate::proofs::Lists::parts_of_lists))]
     fn all(&mut self, protos: &[pb::DType], levels: u32) -> Result<(), NodeFault>
         ensures nodes { IfOk result (λ _. GrowsBy (all_nodes (messages (map message protos.now))) self.old.nodes.items self.new.nodes.items) }
         ensures texts { IfOk result (λ _. GrowsBy (all_texts (messages (map message protos.now))) self.old.texts.items self.new.texts.items) }
         ensures depth { IfOk result (λ _. depth_all (messages (map message protos.now)) ≤ levels) }
         ensures too_deep { IfErr result (λ e. e ≡ TooDeep → levels < depth_all (messages (map message protos.now))) }
+        ensures fits { IfOk result (λ _. greatest_all (messages (map message protos.now)) ≤ most_in_node) }
+        ensures too_great { IfErr result (λ e. e ≡ OutOfRange → most_in_node < greatest_all (messages (map message protos.now))) }
     {
         for proto in protos {
             self.part(proto, levels)?;
@@ -310,7 +346,9 @@ impl Flat {
 // Returns the number, if it fits 32 bits.
 fn number_of(number: usize) -> Result<u32, NodeFault>
     ensures number { IfOk result (λ n. n ≡ number) }
+    ensures fits { IfOk result (λ _. number ≤ most_in_node) }
     ensures errors { IfErr result (λ e. e ≢ TooDeep) }
+    ensures too_great { IfErr result (λ e. e ≡ OutOfRange → most_in_node < number) }
 {
     match u32::try_from(number) {
         Ok(number) => Ok(number),

@@ -1,12 +1,11 @@
 -- SPDX-License-Identifier: Apache-2.0
 -- SPDX-FileCopyrightText: Copyright the Vortex contributors
 
-use Rattle.std.proofs.Common.{◌≡◌, ◌≤◌, ◌+◌, ◌*◌, ◌++◌, map, length}
-use Rattle.std.specs.List.{flat_map}
-use Rattle.dtype_messages.specs.Message.{messages}
+use Rattle.std.proofs.Common.{◌≡◌, ◌+◌, ◌*◌, ◌-◌, map}
 use Rattle.dtype_messages.specs.MessageOf.{message}
-use Rattle.c_nodes.specs.Depth.{depth_all}
-use Rattle.c_nodes.specs.Flat.{flat_nodes, flat_texts}
+use Rattle.c_nodes.specs.Read.{part_at, times}
+use Rattle.c_nodes.specs.Rests.{left}
+use Rattle.c_nodes.proofs.Reading.{behind}
 use Rattle.c_nodes.proofs.reader.+reading.Given as goal
 
 abbrev pub decreases-read : goal.decreases-read
@@ -42,11 +41,6 @@ decreases-read_part l = l.levels * 6
 abbrev pub decreases-read_all : goal.decreases-read_all
 decreases-read_all l = l.levels * 6 + 1
 
--- what was read of the messages so far, before what is left, is all that there was, and none of it is too deep
+-- the messages so far, and those that are still read, are all that is read
 abbrev pub invariant-read_all-loop-at : goal.invariant-read_all-loop-at
-invariant-read_all-loop-at l = record {
-  length : length l.protos.items ≡ l._at;
-  nodes : flat_map flat_nodes (map message l.protos.items) ++ l.rest.nodes.now ≡ l.fn.rest.nodes.now;
-  texts : flat_map flat_texts (map message l.protos.items) ++ l.rest.texts.now ≡ l.fn.rest.texts.now;
-  depth : depth_all (messages (map message l.protos.items)) ≤ l.levels;
-}
+invariant-read_all-loop-at l = behind (map message l.protos.items) (times (l.wanted - l._at) (part_at l.levels) (left l.rest)) ≡ times l.wanted (part_at l.levels) (left l.fn.rest)

@@ -1,0 +1,6 @@
+-- SPDX-License-Identifier: Apache-2.0
+-- SPDX-FileCopyrightText: Copyright the Vortex contributors
+
+pub mod Faults
+pub mod Formats
+pub mod Numbers

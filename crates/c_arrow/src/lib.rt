@@ -1,0 +1,35 @@
+// SPDX-License-Identifier: Apache-2.0
+// SPDX-FileCopyrightText: Copyright the Vortex contributors
+
+//! Types to and from Arrow's C data interface. The schemas of that interface are in a flat form here: an array of
+//! [`ArrowNode`]s in pre-order, and the bytes of the formats, names and metadata.
+//!
+//! `dtype_of` returns the type of a schema, and `nodes_of` the schema of a type. For example, the schema of the type
+//! `{a=i32?}` has two nodes: a struct with the format `+s`, and its child `a` with the format `i` and the flag 2.
+//!
+//! What is proved:
+//! - The type that `dtype_of` returns is valid and has at most 128 levels, whatever the nodes and the texts are.
+//! - What a format says is exactly what the table in `specs/Formats` says, and numbers in formats are exactly those of
+//!   `specs/Numbers`. For example, `+w:3` is a fixed-size list of 3 elements, and `w:-1` is no format.
+//! - Both functions return for all nodes, texts and types, without an overflow or an index out of range. At most 300 fields
+//!   are read inside one another.
+//!
+//! What is tested in `tests_arrow` and not proved: which type a schema has beyond its formats, for example which flag makes
+//! it nullable, and which child is the key of a map; which fault is returned, with which path; which nodes and texts are
+//! written of a type; and that what is written is read back as the same type.
+#![tactic(auto)]
+
+pub use fault::{ArrowFault, Problem, Refusal};
+pub use node::ArrowNode;
+pub use reader::dtype_of;
+pub use writer::nodes_of;
+
+mod fault;
+mod format;
+mod ids;
+mod keys;
+mod node;
+mod numbers;
+mod reader;
+mod temporal;
+mod writer;

@@ -2,7 +2,7 @@
 -- SPDX-FileCopyrightText: Copyright the Vortex contributors
 
 -- The levels of a struct and of a union are those over the types of their fields and variants.
-use Rattle.std.proofs.Common.{◌≡◌, ◌∙◌, ◌+◌, ℕ, List, [], ◌∷◌, map, max, ap, refl}
+use Rattle.std.proofs.Common.{◌≡◌, ◌+◌, ℕ, List, [], ◌∷◌, max, ap, refl}
 use Rattle.dtype_types.specs.parts.Lookups.{field_types, variant_types}
 use Rattle.dtype_types.specs.tree.Tree.{Tree, fields, variants}
 use Rattle.vortex_logical_types.specs.Levels.{levels, levels_of_items, levels_over}

@@ -1,27 +1,23 @@
 -- SPDX-License-Identifier: Apache-2.0
 -- SPDX-FileCopyrightText: Copyright the Vortex contributors
 
--- Reading several names, and what several slots have, one by one.
-use Rattle.std.proofs.Common.{◌≡◌, ◌≢◌, ◌⊎◌, inl, inr, ◌+◌, ◌<◌, ◌≤◌, ◌++◌, ◌∷◌, ℕ, zero, suc, List, [], Option, Some, None, if◌then◌else◌, drop, get_or, length, option_map, set, take, refl, ap, sym, subst, ◌∙◌, arith}
-use Rattle.std.proofs.lemmas.Bool.{le-leb, lt-leb}
+-- Reading several names one by one, and what several slots contain.
+use Rattle.std.proofs.Common.{◌≡◌, ◌⊎◌, inl, inr, ◌+◌, ◌<◌, ◌≤◌, ◌++◌, ◌∷◌, ℕ, zero, suc, List, [], Option, Some, None, if◌then◌else◌, drop, get_or, length, option_map, set, take, refl, ap, sym, subst, ◌∙◌, arith}
+use Rattle.std.proofs.lemmas.Bool.{le-leb}
 use Rattle.std.specs.List.{AllByRecursion}
 use Rattle.std.specs.Str.{IsUtf8}
-use Rattle.std.proofs.lemmas.List.{append_assoc, drop_all, drop_more, length-map}
-use Rattle.c_objects.specs.declared.object.Object.{Object}
+use Rattle.std.proofs.lemmas.List.{append_assoc, drop_more, length-map}
 use Rattle.c_objects.specs.declared.slot.Slot.{Slot}
-use Rattle.vortex_logical_types.specs.Several.{Adds, NamesFault, each_in, in_front, names_cut, objects_in}
+use Rattle.vortex_logical_types.specs.Several.{NamesFault, names_cut, objects_in}
 
 -- an item before what is left, behind what was read
 pub behind : {X : Type 0} (all : List X) (x : X) (o : Option (List X)) → option_map (λ r. all ++ r) (option_map (λ r. x ∷ r) o) ≡ option_map (λ r. (all ++ x ∷ []) ++ r) o
 behind all x None = refl
 behind all x (Some r) = ap Some (sym (append_assoc all (x ∷ []) r))
 
--- a name that fits is cut, and one that doesn't leaves none
+-- a name that fits is cut
 pub cut_more : (bytes ls : List ℕ) (l : ℕ) → l ≤ length bytes → names_cut bytes (l ∷ ls) ≡ option_map (λ ns. take l bytes ∷ ns) (names_cut (drop l bytes) ls)
 cut_more bytes ls l h = ap (λ b. if b then option_map (λ ns. take l bytes ∷ ns) (names_cut (drop l bytes) ls) else None) (le-leb l (length bytes) h)
-
-pub cut_short : (bytes ls : List ℕ) (l : ℕ) → length bytes < l → names_cut bytes (l ∷ ls) ≡ None
-cut_short bytes ls l h = ap (λ b. if b then option_map (λ ns. take l bytes ∷ ns) (names_cut (drop l bytes) ls) else None) (lt-leb l (length bytes) h)
 
 -- the next name
 pub names_step : (all new : List (List ℕ)) (bytes others name lengths : List ℕ) (i : ℕ) → i < length lengths → get_or lengths i 0 ≤ length bytes
@@ -35,12 +31,6 @@ names_step all new bytes others name lengths i lt fits name_is others_is new_is 
     ∙ ap (λ n. option_map (λ r. n ++ r) (names_cut (drop (get_or lengths i 0) bytes) (drop (i + 1) lengths))) (sym new_is)
     ∙ ap (λ b. option_map (λ r. new ++ r) (names_cut b (drop (i + 1) lengths))) (sym others_is)
 
-pub names_fail : (all : List (List ℕ)) (bytes lengths : List ℕ) (i : ℕ) → i < length lengths → length bytes < get_or lengths i 0
-    → option_map (λ r. all ++ r) (names_cut bytes (drop i lengths)) ≡ None
-names_fail all bytes lengths i lt short =
-    ap (λ ls. option_map (λ r. all ++ r) (names_cut bytes ls)) (drop_more lengths i 0 lt)
-    ∙ ap (option_map (λ r. all ++ r)) (cut_short bytes (drop (i + 1) lengths) (get_or lengths i 0) short)
-
 module _ (size : ℕ → ℕ) where
   -- the first fault of the names from one on, if that one is at fault, or if a later one is
   pub fault_here : (bytes lengths : List ℕ) (i : ℕ) → i < length lengths → (code : ℕ)
@@ -53,10 +43,6 @@ module _ (size : ℕ → ℕ) where
       → others ≡ drop (size (get_or lengths i 0)) bytes → NamesFault size others (drop (i + 1) lengths) code → NamesFault size bytes (drop i lengths) code
   fault_later bytes others lengths i code lt fits text is f =
       subst (λ ls. NamesFault size bytes ls code) (sym (drop_more lengths i 0 lt)) (inr (fits, inr (text, subst (λ b. NamesFault size b (drop (i + 1) lengths) code) is f)))
-
-  -- bytes are left after the last name
-  pub fault_left : (bytes lengths : List ℕ) (i : ℕ) → length lengths ≤ i → bytes ≢ [] → NamesFault size bytes (drop i lengths) 9
-  fault_left bytes lengths i ge some = subst (λ ls. NamesFault size bytes ls 9) (sym (drop_all i lengths ge)) (refl, some)
 
 -- one more name that is UTF-8
 pub texts_more : {X : Type 0} (P : X → Type 0) (ns : List X) (n : X) → AllByRecursion P ns → P n → AllByRecursion P (ns ++ n ∷ [])
@@ -77,27 +63,3 @@ object_in (s ∷ ss) (suc i) d lt = object_in ss i d (omega arith)
 
 pub below_objects : (slots : List Slot) (i : ℕ) → i < length slots → i < length (objects_in slots)
 below_objects slots i lt = omega (arith, lt, length-map slots (λ (s : Slot). s.value))
-
--- the objects from a slot on
-objects_next : (slots : List Slot) (i : ℕ) (d : Slot) → i < length slots → drop i (objects_in slots) ≡ (get_or slots i d).value ∷ drop (i + 1) (objects_in slots)
-objects_next slots i d lt = drop_more (objects_in slots) i None (below_objects slots i lt) ∙ ap (λ o. o ∷ drop (i + 1) (objects_in slots)) (object_in slots i d lt)
-
-module _ {X : Type 0} (see : Option Object → Option X) where
-  -- the next object
-  step_at : (all new : List X) (o : Option X) (rest : Option (List X)) → Adds o all new → option_map (λ r. all ++ r) (in_front o rest) ≡ option_map (λ r. new ++ r) rest
-  step_at all new None rest added = absurd added
-  step_at all new (Some x) rest added = behind all x rest ∙ ap (λ n. option_map (λ r. n ++ r) rest) (sym added)
-
-  pub slots_step : (all new : List X) (slots : List Slot) (start : List (Option Object)) (i : ℕ) (d : Slot) → i < length slots → objects_in slots ≡ start → Adds (see (get_or slots i d).value) all new
-      → option_map (λ r. all ++ r) (each_in see (drop i start)) ≡ option_map (λ r. new ++ r) (each_in see (drop (i + 1) start))
-  slots_step all new slots start i d lt same added =
-      subst (λ os. option_map (λ r. all ++ r) (each_in see (drop i os)) ≡ option_map (λ r. new ++ r) (each_in see (drop (i + 1) os))) same
-      (ap (λ os. option_map (λ r. all ++ r) (each_in see os)) (objects_next slots i d lt)
-      ∙ step_at all new (see (get_or slots i d).value) (each_in see (drop (i + 1) (objects_in slots))) added)
-
-  pub slots_fail : (all : List X) (slots : List Slot) (start : List (Option Object)) (i : ℕ) (d : Slot) → i < length slots → objects_in slots ≡ start → see (get_or slots i d).value ≡ None
-      → option_map (λ r. all ++ r) (each_in see (drop i start)) ≡ None
-  slots_fail all slots start i d lt same none =
-      subst (λ os. option_map (λ r. all ++ r) (each_in see (drop i os)) ≡ None) same
-      (ap (λ os. option_map (λ r. all ++ r) (each_in see os)) (objects_next slots i d lt)
-      ∙ ap (λ o. option_map (λ r. all ++ r) (in_front o (each_in see (drop (i + 1) (objects_in slots))))) none)

@@ -3,7 +3,7 @@
 
 -- How many levels of parts a type has. A choice of ours: no export makes a type of more than 128 levels, so that dropping a
 -- type can't exhaust the stack. (Of the exports that read a type from a text, no contract says this.)
-use Rattle.std.specs.Prelude.{◌+◌, ℕ, List, [], ◌∷◌, max}
+use Rattle.std.specs.Prelude.{◌≡◌, ◌⊎◌, ◌+◌, ◌<◌, ℕ, List, [], ◌∷◌, max}
 use Rattle.dtype_types.specs.tree.Tree.{Tree, Holder, Items, list, fixed_size_list, map_of, struct, union, extension, no_items, item}
 
 -- 0 of a type without parts such as i32, and otherwise one more than the greatest number among its parts: 2 of list(list(i32))
@@ -25,3 +25,8 @@ abbrev mutual
 abbrev pub levels_over : List Tree → ℕ
 levels_over [] = 0
 levels_over (t ∷ ts) = max (1 + levels t) (levels_over ts)
+
+-- the number that is returned if nothing can be made that has parts of these types: 6 if it would have more than 128 levels, and
+-- 100 if an allocation fails
+abbrev pub RefusesDeep : List Tree → ℕ → Type 0
+RefusesDeep ts code = ((code ≡ 6) × (128 < levels_over ts)) ⊎ (code ≡ 100)

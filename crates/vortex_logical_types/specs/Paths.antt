@@ -6,6 +6,7 @@ use Rattle.std.specs.Prelude.{◌≡◌, ◌≢◌, ◌⊎◌, ℕ, Bool, true, 
 use Rattle.std.specs.FinSet as set
 use Rattle.std.specs.Hash.DefaultHasher as sip
 use Rattle.c_objects.specs.declared.object.Object.{Object}
+use Rattle.dtype_base.specs.declared.vortex_error.VortexError.TheVariants.{AllMask, ExactRoot}
 use Rattle.dtype_paths.specs.Hashes.{path_writes}
 use Rattle.dtype_paths.specs.PathOrder.{PathSet, set_of}
 use Rattle.dtype_paths.specs.PathPredicates.{AreNames, PathPredicate, after_step, no_path}
@@ -14,7 +15,7 @@ use Rattle.dtype_paths.specs.declared.field.Field.TheVariants.{ElementType, Name
 use Rattle.dtype_paths.specs.declared.field_mask.FieldMask.{FieldMask}
 use Rattle.dtype_paths.specs.declared.field_mask.FieldMask.TheVariants.{All, Exact, Prefix}
 use Rattle.vortex_logical_types.specs.Slots.{set_in}
-use Rattle.vortex_logical_types.specs.Vocabulary.{Buffer, FillsWith, Outcome, found, gives, gives_some, refuses, tells}
+use Rattle.vortex_logical_types.specs.Vocabulary.{Buffer, Failed, FillsWith, Outcome, fails_with, found, gives, gives_some, refuses, tells}
 
 -- the hash of a path by std's hasher
 abbrev pub hash_of_path : List Field → ℕ
@@ -39,7 +40,13 @@ FillsWithStep ElementType code old new = (code ≡ 0) × (new.0 ≡ old.0) × (n
 
 -- the result is a step, which is written
 abbrev pub FillsStep : Outcome Field → ℕ → Buffer → Buffer → Type 0
-FillsStep o code old new = o (λ P. P code × (new ≡ old)) (λ P. (f : Field) × P f × FillsWithStep f code old new)
+FillsStep o code old new = o (λ P. P code × (new ≡ old)) (λ P. ⊥) (λ P. (f : Field) × P f × FillsWithStep f code old new)
+
+-- The same, and a reason is stored in the slot `error`. For example, `FillsStepOr (on (mask_in ..) first_step) result
+-- (buffer.old, length.old) (buffer.new, length.new) error.old.value error.new.value`.
+abbrev pub FillsStepOr : Outcome Field → ℕ → Buffer → Buffer → Option Object → Option Object → Type 0
+FillsStepOr o code old new was is =
+    o (λ P. P code × (new ≡ old) × (is ≡ was)) (λ P. Failed P code is × (new ≡ old)) (λ P. ((f : Field) × P f × FillsWithStep f code old new) × (is ≡ was))
 
 -- the number of the kind of a mask, and the path of a mask
 abbrev pub mask_number : FieldMask → ℕ
@@ -52,14 +59,14 @@ mask_path All = None
 mask_path (Prefix p) = Some p
 mask_path (Exact p) = Some p
 
--- the mask that is left after a step; 120 if there is none, which is so of the mask that selects only the root
+-- the mask that is left after a step; `ExactRoot` if there is none, which is so of the mask that selects only the root
 abbrev pub stepped : Option FieldMask → Outcome FieldMask
-stepped None = refuses 120
+stepped None = fails_with ExactRoot
 stepped (Some m) = gives m
 
--- the first step of the path of a mask; 121 if it is the mask of everything, which has no path
+-- the first step of the path of a mask; `AllMask` if it is the mask of everything, which has no path
 abbrev pub first_step : FieldMask → Outcome Field
-first_step All = refuses 121
+first_step All = fails_with AllMask
 first_step (Prefix p) = found (slice_get p 0) gives
 first_step (Exact p) = found (slice_get p 0) gives
 
@@ -79,14 +86,16 @@ CountsNames w count = (ns : List (List ℕ × PathPredicate)) × AreNames w ns �
 
 -- what is found of the paths w that a set asks for below a path; 1 if there are none
 abbrev pub describes_below : PathPredicate → Outcome Below
-describes_below w No Yes =
-    ((w ≢ no_path) × gives_some (λ b. (b.0 ≡ w []) × TellsElement w b.1 × CountsNames w b.2) No Yes) ⊎ ((w ≡ no_path) × refuses 1 No Yes)
+describes_below w No Why Yes =
+    ((w ≢ no_path) × gives_some (λ b. (b.0 ≡ w []) × TellsElement w b.1 × CountsNames w b.2) No Why Yes) ⊎ ((w ≡ no_path) × refuses 1 No Why Yes)
+
+-- Paths of one step each, to the names with which the paths w go on. For example, of the paths `b.c` and `d` they are `b` and `d`.
+abbrev pub AreFirstSteps : PathPredicate → List (List Field) → Type 0
+AreFirstSteps w ps = (ns : List (List ℕ × PathPredicate)) × AreNames w ns × (ps ≡ map (λ e. Name e.0 ∷ []) ns)
 
 -- the names with which the paths w go on, as paths of one step; 1 if there are no paths
 abbrev pub lists_names : PathPredicate → Outcome (List (List Field))
-lists_names w No Yes =
-    ((w ≢ no_path) × gives_some (λ ps. (ns : List (List ℕ × PathPredicate)) × AreNames w ns × (ps ≡ map (λ e. Name e.0 ∷ []) ns)) No Yes)
-    ⊎ ((w ≡ no_path) × refuses 1 No Yes)
+lists_names w No Why Yes = ((w ≢ no_path) × gives_some (AreFirstSteps w) No Why Yes) ⊎ ((w ≡ no_path) × refuses 1 No Why Yes)
 
 -- A set gains the paths of a list, and 0 is returned. After a failed allocation it has those before some position, and 100 is
 -- returned.

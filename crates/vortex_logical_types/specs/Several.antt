@@ -3,15 +3,13 @@
 
 -- Several names, or several slots, that are passed to one call, and what exports make of them. `code` is the number
 -- that the export returns. `old` and `new` are what a slot or a number contains before and after the call.
-use Rattle.std.specs.Prelude.{◌≡◌, ◌≢◌, ◌⊎◌, ◌<◌, ◌≤◌, ◌++◌, ℕ, List, [], ◌∷◌, if◌then◌else◌, nat_le, drop, length, map, option_map, slice_get, take, IsUtf8, Option, Some, None}
+use Rattle.std.specs.Prelude.{◌≡◌, ◌≢◌, ◌⊎◌, ◌<◌, ◌≤◌, ℕ, List, [], ◌∷◌, if◌then◌else◌, nat_le, drop, length, map, option_map, slice_get, take, IsUtf8, Option, Some, None}
 use Rattle.std.specs.FinSet as set
 use Rattle.std.specs.List.{AllByRecursion}
 use Rattle.c_objects.specs.declared.object.Object.{Object}
 use Rattle.c_objects.specs.declared.slot.Slot.{Slot}
 use Rattle.dtype_paths.specs.PathOrder.{PathSet, set_of}
 use Rattle.dtype_paths.specs.declared.field.Field.{Field}
-use Rattle.dtype_types.specs.tree.Tree.{Tree}
-use Rattle.vortex_logical_types.specs.Levels.{levels_over}
 use Rattle.vortex_logical_types.specs.Slots.{path_in, set_in}
 use Rattle.vortex_logical_types.specs.Vocabulary.{OfThe, Outcome}
 
@@ -46,8 +44,8 @@ AreTexts bytes lengths = OfThe (names_cut bytes lengths) (λ ns. AllByRecursion 
 -- What is done with names, or the number for their first fault. For example, of the bytes `idcity` and the lengths 2 and 4 it is
 -- what is done with `id` and `city`.
 abbrev pub with_names : {X : Type 0} → List ℕ → List ℕ → (List (List ℕ) → Outcome X) → Outcome X
-with_names bytes lengths f No Yes =
-    No (NamesFault whole bytes lengths) ⊎ (AreTexts bytes lengths × OfThe (names_cut bytes lengths) (λ ns. f ns No Yes))
+with_names bytes lengths f No Why Yes =
+    No (NamesFault whole bytes lengths) ⊎ (AreTexts bytes lengths × OfThe (names_cut bytes lengths) (λ ns. f ns No Why Yes))
 
 -- the objects in several slots
 abbrev pub objects_in : List Slot → List (Option Object)
@@ -62,22 +60,6 @@ in_front (Some x) rest = option_map (λ xs. x ∷ xs) rest
 abbrev pub each_in : {X : Type 0} → (Option Object → Option X) → List (Option Object) → Option (List X)
 each_in see [] = Some []
 each_in see (o ∷ os) = in_front (see o) (each_in see os)
-
--- a list gains a value at its end; there has to be a value
-abbrev pub Adds : {X : Type 0} → Option X → List X → List X → Type 0
-Adds None old new = ⊥
-Adds (Some x) old new = new ≡ old ++ (x ∷ [])
-
--- each slot contains a type, and one of the types has more than 127 levels
-abbrev pub AreDeep : Option (List Tree) → Type 0
-AreDeep None = ⊥
-AreDeep (Some ts) = 128 < levels_over ts
-
--- The number that is returned if names or types can't be used: that of the first fault of the names. If they can be read, 2 if a
--- slot contains no type, and 6 if each does and a type has more than 127 levels. 100 if an allocation fails.
-abbrev pub RefusesParts : List ℕ → List ℕ → Option (List Tree) → ℕ → Type 0
-RefusesParts bytes lengths types code =
-    (NamesFault whole bytes lengths code ⊎ (code ≡ 100)) ⊎ (AreTexts bytes lengths × (((code ≡ 6) × AreDeep types) ⊎ ((code ≡ 2) × (types ≡ None))))
 
 -- a set gains the paths that slots contain; each slot has to contain one
 abbrev pub GainsFirst : Option (List (List Field)) → PathSet → PathSet → Type 0

@@ -2,29 +2,27 @@
 -- SPDX-FileCopyrightText: Copyright the Vortex contributors
 
 -- What single calls for types do: outcomes, and what they find in a type.
-use Rattle.std.specs.Prelude.{◌≡◌, ◌⊎◌, ◌+◌, ◌++◌, ◌<◌, ◌≤◌, ◌==◌, if◌then◌else◌, ℕ, ℤ, Bool, List, Option, Some, None, Result, Ok, Err, fold, length, remove}
+use Rattle.std.specs.Prelude.{◌≡◌, ◌⊎◌, ◌++◌, ◌<◌, ◌≤◌, ◌==◌, if◌then◌else◌, ℕ, ℤ, Bool, List, Option, Some, None, Result, Ok, Err, fold, length, remove}
 use Rattle.std.specs.Hash.DefaultHasher as sip
 use Rattle.std.specs.List.{range_with_len, zip}
 use Rattle.dtype_base.specs.Decimals.{Decimal, DecimalError, IsDecimalWithin, greatest_precision}
 use Rattle.dtype_base.specs.Distinct.{Distinct}
-use Rattle.dtype_base.specs.Errors.{number_of}
-use Rattle.dtype_base.specs.FieldNames.{IsFirstAbsent}
+use Rattle.dtype_base.specs.FieldNames.{SelectionError}
 use Rattle.dtype_base.specs.declared.nullability.Nullability.{Nullability}
 use Rattle.dtype_base.specs.declared.nullability.Nullability.TheVariants.{NonNullable}
 use Rattle.dtype_base.specs.declared.ptype.PType.{PType}
 use Rattle.dtype_base.specs.declared.ptype.PType.TheVariants.{U8, U16, U32, U64, I8, I16, I32, I64, F16, F32, F64}
 use Rattle.dtype_base.specs.declared.vortex_error.VortexError.{VortexError}
-use Rattle.dtype_base.specs.declared.vortex_error.VortexError.TheVariants.{MapKeyNullable, OutOfMemory}
+use Rattle.dtype_base.specs.declared.vortex_error.VortexError.TheVariants.{DuplicateNames, IndexOutOfBounds, MapKeyNullable, OutOfMemory, UnionTooMany, WidthOverflow}
 use Rattle.dtype_types.specs.equality.Hashes.{hash_writes, hash_writes_ignoring_nullability}
 use Rattle.dtype_types.specs.declared.dtype.DType.{DType as Logical}
-use Rattle.dtype_types.specs.declared.struct_fields.StructFields.{StructFields}
 use Rattle.dtype_types.specs.nullability.Nullable.{IsNullable, nullability}
 use Rattle.dtype_types.specs.parts.Lookups.{Projects, field_names}
 use Rattle.dtype_types.specs.parts.Unions.{MakesUnion, UnionError}
 use Rattle.dtype_types.specs.tree.Tree.{Tree, decimal, fields, fixed_size_list, map_of, struct, union, variants}
-use Rattle.dtype_types.specs.tree.TreeOf.{children, tree}
+use Rattle.dtype_types.specs.tree.TreeOf.{tree}
 use Rattle.dtype_types.specs.tree.Width.{Fixed, HasWidePart, width}
-use Rattle.vortex_logical_types.specs.Vocabulary.{Outcome, decided, fails, gives, gives_some, refuses, unless_memory}
+use Rattle.vortex_logical_types.specs.Vocabulary.{Outcome, checked, decided, either_of, fails, fails_with, gives, gives_some, refuses}
 
 -- the primitive type of a number, from 0 to 10
 abbrev pub ptype_numbered : ℕ → Option PType
@@ -49,56 +47,52 @@ hash_of_type t = sip.finish (fold sip.write sip.initial (hash_writes t))
 abbrev pub hash_ignoring_nullability : Tree → ℕ
 hash_ignoring_nullability t = sip.finish (fold sip.write sip.initial (hash_writes_ignoring_nullability t))
 
--- the decimal type of a precision and a scale, or the number for the rule that they break
+-- The decimal type of a precision and a scale, or the error for the rule that they break. For example, of the precision 0 it is
+-- `PrecisionZero` with the maximum 76.
 abbrev pub makes_decimal : ℕ → ℤ → Nullability → Outcome Tree
-makes_decimal precision scale n No Yes =
-    (IsDecimalWithin greatest_precision precision scale × gives (decimal (record { precision = precision; scale = scale }) n) No Yes)
-    ⊎ fails (DecimalError greatest_precision precision scale) No Yes
+makes_decimal precision scale n =
+    checked (IsDecimalWithin greatest_precision precision scale) (DecimalError greatest_precision precision scale)
+    (gives (decimal (record { precision = precision; scale = scale }) n))
 
--- The width of the values of a type in bytes; 1 if it is variable, and 119 if a part is too wide. A list of size 0 has width 0,
--- and there is also 119 if its element is too wide.
+-- The width of the values of a type in bytes; 1 if it is variable, and `WidthOverflow` if a part is too wide. A list of size 0 has
+-- width 0, and there is also `WidthOverflow` if its element is too wide.
 abbrev pub width_of : Tree → Outcome ℕ
-width_of t = decided (Fixed t) (decided (HasWidePart t) (refuses 119) (gives (width t))) (refuses 1)
+width_of t = decided (Fixed t) (decided (HasWidePart t) (fails_with WidthOverflow) (gives (width t))) (refuses 1)
 
--- the map of a key type and a value type, or 109 if the key type is nullable
+-- the map of a key type and a value type, or `MapKeyNullable` if the key type is nullable
 abbrev pub makes_map : Tree → Tree → Bool → Nullability → Outcome Tree
-makes_map k v sorted n = decided (nullability k ≡ NonNullable) (gives (map_of k v sorted n)) (refuses 109)
+makes_map k v sorted n = decided (nullability k ≡ NonNullable) (gives (map_of k v sorted n)) (fails_with MapKeyNullable)
 
--- the struct of names and types, or 9 if there are more or fewer names than types
-abbrev pub makes_struct : Nullability → List (List ℕ) → List Tree → Outcome Tree
-makes_struct n ns ts = decided (length ns ≡ length ts) (gives (struct (fields (zip ns ts)) n)) (refuses 9)
-
--- the union of names, types and tags, or the number for the first rule that they break
+-- The union of names, types and tags, or the error for the first rule that they break. For example, of no names it is
+-- `UnionEmpty`.
 abbrev pub makes_union : List ℕ → Nullability → List (List ℕ) → List Tree → Outcome Tree
-makes_union tags n ns ts No Yes =
-    (MakesUnion ns (length ts) tags × gives (union (variants (zip ns (zip ts tags))) n) No Yes) ⊎ fails (UnionError ns (length ts) tags) No Yes
+makes_union tags n ns ts =
+    checked (MakesUnion ns (length ts) tags) (UnionError ns (length ts) tags) (gives (union (variants (zip ns (zip ts tags))) n))
 
--- the same with the tags 0, 1, 2 and so on; 114 if there are more than 256 names
+-- the same with the tags 0, 1, 2 and so on; `UnionTooMany` if there are more than 256 names
 abbrev pub makes_consecutive : Nullability → List (List ℕ) → List Tree → Outcome Tree
-makes_consecutive n ns ts No Yes =
-    ((length ns ≤ 256) × makes_union (range_with_len 0 (length ns)) n ns ts No Yes) ⊎ ((256 < length ns) × refuses 114 No Yes)
+makes_consecutive n ns ts No Why Yes =
+    ((length ns ≤ 256) × makes_union (range_with_len 0 (length ns)) n ns ts No Why Yes) ⊎ ((256 < length ns) × fails_with UnionTooMany No Why Yes)
 
--- the struct without the field at a position, or 117 if there is no such field
+-- The struct without the field at a position. If there is no such field, `IndexOutOfBounds` with the position and the number of
+-- fields.
 abbrev pub removes_field : List (List ℕ × Tree) → Nullability → ℕ → Outcome Tree
-removes_field fs n index No Yes =
-    ((index < length fs) × gives (struct (fields (remove fs index)) n) No Yes) ⊎ ((length fs ≤ index) × refuses 117 No Yes)
+removes_field fs n index No Why Yes =
+    ((index < length fs) × gives (struct (fields (remove fs index)) n) No Why Yes)
+    ⊎ ((length fs ≤ index) × fails_with (IndexOutOfBounds index (length fs)) No Why Yes)
 
--- the struct of the fields of two structs, or 118 if a name occurs twice
+-- the struct of the fields of two structs, or `DuplicateNames` if a name occurs twice
 abbrev pub joins_fields : List (List ℕ × Tree) → List (List ℕ × Tree) → Nullability → Outcome Tree
-joins_fields fs gs n = decided (Distinct (field_names (fs ++ gs))) (gives (struct (fields (fs ++ gs)) n)) (refuses 118)
+joins_fields fs gs n = decided (Distinct (field_names (fs ++ gs))) (gives (struct (fields (fs ++ gs)) n)) (fails_with DuplicateNames)
 
--- the struct of the first fields with these names, or 116 if no field has one of the names
+-- The struct of the first fields with these names. If no field has one of the names, `FieldNotFound` with the position of the
+-- first such name among the names.
 abbrev pub projects : List (List ℕ × Tree) → Nullability → List (List ℕ) → Outcome Tree
-projects fs n ns No Yes =
-    gives_some (λ u. (gs : List (List ℕ × Tree)) × Projects fs ns gs × (u ≡ struct (fields gs) n)) No Yes
-    ⊎ (((i : ℕ) × IsFirstAbsent (field_names fs) ns i) × refuses 116 No Yes)
+projects fs n ns =
+    either_of (gives_some (λ u. (gs : List (List ℕ × Tree)) × Projects fs ns gs × (u ≡ struct (fields gs) n)))
+    (fails (SelectionError (field_names fs) ns))
 
 -- what `DType::map` returns
 abbrev pub MakesMap : Tree → Tree → Bool → Nullability → Result Logical VortexError → Type 0
 MakesMap k v sorted n (Ok d) = (nullability k ≡ NonNullable) × (tree d ≡ map_of k v sorted n)
 MakesMap k v sorted n (Err e) = (e ≡ OutOfMemory) ⊎ ((e ≡ MapKeyNullable) × IsNullable k)
-
--- the struct of the fields that a call of the library returned, or the number of its error
-abbrev pub returns_fields : Result StructFields VortexError → Nullability → Outcome Tree
-returns_fields (Ok s) n = unless_memory (gives (struct (fields (children s)) n))
-returns_fields (Err e) n = refuses (100 + number_of e)

@@ -10,9 +10,10 @@ ghost use Rattle.dtype_types.specs.tree.TreeOf.{tree};
 ghost use Rattle.vortex_logical_types.specs.Levels.{levels};
 ghost use Rattle.vortex_logical_types.specs.Slots.{type_in};
 ghost use Rattle.vortex_logical_types.specs.Types.{makes_decimal, ptype_numbered};
-ghost use Rattle.vortex_logical_types.specs.Vocabulary.{Puts, gives, in_range, on, unless_deep, unless_memory};
+ghost use Rattle.vortex_logical_types.specs.Vocabulary.{Puts, PutsOr, gives, in_range, on, unless_deep, unless_memory};
 
-use crate::errors::{KIND, RANGE, TOO_DEEP, of_library};
+use crate::errors::{KIND, RANGE, TOO_DEEP};
+use crate::failures::fail_with;
 use crate::levels::{MAX_LEVELS, fits};
 use crate::objects::{put, put_made};
 use crate::views::as_dtype;
@@ -23,7 +24,7 @@ use std::alloc::Global;
 
 /// Stores in `out` the null type.
 #[unsafe(no_mangle)]
-pub extern "C" fn vlt_dtype_null(alloc: Global, out: &mut Slot) -> u32
+pub extern "C" fn vlt_core_dtype_null(alloc: Global, out: &mut Slot) -> u32
     ensures { Puts type_in (unless_memory (gives t.null)) result out.old.value out.new.value }
 {
     put(alloc, out, Object::DType(DType::Null))
@@ -31,7 +32,7 @@ pub extern "C" fn vlt_dtype_null(alloc: Global, out: &mut Slot) -> u32
 
 /// Stores in `out` the type of booleans. The type is nullable if `nullable` is true.
 #[unsafe(no_mangle)]
-pub extern "C" fn vlt_dtype_bool(alloc: Global, nullable: bool, out: &mut Slot) -> u32
+pub extern "C" fn vlt_core_dtype_bool(alloc: Global, nullable: bool, out: &mut Slot) -> u32
     ensures { Puts type_in (unless_memory (gives (t.bool (nullability_of nullable)))) result out.old.value out.new.value }
 {
     let dtype = DType::Bool(Nullability::from(nullable));
@@ -40,7 +41,7 @@ pub extern "C" fn vlt_dtype_bool(alloc: Global, nullable: bool, out: &mut Slot) 
 
 /// Stores in `out` the type of texts. The type is nullable if `nullable` is true.
 #[unsafe(no_mangle)]
-pub extern "C" fn vlt_dtype_utf8(alloc: Global, nullable: bool, out: &mut Slot) -> u32
+pub extern "C" fn vlt_core_dtype_utf8(alloc: Global, nullable: bool, out: &mut Slot) -> u32
     ensures { Puts type_in (unless_memory (gives (t.utf8 (nullability_of nullable)))) result out.old.value out.new.value }
 {
     let dtype = DType::Utf8(Nullability::from(nullable));
@@ -49,7 +50,7 @@ pub extern "C" fn vlt_dtype_utf8(alloc: Global, nullable: bool, out: &mut Slot) 
 
 /// Stores in `out` the type of byte strings. The type is nullable if `nullable` is true.
 #[unsafe(no_mangle)]
-pub extern "C" fn vlt_dtype_binary(alloc: Global, nullable: bool, out: &mut Slot) -> u32
+pub extern "C" fn vlt_core_dtype_binary(alloc: Global, nullable: bool, out: &mut Slot) -> u32
     ensures { Puts type_in (unless_memory (gives (t.binary (nullability_of nullable)))) result out.old.value out.new.value }
 {
     let dtype = DType::Binary(Nullability::from(nullable));
@@ -58,7 +59,7 @@ pub extern "C" fn vlt_dtype_binary(alloc: Global, nullable: bool, out: &mut Slot
 
 /// Stores in `out` the variant type. Its values each carry their own type. The type is nullable if `nullable` is true.
 #[unsafe(no_mangle)]
-pub extern "C" fn vlt_dtype_variant(alloc: Global, nullable: bool, out: &mut Slot) -> u32
+pub extern "C" fn vlt_core_dtype_variant(alloc: Global, nullable: bool, out: &mut Slot) -> u32
     ensures { Puts type_in (unless_memory (gives (t.variant (nullability_of nullable)))) result out.old.value out.new.value }
 {
     let dtype = DType::Variant(Nullability::from(nullable));
@@ -69,13 +70,15 @@ pub extern "C" fn vlt_dtype_variant(alloc: Global, nullable: bool, out: &mut Slo
 /// for i32, 7 for i64, 8 for f16, 9 for f32 and 10 for f64. Returns 9 if the number is above 10. The type is nullable
 /// if `nullable` is true.
 #[unsafe(no_mangle)]
-pub extern "C" fn vlt_dtype_primitive(
+pub extern "C" fn vlt_core_dtype_primitive(
     alloc: Global,
     number: u32,
     nullable: bool,
     out: &mut Slot,
 ) -> u32
-    ensures { Puts type_in (in_range (ptype_numbered number) (λ p. unless_memory (gives (t.primitive p (nullability_of nullable))))) result out.old.value out.new.value }
+    ensures { Puts type_in
+        (in_range (ptype_numbered number) (λ p. unless_memory (gives (t.primitive p (nullability_of nullable)))))
+        result out.old.value out.new.value }
 {
     let Some(ptype) = ptype_of_number(number) else {
         return RANGE;
@@ -106,36 +109,41 @@ fn ptype_of_number(number: u32) -> Option<PType>
 /// Stores in `out` the decimal type of this precision and this scale. The type is nullable if `nullable` is true.
 ///
 /// Returns 101 if the precision is 0, 102 if the precision is above 76, 103 if the scale is above 76, and 104 if the
-/// scale is above the precision. If several of these are so, it returns the first of these numbers.
+/// scale is above the precision. If several of these are so, it returns the first of these numbers. The error with its
+/// numbers is in `error` then.
 #[unsafe(no_mangle)]
-pub extern "C" fn vlt_dtype_decimal(
+pub extern "C" fn vlt_core_dtype_decimal(
     alloc: Global,
     precision: u8,
     scale: i8,
     nullable: bool,
     out: &mut Slot,
+    error: &mut Slot,
 ) -> u32
-    ensures { Puts type_in (unless_memory (makes_decimal precision scale (nullability_of nullable))) result out.old.value out.new.value }
+    ensures { PutsOr type_in (unless_memory (makes_decimal precision scale (nullability_of nullable)))
+        result out.old.value out.new.value error.old.value error.new.value }
 {
     match DecimalDType::try_new(precision, scale) {
         Ok(decimal) => {
             let dtype = DType::Decimal(decimal, Nullability::from(nullable));
             put(alloc, out, Object::DType(dtype))
         }
-        Err(error) => of_library(error),
+        Err(why) => fail_with(alloc, error, why),
     }
 }
 
 /// Stores in `out` a list type: the lists of any length whose elements are of the type in `element`. The list type is
 /// nullable if `nullable` is true. Returns 6 if the element type has 128 levels.
 #[unsafe(no_mangle)]
-pub extern "C" fn vlt_dtype_list(
+pub extern "C" fn vlt_core_dtype_list(
     alloc: Global,
     element: &mut Slot,
     nullable: bool,
     out: &mut Slot,
 ) -> u32
-    ensures puts { Puts type_in (on (type_in element.old.value) (λ e. unless_deep (1 + levels e) (unless_memory (gives (t.list e (nullability_of nullable)))))) result out.old.value out.new.value }
+    ensures puts { Puts type_in
+        (on (type_in element.old.value) (λ e. unless_deep (1 + levels e) (unless_memory (gives (t.list e (nullability_of nullable))))))
+        result out.old.value out.new.value }
     ensures kept { element.new.value ≡ element.old.value }
 {
     let Some(element) = as_dtype(element) else {
@@ -158,14 +166,17 @@ fn list_of(alloc: Global, element: &DType, n: Nullability) -> VortexResult<DType
 /// Stores in `out` a fixed-size list type: the lists of exactly `size` elements of the type in `element`. The list type
 /// is nullable if `nullable` is true. Returns 6 if the element type has 128 levels.
 #[unsafe(no_mangle)]
-pub extern "C" fn vlt_dtype_fixed_size_list(
+pub extern "C" fn vlt_core_dtype_fixed_size_list(
     alloc: Global,
     element: &mut Slot,
     size: u32,
     nullable: bool,
     out: &mut Slot,
 ) -> u32
-    ensures puts { Puts type_in (on (type_in element.old.value) (λ e. unless_deep (1 + levels e) (unless_memory (gives (t.fixed_size_list e size (nullability_of nullable)))))) result out.old.value out.new.value }
+    ensures puts { Puts type_in
+        (on (type_in element.old.value)
+        (λ e. unless_deep (1 + levels e) (unless_memory (gives (t.fixed_size_list e size (nullability_of nullable))))))
+        result out.old.value out.new.value }
     ensures kept { element.new.value ≡ element.old.value }
 {
     let Some(element) = as_dtype(element) else {

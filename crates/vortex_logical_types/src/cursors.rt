@@ -2,13 +2,12 @@
 // SPDX-FileCopyrightText: Copyright the Vortex contributors
 
 // Which paths of a set continue after a path.
-ghost use Rattle.std.specs.Prelude.{◌≡◌, ◌∷◌, ℕ, List, [], map};
+ghost use Rattle.std.specs.Prelude.{◌≡◌};
 ghost use Rattle.std.specs.FinSet as finset;
 ghost use Rattle.dtype_base.specs.Errors.{Makes};
 ghost use Rattle.dtype_paths.specs.Cursors.{contains_below, contains_below_if};
-ghost use Rattle.dtype_paths.specs.PathPredicates.{AreNames, PathPredicate, after_steps};
-ghost use Rattle.dtype_paths.specs.declared.field.Field.TheVariants.{Name};
-ghost use Rattle.vortex_logical_types.specs.Paths.{describes_below, lists_names};
+ghost use Rattle.dtype_paths.specs.PathPredicates.{after_steps};
+ghost use Rattle.vortex_logical_types.specs.Paths.{AreFirstSteps, describes_below, lists_names};
 ghost use Rattle.vortex_logical_types.specs.Slots.{path_in, paths_in, set_in};
 ghost use Rattle.vortex_logical_types.specs.Vocabulary.{Puts, Writes, on_both, unless_memory};
 
@@ -37,14 +36,16 @@ fn cursor_at<'a>(paths: &'a FieldPathSet, path: &FieldPath) -> Option<FieldPathC
 /// different names with which paths of the set continue. For example, for the set of `a`, `a.b` and `a.c` and the path
 /// `a` the call writes true, false and 2. Returns 1 if no path of the set begins with the path.
 #[unsafe(no_mangle)]
-pub extern "C" fn vlt_set_below(
+pub extern "C" fn vlt_core_set_below(
     paths: &mut Slot,
     path: &mut Slot,
     is_end: &mut bool,
     has_element: &mut bool,
     name_count: &mut usize,
 ) -> u32
-    ensures writes { Writes (on_both (set_in paths.old.value) (path_in path.old.value) (λ s p. describes_below (after_steps p (finset.contains s)))) result (is_end.old, has_element.old, name_count.old) (is_end.new, has_element.new, name_count.new) }
+    ensures writes { Writes
+        (on_both (set_in paths.old.value) (path_in path.old.value) (λ s p. describes_below (after_steps p (finset.contains s))))
+        result (is_end.old, has_element.old, name_count.old) (is_end.new, has_element.new, name_count.new) }
     ensures kept { (paths.new.value ≡ paths.old.value) × (path.new.value ≡ path.old.value) }
 {
     let (Some(paths), Some(path)) = (as_set(paths), as_path(path)) else {
@@ -60,7 +61,9 @@ fn below(
     has_element: &mut bool,
     name_count: &mut usize,
 ) -> u32
-    ensures { Writes (describes_below (after_steps path.now (finset.contains paths.now))) result (is_end.old, has_element.old, name_count.old) (is_end.new, has_element.new, name_count.new) }
+    ensures { Writes
+        (describes_below (after_steps path.now (finset.contains paths.now)))
+        result (is_end.old, has_element.old, name_count.old) (is_end.new, has_element.new, name_count.new) }
 {
     let Some(cursor) = cursor_at(paths, path) else {
         return NONE;
@@ -78,13 +81,15 @@ fn below(
 /// a path of one step for each name, in no particular order. For example, for the set of `a.b` and `a.c` and the path
 /// `a` the list contains the paths `b` and `c`. Returns 1 if no path of the set begins with the path.
 #[unsafe(no_mangle)]
-pub extern "C" fn vlt_set_names_below(
+pub extern "C" fn vlt_core_set_names_below(
     alloc: Global,
     paths: &mut Slot,
     path: &mut Slot,
     out: &mut Slot,
 ) -> u32
-    ensures puts { Puts paths_in (on_both (set_in paths.old.value) (path_in path.old.value) (λ s p. unless_memory (lists_names (after_steps p (finset.contains s))))) result out.old.value out.new.value }
+    ensures puts { Puts paths_in
+        (on_both (set_in paths.old.value) (path_in path.old.value) (λ s p. unless_memory (lists_names (after_steps p (finset.contains s)))))
+        result out.old.value out.new.value }
     ensures kept { (paths.new.value ≡ paths.old.value) × (path.new.value ≡ path.old.value) }
 {
     let (Some(paths), Some(path)) = (as_set(paths), as_path(path)) else {
@@ -94,7 +99,9 @@ pub extern "C" fn vlt_set_names_below(
 }
 
 fn names(alloc: Global, paths: &FieldPathSet, path: &FieldPath, out: &mut Slot) -> u32
-    ensures { Puts paths_in (unless_memory (lists_names (after_steps path.now (finset.contains paths.now)))) result out.old.value out.new.value }
+    ensures { Puts paths_in
+        (unless_memory (lists_names (after_steps path.now (finset.contains paths.now))))
+        result out.old.value out.new.value }
 {
     let Some(cursor) = cursor_at(paths, path) else {
         return NONE;
@@ -110,7 +117,7 @@ fn names(alloc: Global, paths: &FieldPathSet, path: &FieldPath, out: &mut Slot) 
 
 // Returns a path of one step for each name with which paths of the cursor begin.
 fn names_at(alloc: Global, cursor: FieldPathCursor<'_>) -> VortexResult<Vec<FieldPath>>
-    ensures { Makes result (λ ps. (ns : List (List ℕ × PathPredicate)) × AreNames (contains_below cursor.entry) ns × (ps.items ≡ map (λ e. Name e.0 ∷ []) ns)) }
+    ensures { Makes result (λ ps. AreFirstSteps (contains_below cursor.entry) ps.items) }
 {
     let names = cursor.names();
     let mut paths = Vec::with_capacity(alloc, names.len())?;

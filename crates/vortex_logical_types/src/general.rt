@@ -10,17 +10,17 @@ use crate::errors::OK;
 use c_objects::{Object, Slot};
 use std::alloc::Global;
 
-/// Returns the version of this interface, which is 1.
+/// Returns the version of this interface, which is 2.
 #[unsafe(no_mangle)]
-pub extern "C" fn vlt_abi_version() -> u32
-    ensures { result ≡ 1 }
+pub extern "C" fn vlt_core_abi_version() -> u32
+    ensures { result ≡ 2 }
 {
-    1
+    2
 }
 
 /// Drops the object in the slot, if there is one, and leaves the slot empty.
 #[unsafe(no_mangle)]
-pub extern "C" fn vlt_free(alloc: Global, slot: &mut Slot)
+pub extern "C" fn vlt_core_free(alloc: Global, slot: &mut Slot)
     ensures { slot.new.value ≡ None }
 {
     if let Some(object) = slot.take(alloc) {
@@ -29,9 +29,9 @@ pub extern "C" fn vlt_free(alloc: Global, slot: &mut Slot)
 }
 
 /// Returns the kind of the object in the slot: 0 if the slot is empty, 1 for a type, 2 for a path, 3 for a set of
-/// paths, 4 for a list of paths, 5 for a mask, and 6 for the message of a type.
+/// paths, 4 for a list of paths, 5 for a mask, 6 for the message of a type, 7 for fields, and 8 for an error.
 #[unsafe(no_mangle)]
-pub extern "C" fn vlt_kind(slot: &mut Slot) -> u32
+pub extern "C" fn vlt_core_kind(slot: &mut Slot) -> u32
     ensures kind { result ≡ object_kind slot.old.value }
     ensures kept { slot.new.value ≡ slot.old.value }
 {
@@ -45,5 +45,7 @@ pub extern "C" fn vlt_kind(slot: &mut Slot) -> u32
         Object::Paths(_) => 4,
         Object::Mask(_) => 5,
         Object::Message(_) => 6,
+        Object::Fields(_) => 7,
+        Object::Error(_) => 8,
     }
 }

@@ -1,18 +1,13 @@
 // SPDX-License-Identifier: Apache-2.0
 // SPDX-FileCopyrightText: Copyright the Vortex contributors
 
-// Several names, and several types, of one call.
-ghost use Rattle.std.specs.Prelude.{◌≡◌, ◌⊎◌, ◌++◌, ◌∷◌, ◌<◌, ◌≤◌, [], drop, length, map, take, IsUtf8, MatchResult, None, Some};
+// Several names of one call.
+ghost use Rattle.std.specs.Prelude.{◌≡◌, ◌⊎◌, ◌++◌, ◌∷◌, ◌<◌, ◌≤◌, [], drop, length, take, IsUtf8, MatchResult, Some};
 ghost use Rattle.std.specs.List.{AllByRecursion};
-ghost use Rattle.dtype_types.specs.tree.TreeOf.{tree};
-ghost use Rattle.vortex_logical_types.specs.Several.{Adds, NamesFault, each_in, names_cut, objects_in, whole};
-ghost use Rattle.vortex_logical_types.specs.Slots.{type_in};
+ghost use Rattle.vortex_logical_types.specs.Several.{NamesFault, names_cut, whole};
 
-use crate::errors::{KIND, LIBRARY, NOT_UTF8, RANGE};
-use crate::views::as_dtype;
-use c_objects::Slot;
+use crate::errors::{LIBRARY, NOT_UTF8, RANGE};
 use dtype_base::{FieldName, FieldNames};
-use dtype_types::DType;
 use std::alloc::Global;
 use std::str;
 
@@ -62,49 +57,6 @@ fn push_name(alloc: Global, all: &mut Vec<FieldName>, name: &str) -> Result<(), 
         return Err(LIBRARY);
     };
     match all.push(name) {
-        Ok(()) => Ok(()),
-        Err(_) => Err(LIBRARY),
-    }
-}
-
-/// Returns copies of the types in these slots, which keep their types. If a slot contains no type or an allocation
-/// fails, it returns the number that the export returns.
-pub fn types_of(alloc: Global, slots: &mut [Slot]) -> Result<Vec<DType>, u32>
-    ensures copies { MatchResult result
-        (λ v. each_in type_in (objects_in slots.old) ≡ Some (map tree v.items))
-        (λ code. (code ≡ 100) ⊎ ((code ≡ 2) × (each_in type_in (objects_in slots.old) ≡ None))) }
-    ensures kept { objects_in slots.new ≡ objects_in slots.old }
-{
-    let mut all = Vec::new(alloc);
-    for slot in slots.iter_mut() {
-        push_type(alloc, &mut all, slot)?;
-    }
-    Ok(all)
-}
-
-// Adds a copy of the type in a slot, which keeps it.
-fn push_type(alloc: Global, all: &mut Vec<DType>, slot: &mut Slot) -> Result<(), u32>
-    ensures copy { MatchResult result
-        (λ _. Adds (type_in slot.old.value) (map tree all.old.items) (map tree all.new.items))
-        (λ code. (code ≡ 100) ⊎ ((code ≡ 2) × (type_in slot.old.value ≡ None))) }
-    ensures kept { slot.new.value ≡ slot.old.value }
-{
-    let Some(dtype) = as_dtype(slot) else {
-        return Err(KIND);
-    };
-    push_copy(alloc, all, dtype)
-}
-
-// Adds a copy of a type.
-fn push_copy(alloc: Global, all: &mut Vec<DType>, dtype: &DType) -> Result<(), u32>
-    ensures { MatchResult result
-        (λ _. map tree all.new.items ≡ map tree all.old.items ++ (tree dtype.now ∷ []))
-        (λ code. code ≡ 100) }
-{
-    let Ok(copy) = dtype.try_clone(alloc) else {
-        return Err(LIBRARY);
-    };
-    match all.push(copy) {
         Ok(()) => Ok(()),
         Err(_) => Err(LIBRARY),
     }

@@ -32,6 +32,8 @@ pub fn put(alloc: Global, slot: &mut Slot, object: Object) -> u32
 
 /// Stores in the slot the type that a call of the library returned, and returns 0. If that call failed, the slot is
 /// unchanged, and this function returns 100 plus the number of the error. It returns 100 if its own allocation fails.
+///
+/// It is meant for calls that fail only because an allocation fails.
 pub fn put_made(alloc: Global, slot: &mut Slot, made: VortexResult<DType>) -> u32
     ensures { PutsReturned (λ d. Held d) made result slot.old.value slot.new.value }
 {

@@ -20,8 +20,10 @@ use std::alloc::Global;
 
 /// Stores in `out` the element type of a list or of a fixed-size list. Returns 1 if the type is of another kind.
 #[unsafe(no_mangle)]
-pub extern "C" fn vlt_dtype_element(alloc: Global, dtype: &mut Slot, out: &mut Slot) -> u32
-    ensures puts { Puts type_in (on (type_in dtype.old.value) (λ t. found (any_size_list_element t) (λ e. unless_memory (gives e)))) result out.old.value out.new.value }
+pub extern "C" fn vlt_core_dtype_element(alloc: Global, dtype: &mut Slot, out: &mut Slot) -> u32
+    ensures puts { Puts type_in
+        (on (type_in dtype.old.value) (λ t. found (any_size_list_element t) (λ e. unless_memory (gives e))))
+        result out.old.value out.new.value }
     ensures kept { dtype.new.value ≡ dtype.old.value }
 {
     let Some(dtype) = as_dtype(dtype) else {
@@ -32,8 +34,10 @@ pub extern "C" fn vlt_dtype_element(alloc: Global, dtype: &mut Slot, out: &mut S
 
 /// Stores in `out` the key type of a map. Returns 1 if the type isn't a map.
 #[unsafe(no_mangle)]
-pub extern "C" fn vlt_dtype_key(alloc: Global, dtype: &mut Slot, out: &mut Slot) -> u32
-    ensures puts { Puts type_in (on (type_in dtype.old.value) (λ t. found (map_parts t) (λ m. unless_memory (gives m.0)))) result out.old.value out.new.value }
+pub extern "C" fn vlt_core_dtype_key(alloc: Global, dtype: &mut Slot, out: &mut Slot) -> u32
+    ensures puts { Puts type_in
+        (on (type_in dtype.old.value) (λ t. found (map_parts t) (λ m. unless_memory (gives m.0))))
+        result out.old.value out.new.value }
     ensures kept { dtype.new.value ≡ dtype.old.value }
 {
     let Some(dtype) = as_dtype(dtype) else {
@@ -47,8 +51,10 @@ pub extern "C" fn vlt_dtype_key(alloc: Global, dtype: &mut Slot, out: &mut Slot)
 
 /// Stores in `out` the value type of a map. Returns 1 if the type isn't a map.
 #[unsafe(no_mangle)]
-pub extern "C" fn vlt_dtype_value(alloc: Global, dtype: &mut Slot, out: &mut Slot) -> u32
-    ensures puts { Puts type_in (on (type_in dtype.old.value) (λ t. found (map_parts t) (λ m. unless_memory (gives m.1)))) result out.old.value out.new.value }
+pub extern "C" fn vlt_core_dtype_value(alloc: Global, dtype: &mut Slot, out: &mut Slot) -> u32
+    ensures puts { Puts type_in
+        (on (type_in dtype.old.value) (λ t. found (map_parts t) (λ m. unless_memory (gives m.1))))
+        result out.old.value out.new.value }
     ensures kept { dtype.new.value ≡ dtype.old.value }
 {
     let Some(dtype) = as_dtype(dtype) else {
@@ -62,8 +68,10 @@ pub extern "C" fn vlt_dtype_value(alloc: Global, dtype: &mut Slot, out: &mut Slo
 
 /// Stores in `out` the storage type of an extension. Returns 1 if the type isn't an extension.
 #[unsafe(no_mangle)]
-pub extern "C" fn vlt_dtype_storage(alloc: Global, dtype: &mut Slot, out: &mut Slot) -> u32
-    ensures puts { Puts type_in (on (type_in dtype.old.value) (λ t. found (extension_parts t) (λ e. unless_memory (gives e.2)))) result out.old.value out.new.value }
+pub extern "C" fn vlt_core_dtype_storage(alloc: Global, dtype: &mut Slot, out: &mut Slot) -> u32
+    ensures puts { Puts type_in
+        (on (type_in dtype.old.value) (λ t. found (extension_parts t) (λ e. unless_memory (gives e.2))))
+        result out.old.value out.new.value }
     ensures kept { dtype.new.value ≡ dtype.old.value }
 {
     let Some(dtype) = as_dtype(dtype) else {
@@ -78,8 +86,10 @@ pub extern "C" fn vlt_dtype_storage(alloc: Global, dtype: &mut Slot, out: &mut S
 /// Writes the number of a primitive type to `number`: 0 u8, 1 u16, 2 u32, 3 u64, 4 i8, 5 i16, 6 i32, 7 i64, 8 f16, 9
 /// f32, 10 f64. Returns 1 if the type isn't primitive.
 #[unsafe(no_mangle)]
-pub extern "C" fn vlt_dtype_ptype(dtype: &mut Slot, number: &mut u32) -> u32
-    ensures writes { Writes (on (type_in dtype.old.value) (λ t. found (primitive_name t) (λ p. gives (ptype_row p).number))) result number.old number.new }
+pub extern "C" fn vlt_core_dtype_ptype(dtype: &mut Slot, number: &mut u32) -> u32
+    ensures writes { Writes
+        (on (type_in dtype.old.value) (λ t. found (primitive_name t) (λ p. gives (ptype_row p).number)))
+        result number.old number.new }
     ensures kept { dtype.new.value ≡ dtype.old.value }
 {
     let Some(dtype) = as_dtype(dtype) else {
@@ -112,8 +122,10 @@ fn number_of_ptype(ptype: PType) -> u32
 
 /// Writes the id of an extension to `buffer`. Returns 1 if the type isn't an extension.
 #[unsafe(no_mangle)]
-pub extern "C" fn vlt_dtype_id(dtype: &mut Slot, buffer: &mut [u8], length: &mut usize) -> u32
-    ensures fills { Fills (on (type_in dtype.old.value) (λ t. found (extension_parts t) (λ e. gives e.0))) result (buffer.old, length.old) (buffer.new, length.new) }
+pub extern "C" fn vlt_core_dtype_id(dtype: &mut Slot, buffer: &mut [u8], length: &mut usize) -> u32
+    ensures fills { Fills
+        (on (type_in dtype.old.value) (λ t. found (extension_parts t) (λ e. gives e.0)))
+        result (buffer.old, length.old) (buffer.new, length.new) }
     ensures kept { dtype.new.value ≡ dtype.old.value }
 {
     let Some(dtype) = as_dtype(dtype) else {
@@ -127,8 +139,14 @@ pub extern "C" fn vlt_dtype_id(dtype: &mut Slot, buffer: &mut [u8], length: &mut
 
 /// Writes the metadata of an extension to `buffer`. Returns 1 if the type isn't an extension.
 #[unsafe(no_mangle)]
-pub extern "C" fn vlt_dtype_metadata(dtype: &mut Slot, buffer: &mut [u8], length: &mut usize) -> u32
-    ensures fills { Fills (on (type_in dtype.old.value) (λ t. found (extension_parts t) (λ e. gives e.1))) result (buffer.old, length.old) (buffer.new, length.new) }
+pub extern "C" fn vlt_core_dtype_metadata(
+    dtype: &mut Slot,
+    buffer: &mut [u8],
+    length: &mut usize,
+) -> u32
+    ensures fills { Fills
+        (on (type_in dtype.old.value) (λ t. found (extension_parts t) (λ e. gives e.1)))
+        result (buffer.old, length.old) (buffer.new, length.new) }
     ensures kept { dtype.new.value ≡ dtype.old.value }
 {
     let Some(dtype) = as_dtype(dtype) else {
@@ -142,7 +160,7 @@ pub extern "C" fn vlt_dtype_metadata(dtype: &mut Slot, buffer: &mut [u8], length
 
 /// Writes the size of a fixed-size list to `size`. Returns 1 if the type isn't a fixed-size list.
 #[unsafe(no_mangle)]
-pub extern "C" fn vlt_dtype_fixed_size(dtype: &mut Slot, size: &mut u32) -> u32
+pub extern "C" fn vlt_core_dtype_fixed_size(dtype: &mut Slot, size: &mut u32) -> u32
     ensures writes { Writes (on (type_in dtype.old.value) (λ t. found (fixed_size_of t) gives)) result size.old size.new }
     ensures kept { dtype.new.value ≡ dtype.old.value }
 {
@@ -158,12 +176,14 @@ pub extern "C" fn vlt_dtype_fixed_size(dtype: &mut Slot, size: &mut u32) -> u32
 
 /// Writes the precision and the scale of a decimal to `precision` and `scale`. Returns 1 if the type isn't a decimal.
 #[unsafe(no_mangle)]
-pub extern "C" fn vlt_dtype_decimal_parts(
+pub extern "C" fn vlt_core_dtype_decimal_parts(
     dtype: &mut Slot,
     precision: &mut u8,
     scale: &mut i8,
 ) -> u32
-    ensures writes { Writes (on (type_in dtype.old.value) (λ t. found (decimal_of t) (λ d. gives (digits_of d)))) result (precision.old, scale.old) (precision.new, scale.new) }
+    ensures writes { Writes
+        (on (type_in dtype.old.value) (λ t. found (decimal_of t) (λ d. gives (digits_of d))))
+        result (precision.old, scale.old) (precision.new, scale.new) }
     ensures kept { dtype.new.value ≡ dtype.old.value }
 {
     let Some(dtype) = as_dtype(dtype) else {
@@ -179,7 +199,7 @@ pub extern "C" fn vlt_dtype_decimal_parts(
 
 /// Returns 0 if the keys of the map are declared to be sorted, 1 if they aren't, and 5 if the type isn't a map.
 #[unsafe(no_mangle)]
-pub extern "C" fn vlt_dtype_keys_sorted(dtype: &mut Slot) -> u32
+pub extern "C" fn vlt_core_dtype_keys_sorted(dtype: &mut Slot) -> u32
     ensures answer { Answers (on (type_in dtype.old.value) (λ t. within (map_parts t) (λ m. tells (IsTrue m.2)))) result }
     ensures kept { dtype.new.value ≡ dtype.old.value }
 {

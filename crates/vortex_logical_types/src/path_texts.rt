@@ -1,123 +1,84 @@
 // SPDX-License-Identifier: Apache-2.0
 // SPDX-FileCopyrightText: Copyright the Vortex contributors
 
-// Paths as texts.
-ghost use Rattle.std.specs.Prelude.{◌≡◌, ◌⊎◌, ◌≤◌, IsSome};
-ghost use Rattle.vortex_logical_types.specs.Answers.{IfUtf8, WritesSome};
-ghost use Rattle.vortex_logical_types.specs.Objects.{path_in};
+// Paths in the text form that can be read back.
+ghost use Rattle.std.specs.Prelude.{◌≡◌, string_bytes};
+ghost use Rattle.dtype_base.specs.Errors.{Makes};
+ghost use Rattle.dtype_text.specs.PathSource.{path_source};
+ghost use Rattle.vortex_logical_types.specs.Slots.{path_in};
+ghost use Rattle.vortex_logical_types.specs.Texts.{reads_path};
+ghost use Rattle.vortex_logical_types.specs.Vocabulary.{Fills, PutsOr, gives, if_utf8, on, unless_memory};
 
 use crate::buffers::write_bytes;
-use crate::errors::{KIND, NOT_UTF8, of_console, of_library};
+use crate::errors::{KIND, LIBRARY, NOT_UTF8};
 use crate::objects::put;
+use crate::source_texts::fail_to_read;
+use crate::views::as_path;
 use c_objects::{Object, Slot};
-use console_core::{ConsoleResult, Line, put as push, write_name};
 use dtype_base::VortexResult;
-use dtype_paths::{Field, FieldPath};
+use dtype_paths::FieldPath;
+use dtype_text::{read_path, write_path};
 use std::alloc::Global;
 use std::str;
 
-/// Reads a path from its text in the form of the console and stores it in `out`. For example, `a.[].b` is a path of
-/// three steps, and `.` is the root.
+/// Reads a path from its text and stores it in `out`. For example, `a.[].b` is a path of three steps, and `.` is the root.
+/// The text is written in the form of `vlt_path_to_text`, and blanks and comments may stand around it.
 ///
-/// Returns 3 if the text isn't UTF-8. If the text can't be read, the call returns 4 and writes the position of the
-/// byte at which reading failed, counted from 1, to `position`. At an unknown word this is its first byte.
+/// Returns 3 if the text isn't UTF-8, and 4 if it isn't spelled like a path. Then `error` contains an error:
+/// `vlt_error_position` returns at which byte, counted from 1, something else was expected, and `vlt_error_message` what.
 #[unsafe(no_mangle)]
-pub extern "C" fn vlt_path_from_text(
+pub extern "C" fn vlt_core_path_from_text(
     alloc: Global,
     text: &[u8],
     out: &mut Slot,
-    position: &mut usize,
+    error: &mut Slot,
 ) -> u32
-    ensures put { result ≡ 0 → IsSome (path_in out.new.value) }
-    ensures utf8 { IfUtf8 text.now result (out.new.value ≡ out.old.value) ((result ≡ 0) ⊎ (4 ≤ result)) }
-    ensures unchanged { (result ≡ 0) ⊎ (out.new.value ≡ out.old.value) }
+    ensures { PutsOr path_in (if_utf8 text.now (unless_memory (reads_path text.now)))
+        result out.old.value out.new.value error.old.value error.new.value }
 {
     match str::from_utf8(text) {
-        Ok(text) => read(alloc, text, out, position),
+        Ok(text) => put_read(alloc, text, out, error),
         Err(_) => NOT_UTF8,
     }
 }
 
-fn read(alloc: Global, text: &str, out: &mut Slot, position: &mut usize) -> u32
-    ensures put { result ≡ 0 → IsSome (path_in out.new.value) }
-    ensures codes { (result ≡ 0) ⊎ (4 ≤ result) }
-    ensures unchanged { (result ≡ 0) ⊎ (out.new.value ≡ out.old.value) }
+fn put_read(alloc: Global, text: &str, out: &mut Slot, error: &mut Slot) -> u32
+    ensures { PutsOr path_in (unless_memory (reads_path text.now))
+        result out.old.value out.new.value error.old.value error.new.value }
 {
     match read_path(alloc, text) {
         Ok(path) => put(alloc, out, Object::Path(path)),
-        Err(error) => of_console(&error, position),
+        Err(why) => fail_to_read(alloc, error, why, text),
     }
 }
 
-fn read_path(alloc: Global, text: &str) -> ConsoleResult<FieldPath> {
-    let mut line = Line::new(alloc, text);
-    let mut steps = Vec::new(alloc);
-    if !line.accepts(".") {
-        for _ in 0..line.max_items() {
-            steps.push(read_step(alloc, &mut line)?)?;
-            if !line.accepts(".") {
-                break;
-            }
-        }
-    }
-    line.then_end(FieldPath::from_vec(steps))
-}
-
-fn read_step(alloc: Global, line: &mut Line<'_>) -> ConsoleResult<Field> {
-    if line.accepts("[]") {
-        return Ok(Field::ElementType);
-    }
-    let _ = line.accepts("$");
-    Ok(Field::Name(line.step_name(alloc)?))
-}
-
-/// Writes the path to `buffer` in the form of the console, for example `a.[].b`. `vlt_path_from_text` reads the same
-/// path from this text, which is tested and not proved.
+/// Writes the path to `buffer` in the form from which `vlt_path_from_text` reads the same path back, for example `a.[].b`.
+/// A name stands in double quotes unless it consists of ASCII letters and digits, `_` and visible characters beyond ASCII.
 #[unsafe(no_mangle)]
-pub extern "C" fn vlt_path_to_text(
+pub extern "C" fn vlt_core_path_to_text(
     alloc: Global,
     path: &mut Slot,
     buffer: &mut [u8],
     length: &mut usize,
 ) -> u32
-    ensures writes { WritesSome result (buffer.old, length.old) (buffer.new, length.new) }
+    ensures fills { Fills
+        (on (path_in path.old.value) (λ p. unless_memory (gives (path_source p))))
+        result (buffer.old, length.old) (buffer.new, length.new) }
     ensures kept { path.new.value ≡ path.old.value }
 {
-    let Some(object) = path.take(alloc) else {
+    let Some(path) = as_path(path) else {
         return KIND;
     };
-    let answer = match &*object {
-        Object::Path(path) => write(alloc, path, buffer, length),
-        _ => KIND,
-    };
-    path.put(object);
-    answer
-}
-
-fn write(alloc: Global, path: &FieldPath, buffer: &mut [u8], length: &mut usize) -> u32
-    ensures { WritesSome result (buffer.old, length.old) (buffer.new, length.new) }
-{
     match written(alloc, path) {
-        Ok(written) => write_bytes(written.as_bytes(), buffer, length),
-        Err(error) => of_library(error),
+        Ok(text) => write_bytes(text.as_bytes(), buffer, length),
+        Err(_) => LIBRARY,
     }
 }
 
-fn written(alloc: Global, path: &FieldPath) -> VortexResult<String> {
-    let mut written = String::new(alloc);
-    let mut is_first = true;
-    for step in path.parts() {
-        if !is_first {
-            push(&mut written, ".")?;
-        }
-        is_first = false;
-        match step {
-            Field::ElementType => push(&mut written, "[]")?,
-            Field::Name(name) => write_name(&mut written, name)?,
-        }
-    }
-    if is_first {
-        push(&mut written, ".")?;
-    }
-    Ok(written)
+fn written(alloc: Global, path: &FieldPath) -> VortexResult<String>
+    ensures { Makes result (λ s. string_bytes s ≡ path_source path.now) }
+{
+    let mut text = String::new(alloc);
+    write_path(&mut text, path)?;
+    Ok(text)
 }

@@ -30,7 +30,7 @@ pub const ELEMENT: usize = usize::MAX;
 
 /// Stores in `out` the root, which is the path without steps.
 #[unsafe(no_mangle)]
-pub extern "C" fn vlt_path_root(alloc: Global, out: &mut Slot) -> u32
+pub extern "C" fn vlt_core_path_root(alloc: Global, out: &mut Slot) -> u32
     ensures { Puts path_in (unless_memory (gives [])) result out.old.value out.new.value }
 {
     put(alloc, out, Object::Path(FieldPath::root(alloc)))
@@ -48,7 +48,7 @@ pub fn put_path(alloc: Global, out: &mut Slot, made: VortexResult<FieldPath>) ->
 
 /// Writes the number of steps of the path to `count`.
 #[unsafe(no_mangle)]
-pub extern "C" fn vlt_path_len(path: &mut Slot, count: &mut usize) -> u32
+pub extern "C" fn vlt_core_path_len(path: &mut Slot, count: &mut usize) -> u32
     ensures writes { Writes (on (path_in path.old.value) (λ p. gives (length p))) result count.old count.new }
     ensures kept { path.new.value ≡ path.old.value }
 {
@@ -63,13 +63,15 @@ pub extern "C" fn vlt_path_len(path: &mut Slot, count: &mut usize) -> u32
 /// their number to `length`. For the step to the element, it writes only a length, which is 2^64 - 1 (`VLT_ELEMENT` in C).
 /// Returns 1 if the position isn't below the number of steps.
 #[unsafe(no_mangle)]
-pub extern "C" fn vlt_path_step(
+pub extern "C" fn vlt_core_path_step(
     path: &mut Slot,
     index: usize,
     buffer: &mut [u8],
     length: &mut usize,
 ) -> u32
-    ensures fills { FillsStep (on (path_in path.old.value) (λ p. found (slice_get p index) gives)) result (buffer.old, length.old) (buffer.new, length.new) }
+    ensures fills { FillsStep
+        (on (path_in path.old.value) (λ p. found (slice_get p index) gives))
+        result (buffer.old, length.old) (buffer.new, length.new) }
     ensures kept { path.new.value ≡ path.old.value }
 {
     let Some(path) = as_path(path) else {
@@ -98,13 +100,15 @@ pub fn write_step(step: &Field, buffer: &mut [u8], length: &mut usize) -> u32
 /// Stores in `out` the path with one more step at its end: the step to the field with this name. Returns 3 if the name
 /// isn't UTF-8.
 #[unsafe(no_mangle)]
-pub extern "C" fn vlt_path_push_name(
+pub extern "C" fn vlt_core_path_push_name(
     alloc: Global,
     path: &mut Slot,
     name: &[u8],
     out: &mut Slot,
 ) -> u32
-    ensures puts { Puts path_in (on (path_in path.old.value) (λ p. if_utf8 name.now (unless_memory (gives (p ++ (Name name.now ∷ [])))))) result out.old.value out.new.value }
+    ensures puts { Puts path_in
+        (on (path_in path.old.value) (λ p. if_utf8 name.now (unless_memory (gives (p ++ (Name name.now ∷ []))))))
+        result out.old.value out.new.value }
     ensures kept { path.new.value ≡ path.old.value }
 {
     let Some(path) = as_path(path) else {
@@ -125,8 +129,10 @@ fn with_name(alloc: Global, path: &FieldPath, name: &str) -> VortexResult<FieldP
 
 /// Stores in `out` the path with one more step at its end: the step to the element of a list.
 #[unsafe(no_mangle)]
-pub extern "C" fn vlt_path_push_element(alloc: Global, path: &mut Slot, out: &mut Slot) -> u32
-    ensures puts { Puts path_in (on (path_in path.old.value) (λ p. unless_memory (gives (p ++ (ElementType ∷ []))))) result out.old.value out.new.value }
+pub extern "C" fn vlt_core_path_push_element(alloc: Global, path: &mut Slot, out: &mut Slot) -> u32
+    ensures puts { Puts path_in
+        (on (path_in path.old.value) (λ p. unless_memory (gives (p ++ (ElementType ∷ [])))))
+        result out.old.value out.new.value }
     ensures kept { path.new.value ≡ path.old.value }
 {
     let Some(path) = as_path(path) else {
@@ -143,8 +149,10 @@ fn with_element(path: &FieldPath) -> VortexResult<FieldPath>
 
 /// Stores in `out` the path without its first step. Returns 1 if the path is the root, which has no steps.
 #[unsafe(no_mangle)]
-pub extern "C" fn vlt_path_step_into(alloc: Global, path: &mut Slot, out: &mut Slot) -> u32
-    ensures puts { Puts path_in (on (path_in path.old.value) (λ p. unless_memory (found (tail_of p) gives))) result out.old.value out.new.value }
+pub extern "C" fn vlt_core_path_step_into(alloc: Global, path: &mut Slot, out: &mut Slot) -> u32
+    ensures puts { Puts path_in
+        (on (path_in path.old.value) (λ p. unless_memory (found (tail_of p) gives)))
+        result out.old.value out.new.value }
     ensures kept { path.new.value ≡ path.old.value }
 {
     let Some(path) = as_path(path) else {
@@ -167,7 +175,7 @@ fn put_tail(alloc: Global, path: FieldPath, out: &mut Slot) -> u32
 
 /// Stores in `out` a copy of the path.
 #[unsafe(no_mangle)]
-pub extern "C" fn vlt_path_copy(alloc: Global, path: &mut Slot, out: &mut Slot) -> u32
+pub extern "C" fn vlt_core_path_copy(alloc: Global, path: &mut Slot, out: &mut Slot) -> u32
     ensures puts { Puts path_in (on (path_in path.old.value) (λ p. unless_memory (gives p))) result out.old.value out.new.value }
     ensures kept { path.new.value ≡ path.old.value }
 {
@@ -179,7 +187,7 @@ pub extern "C" fn vlt_path_copy(alloc: Global, path: &mut Slot, out: &mut Slot) 
 
 /// Returns 0 if the two paths are equal, and 1 if they aren't.
 #[unsafe(no_mangle)]
-pub extern "C" fn vlt_path_eq(one: &mut Slot, other: &mut Slot) -> u32
+pub extern "C" fn vlt_core_path_eq(one: &mut Slot, other: &mut Slot) -> u32
     ensures answer { Answers (on_both (path_in one.old.value) (path_in other.old.value) (λ p q. tells (p ≡ q))) result }
     ensures kept { (one.new.value ≡ one.old.value) × (other.new.value ≡ other.old.value) }
 {
@@ -192,7 +200,7 @@ pub extern "C" fn vlt_path_eq(one: &mut Slot, other: &mut Slot) -> u32
 /// Returns 0 if one of the two paths is a prefix of the other, and 1 if none is. For example, it returns 0 for `a` and
 /// `a.b`.
 #[unsafe(no_mangle)]
-pub extern "C" fn vlt_path_overlap(one: &mut Slot, other: &mut Slot) -> u32
+pub extern "C" fn vlt_core_path_overlap(one: &mut Slot, other: &mut Slot) -> u32
     ensures answer { Answers (on_both (path_in one.old.value) (path_in other.old.value) (λ p q. tells (Overlaps p q))) result }
     ensures kept { (one.new.value ≡ one.old.value) × (other.new.value ≡ other.old.value) }
 {
@@ -205,13 +213,15 @@ pub extern "C" fn vlt_path_overlap(one: &mut Slot, other: &mut Slot) -> u32
 /// Stores in `out` the type at the path in the type `dtype`. For example, the type at `a.[]` in `{a=list(i32)}` is
 /// `i32`. Returns 1 if there is no type at the path.
 #[unsafe(no_mangle)]
-pub extern "C" fn vlt_path_resolve(
+pub extern "C" fn vlt_core_path_resolve(
     alloc: Global,
     dtype: &mut Slot,
     path: &mut Slot,
     out: &mut Slot,
 ) -> u32
-    ensures puts { Puts type_in (on_both (type_in dtype.old.value) (path_in path.old.value) (λ t p. found (along t p) (λ u. unless_memory (gives u)))) result out.old.value out.new.value }
+    ensures puts { Puts type_in
+        (on_both (type_in dtype.old.value) (path_in path.old.value) (λ t p. found (along t p) (λ u. unless_memory (gives u))))
+        result out.old.value out.new.value }
     ensures kept { (dtype.new.value ≡ dtype.old.value) × (path.new.value ≡ path.old.value) }
 {
     let (Some(dtype), Some(path)) = (as_dtype(dtype), as_path(path)) else {
@@ -222,7 +232,7 @@ pub extern "C" fn vlt_path_resolve(
 
 /// Returns 0 if there is a type at the path in the type `dtype`, and 1 if there is none.
 #[unsafe(no_mangle)]
-pub extern "C" fn vlt_path_exists_in(dtype: &mut Slot, path: &mut Slot) -> u32
+pub extern "C" fn vlt_core_path_exists_in(dtype: &mut Slot, path: &mut Slot) -> u32
     ensures answer { Answers (on_both (type_in dtype.old.value) (path_in path.old.value) (λ t p. tells (ExistsIn t p))) result }
     ensures kept { (dtype.new.value ≡ dtype.old.value) × (path.new.value ≡ path.old.value) }
 {
@@ -234,13 +244,15 @@ pub extern "C" fn vlt_path_exists_in(dtype: &mut Slot, path: &mut Slot) -> u32
 
 /// Writes the path to `buffer` as the library displays it, for example `$a.[].$b`.
 #[unsafe(no_mangle)]
-pub extern "C" fn vlt_path_display(
+pub extern "C" fn vlt_core_path_display(
     alloc: Global,
     path: &mut Slot,
     buffer: &mut [u8],
     length: &mut usize,
 ) -> u32
-    ensures fills { Fills (on (path_in path.old.value) (λ p. unless_memory (gives (path_text p)))) result (buffer.old, length.old) (buffer.new, length.new) }
+    ensures fills { Fills
+        (on (path_in path.old.value) (λ p. unless_memory (gives (path_text p))))
+        result (buffer.old, length.old) (buffer.new, length.new) }
     ensures kept { path.new.value ≡ path.old.value }
 {
     let Some(path) = as_path(path) else {
@@ -263,7 +275,7 @@ fn displayed(alloc: Global, path: &FieldPath) -> VortexResult<String>
 /// Returns 0 if the first step of the path is the step to the field with this name. Returns 1 if it is the step to
 /// another field, or if the path is the root. Returns 5 if it is the step to the element.
 #[unsafe(no_mangle)]
-pub extern "C" fn vlt_path_starts_with_name(path: &mut Slot, name: &[u8]) -> u32
+pub extern "C" fn vlt_core_path_starts_with_name(path: &mut Slot, name: &[u8]) -> u32
     ensures answer { Answers (on (path_in path.old.value) (λ p. starts_with (slice_get p 0) name.now)) result }
     ensures kept { path.new.value ≡ path.old.value }
 {
@@ -286,7 +298,7 @@ fn same_bytes(one: &[u8], other: &[u8]) -> u32
 /// Writes a hash of the path to `hash`. Equal paths have the same hash. The hash of a path may differ between versions
 /// of the library.
 #[unsafe(no_mangle)]
-pub extern "C" fn vlt_path_hash(path: &mut Slot, hash: &mut u64) -> u32
+pub extern "C" fn vlt_core_path_hash(path: &mut Slot, hash: &mut u64) -> u32
     ensures writes { Writes (on (path_in path.old.value) (λ p. gives (hash_of_path p))) result hash.old hash.new }
     ensures kept { path.new.value ≡ path.old.value }
 {

@@ -18,13 +18,15 @@ use std::alloc::Global;
 /// Stores in `out` the type without the fields to which no path of the set leads. For example, for `{a=i32, b=utf8}`
 /// and the set of `a` it stores `{a=i32}`. Returns 1 if no path of the set exists in the type.
 #[unsafe(no_mangle)]
-pub extern "C" fn vlt_project_paths(
+pub extern "C" fn vlt_core_project_paths(
     alloc: Global,
     dtype: &mut Slot,
     set: &mut Slot,
     out: &mut Slot,
 ) -> u32
-    ensures puts { Puts type_in (on_both (type_in dtype.old.value) (set_in set.old.value) (λ t s. unless_memory (found (projected t (finset.contains s)) gives))) result out.old.value out.new.value }
+    ensures puts { Puts type_in
+        (on_both (type_in dtype.old.value) (set_in set.old.value) (λ t s. unless_memory (found (projected t (finset.contains s)) gives)))
+        result out.old.value out.new.value }
     ensures kept { (dtype.new.value ≡ dtype.old.value) × (set.new.value ≡ set.old.value) }
 {
     let (Some(dtype), Some(paths)) = (as_dtype(dtype), as_set(set)) else {

@@ -30,7 +30,7 @@ use std::vec;
 
 /// Stores in `out` the empty set.
 #[unsafe(no_mangle)]
-pub extern "C" fn vlt_set_new(alloc: Global, out: &mut Slot) -> u32
+pub extern "C" fn vlt_core_set_new(alloc: Global, out: &mut Slot) -> u32
     ensures { Puts set_in (unless_memory (gives finset.empty)) result out.old.value out.new.value }
 {
     put(alloc, out, Object::Set(FieldPathSet::new(alloc)))
@@ -38,8 +38,10 @@ pub extern "C" fn vlt_set_new(alloc: Global, out: &mut Slot) -> u32
 
 /// Inserts a copy of the path into the set. If the call doesn't return 0, the set is unchanged.
 #[unsafe(no_mangle)]
-pub extern "C" fn vlt_set_insert(paths: &mut Slot, path: &mut Slot) -> u32
-    ensures changes { Changes set_in (on_both (set_in paths.old.value) (path_in path.old.value) (λ s p. unless_memory (gives (finset.insert s p)))) result paths.old.value paths.new.value }
+pub extern "C" fn vlt_core_set_insert(paths: &mut Slot, path: &mut Slot) -> u32
+    ensures changes { Changes set_in
+        (on_both (set_in paths.old.value) (path_in path.old.value) (λ s p. unless_memory (gives (finset.insert s p))))
+        result paths.old.value paths.new.value }
     ensures kept { path.new.value ≡ path.old.value }
 {
     let (Some(object), Some(path)) = (paths.get_mut(), as_path(path)) else {
@@ -69,8 +71,10 @@ fn inserted(paths: &mut FieldPathSet, path: &FieldPath) -> VortexResult<()>
 
 /// Returns 0 if the path is in the set, and 1 if it isn't.
 #[unsafe(no_mangle)]
-pub extern "C" fn vlt_set_contains(paths: &mut Slot, path: &mut Slot) -> u32
-    ensures answer { Answers (on_both (set_in paths.old.value) (path_in path.old.value) (λ s p. tells (IsTrue (finset.contains s p)))) result }
+pub extern "C" fn vlt_core_set_contains(paths: &mut Slot, path: &mut Slot) -> u32
+    ensures answer { Answers
+        (on_both (set_in paths.old.value) (path_in path.old.value) (λ s p. tells (IsTrue (finset.contains s p))))
+        result }
     ensures kept { (paths.new.value ≡ paths.old.value) × (path.new.value ≡ path.old.value) }
 {
     let (Some(paths), Some(path)) = (as_set(paths), as_path(path)) else {
@@ -81,7 +85,7 @@ pub extern "C" fn vlt_set_contains(paths: &mut Slot, path: &mut Slot) -> u32
 
 /// Stores in `out` a copy of the set.
 #[unsafe(no_mangle)]
-pub extern "C" fn vlt_set_copy(alloc: Global, paths: &mut Slot, out: &mut Slot) -> u32
+pub extern "C" fn vlt_core_set_copy(alloc: Global, paths: &mut Slot, out: &mut Slot) -> u32
     ensures puts { Puts set_in (on (set_in paths.old.value) (λ s. unless_memory (gives s))) result out.old.value out.new.value }
     ensures kept { paths.new.value ≡ paths.old.value }
 {
@@ -108,8 +112,10 @@ fn put_list(alloc: Global, out: &mut Slot, made: VortexResult<Vec<FieldPath>>) -
 /// set is a prefix. They are the fewest paths that cover what the set covers. For example, the only least path of the
 /// set of `a` and `a.b` is `a`. Each path is in the list once, in no particular order.
 #[unsafe(no_mangle)]
-pub extern "C" fn vlt_set_cover(alloc: Global, paths: &mut Slot, out: &mut Slot) -> u32
-    ensures puts { Puts paths_in (on (set_in paths.old.value) (λ s. unless_memory (gives_some (λ ps. (set_of ps ≡ least s) × Distinct ps)))) result out.old.value out.new.value }
+pub extern "C" fn vlt_core_set_cover(alloc: Global, paths: &mut Slot, out: &mut Slot) -> u32
+    ensures puts { Puts paths_in
+        (on (set_in paths.old.value) (λ s. unless_memory (gives_some (λ ps. (set_of ps ≡ least s) × Distinct ps))))
+        result out.old.value out.new.value }
     ensures kept { paths.new.value ≡ paths.old.value }
 {
     let Some(paths) = as_set(paths) else {
@@ -126,8 +132,10 @@ fn cover_of(alloc: Global, paths: &FieldPathSet) -> VortexResult<Vec<FieldPath>>
 
 /// Stores in `out` the list of the paths of the set. Each path is in the list once, in no particular order.
 #[unsafe(no_mangle)]
-pub extern "C" fn vlt_set_members(alloc: Global, paths: &mut Slot, out: &mut Slot) -> u32
-    ensures puts { Puts paths_in (on (set_in paths.old.value) (λ s. unless_memory (gives_some (λ ps. (set_of ps ≡ s) × Distinct ps)))) result out.old.value out.new.value }
+pub extern "C" fn vlt_core_set_members(alloc: Global, paths: &mut Slot, out: &mut Slot) -> u32
+    ensures puts { Puts paths_in
+        (on (set_in paths.old.value) (λ s. unless_memory (gives_some (λ ps. (set_of ps ≡ s) × Distinct ps))))
+        result out.old.value out.new.value }
     ensures kept { paths.new.value ≡ paths.old.value }
 {
     let Some(paths) = as_set(paths) else {
@@ -145,13 +153,16 @@ fn members_of(alloc: Global, paths: &FieldPathSet) -> VortexResult<Vec<FieldPath
 /// Stores in `out` the list of those paths of the set that don't exist in the type `dtype`. Each path is in the list
 /// once, in no particular order.
 #[unsafe(no_mangle)]
-pub extern "C" fn vlt_set_unresolved(
+pub extern "C" fn vlt_core_set_unresolved(
     alloc: Global,
     paths: &mut Slot,
     dtype: &mut Slot,
     out: &mut Slot,
 ) -> u32
-    ensures puts { Puts paths_in (on_both (set_in paths.old.value) (type_in dtype.old.value) (λ s t. unless_memory (gives_some (λ ps. (set_of ps ≡ unresolved s t) × Distinct ps)))) result out.old.value out.new.value }
+    ensures puts { Puts paths_in
+        (on_both (set_in paths.old.value) (type_in dtype.old.value)
+        (λ s t. unless_memory (gives_some (λ ps. (set_of ps ≡ unresolved s t) × Distinct ps))))
+        result out.old.value out.new.value }
     ensures kept { (paths.new.value ≡ paths.old.value) × (dtype.new.value ≡ dtype.old.value) }
 {
     let (Some(paths), Some(dtype)) = (as_set(paths), as_dtype(dtype)) else {
@@ -179,32 +190,20 @@ fn copies_of(alloc: Global, paths: vec::IntoIter<&FieldPath>) -> VortexResult<Ve
 
 /// Writes the number of paths of the set to `count`.
 #[unsafe(no_mangle)]
-pub extern "C" fn vlt_set_len(paths: &mut Slot, count: &mut usize) -> u32
-    ensures writes { Writes (on (set_in paths.old.value) (λ s. unless_memory (gives (finset.len s)))) result count.old count.new }
+pub extern "C" fn vlt_core_set_len(paths: &mut Slot, count: &mut usize) -> u32
+    ensures writes { Writes (on (set_in paths.old.value) (λ s. gives (finset.len s))) result count.old count.new }
     ensures kept { paths.new.value ≡ paths.old.value }
 {
-    let Some(paths) = as_set(paths) else {
+    let Some(members) = as_set(paths) else {
         return KIND;
     };
-    len(paths, count)
-}
-
-#[tactic(auto, using(dtype_paths::proofs::lemmas::Covering::counting))]
-fn len(paths: &FieldPathSet, count: &mut usize) -> u32
-    ensures { Writes (unless_memory (gives (finset.len paths.now))) result count.old count.new }
-{
-    match paths.iter() {
-        Ok(members) => {
-            *count = members.len();
-            OK
-        }
-        Err(error) => of_library(error),
-    }
+    *count = members.len();
+    OK
 }
 
 /// Writes the number of paths of the list to `count`.
 #[unsafe(no_mangle)]
-pub extern "C" fn vlt_paths_len(paths: &mut Slot, count: &mut usize) -> u32
+pub extern "C" fn vlt_core_paths_len(paths: &mut Slot, count: &mut usize) -> u32
     ensures writes { Writes (on (paths_in paths.old.value) (λ ps. gives (length ps))) result count.old count.new }
     ensures kept { paths.new.value ≡ paths.old.value }
 {
@@ -218,13 +217,15 @@ pub extern "C" fn vlt_paths_len(paths: &mut Slot, count: &mut usize) -> u32
 /// Stores in `out` a copy of the path at the position `index` of the list. Returns 1 if the position isn't below the
 /// length of the list.
 #[unsafe(no_mangle)]
-pub extern "C" fn vlt_paths_get(
+pub extern "C" fn vlt_core_paths_get(
     alloc: Global,
     paths: &mut Slot,
     index: usize,
     out: &mut Slot,
 ) -> u32
-    ensures puts { Puts path_in (on (paths_in paths.old.value) (λ ps. found (slice_get ps index) (λ p. unless_memory (gives p)))) result out.old.value out.new.value }
+    ensures puts { Puts path_in
+        (on (paths_in paths.old.value) (λ ps. found (slice_get ps index) (λ p. unless_memory (gives p))))
+        result out.old.value out.new.value }
     ensures kept { paths.new.value ≡ paths.old.value }
 {
     let Some(paths) = as_paths(paths) else {
@@ -240,7 +241,11 @@ pub extern "C" fn vlt_paths_get(
 /// If a slot contains no path, the call stops there and returns 2. If memory runs out, it stops there and returns 100. The
 /// paths before it stay inserted.
 #[unsafe(no_mangle)]
-pub extern "C" fn vlt_set_extend(set: &mut Slot, paths: &mut [Slot], inserted: &mut usize) -> u32
+pub extern "C" fn vlt_core_set_extend(
+    set: &mut Slot,
+    paths: &mut [Slot],
+    inserted: &mut usize,
+) -> u32
     ensures gains { GainsSlots (set_in set.old.value) (objects_in paths.old) result inserted.old inserted.new set.old.value set.new.value }
     ensures kept { objects_in paths.new ≡ objects_in paths.old }
 {
@@ -282,7 +287,7 @@ fn insert_slot(members: &mut FieldPathSet, slot: &mut Slot) -> u32
 /// Inserts copies of the paths of the list into the set, in order. If memory runs out, the call stops there and returns
 /// 100. The paths that it inserted before stay in the set.
 #[unsafe(no_mangle)]
-pub extern "C" fn vlt_set_extend_from_list(paths: &mut Slot, list: &mut Slot) -> u32
+pub extern "C" fn vlt_core_set_extend_from_list(paths: &mut Slot, list: &mut Slot) -> u32
     ensures gains { GainsListIn (set_in paths.old.value) (paths_in list.old.value) result paths.old.value paths.new.value }
     ensures kept { list.new.value ≡ list.old.value }
 {

@@ -3,10 +3,11 @@
 
 // Several names that come in as one text, and the length of each. The length `ELEMENT` stands for the step into the element,
 // and has no bytes.
-ghost use Rattle.std.specs.Prelude.{◌≡◌, ◌++◌, ◌≢◌, ◌⊎◌, ◌≤◌, drop, map, IfErr, IfOk, length};
-ghost use Rattle.std.specs.List.{flat_map};
+ghost use Rattle.std.specs.Prelude.{◌≡◌, ◌⊎◌, ◌≤◌, drop, take, IfErr, IfOk, IsUtf8, length};
+ghost use Rattle.vortex_logical_types.specs.Several.{NamesFault};
 ghost use Rattle.vortex_logical_types.specs.Slots.{path_in};
-ghost use Rattle.vortex_logical_types.specs.Steps.{HasSteps, RefusesName, RefusesSteps, fault_code, step_bytes, step_length, step_size};
+ghost use Rattle.vortex_logical_types.specs.Steps.{HaveNoFault, RefusesName, fault_code, reads_steps, step_cut, step_size, steps_cut};
+ghost use Rattle.vortex_logical_types.specs.Vocabulary.{Puts, unless_memory};
 ghost use Rattle.vortex_logical_types.specs.declared.steps.StepFault.TheVariants.{OutOfMemory};
 
 use crate::errors::{LIBRARY, NOT_UTF8, RANGE};
@@ -62,9 +63,10 @@ pub struct Names<'a> {
 impl<'a> Names<'a> {
     // Takes the next step, which has this length.
     fn step(&mut self, alloc: Global, wanted: usize) -> Result<Field, StepFault>
-        ensures bytes { IfOk result (λ f. self.old.rest.now ≡ step_bytes f ++ self.new.rest.now) }
-        ensures size { IfOk result (λ f. step_length f ≡ wanted) }
-        ensures advance { IfOk result (λ _. (step_size wanted ≤ length self.old.rest.now) × (self.new.rest.now ≡ drop (step_size wanted) self.old.rest.now)) }
+        ensures step { IfOk result (λ f. f ≡ step_cut self.old.rest.now wanted) }
+        ensures fits { IfOk result (λ _. step_size wanted ≤ length self.old.rest.now) }
+        ensures utf8 { IfOk result (λ _. IsUtf8 (take (step_size wanted) self.old.rest.now)) }
+        ensures advance { IfOk result (λ _. self.new.rest.now ≡ drop (step_size wanted) self.old.rest.now) }
         ensures fault { IfErr result (λ e. RefusesName (step_size wanted) self.old.rest.now (fault_code e)) }
     {
         if wanted == ELEMENT {
@@ -75,9 +77,10 @@ impl<'a> Names<'a> {
 
     /// Removes the next name, which has this length, from the front of the bytes and returns it.
     pub fn name(&mut self, wanted: usize) -> Result<&'a str, StepFault>
-        ensures bytes { IfOk result (λ n. self.old.rest.now ≡ n.now ++ self.new.rest.now) }
-        ensures size { IfOk result (λ n. length n.now ≡ wanted) }
-        ensures advance { IfOk result (λ _. (wanted ≤ length self.old.rest.now) × (self.new.rest.now ≡ drop wanted self.old.rest.now)) }
+        ensures name { IfOk result (λ n. n.now ≡ take wanted self.old.rest.now) }
+        ensures fits { IfOk result (λ _. wanted ≤ length self.old.rest.now) }
+        ensures utf8 { IfOk result (λ _. IsUtf8 (take wanted self.old.rest.now)) }
+        ensures advance { IfOk result (λ _. self.new.rest.now ≡ drop wanted self.old.rest.now) }
         ensures fault { IfErr result (λ e. RefusesName wanted self.old.rest.now (fault_code e)) }
     {
         if wanted > self.rest.len() {
@@ -94,9 +97,9 @@ impl<'a> Names<'a> {
 
 // Returns the steps that these names and lengths are.
 fn steps_of(alloc: Global, names: &[u8], lengths: &[usize]) -> Result<Vec<Field>, StepFault>
-    ensures bytes { IfOk result (λ v. flat_map step_bytes v.items ≡ names.now) }
-    ensures sizes { IfOk result (λ v. map step_length v.items ≡ lengths.now) }
-    ensures fault { IfErr result (λ e. RefusesSteps names.now lengths.now (fault_code e)) }
+    ensures steps { IfOk result (λ v. v.items ≡ steps_cut names.now lengths.now) }
+    ensures right { IfOk result (λ _. HaveNoFault names.now lengths.now) }
+    ensures fault { IfErr result (λ e. NamesFault step_size names.now lengths.now (fault_code e) ⊎ (fault_code e ≡ 100)) }
 {
     let mut names = Names { rest: names };
     let mut steps = Vec::with_capacity(alloc, lengths.len())?;
@@ -123,18 +126,17 @@ pub fn code_of(fault: StepFault) -> u32
 
 /// Stores in `out` the path of these steps. `names` contains the bytes of all names, one name directly after the other,
 /// and `name_lengths` contains the number of bytes of the name of each step. The length 2^64 - 1 (`VLT_ELEMENT` in C)
-/// stands for the step to the element, which has no bytes in `names`. Returns 3 if a name isn't UTF-8, and 9 if the
-/// lengths don't add up to the number of bytes.
+/// stands for the step to the element, which has no bytes in `names`. Returns the number for the first fault of the names,
+/// in their order: 9 if fewer bytes are left than a length says, 3 if the name of a length isn't UTF-8, and 9 if bytes are
+/// left after the last name.
 #[unsafe(no_mangle)]
-pub extern "C" fn vlt_path_from_steps(
+pub extern "C" fn vlt_core_path_from_steps(
     alloc: Global,
     names: &[u8],
     name_lengths: &[usize],
     out: &mut Slot,
 ) -> u32
-    ensures made { result ≡ 0 → HasSteps names.now name_lengths.now (path_in out.new.value) }
-    ensures refused { (result ≡ 0) ⊎ RefusesSteps names.now name_lengths.now result }
-    ensures unchanged { result ≢ 0 → out.new.value ≡ out.old.value }
+    ensures { Puts path_in (unless_memory (reads_steps names.now name_lengths.now)) result out.old.value out.new.value }
 {
     match steps_of(alloc, names, name_lengths) {
         Ok(steps) => put(alloc, out, Object::Path(FieldPath::from_vec(steps))),

@@ -20,8 +20,10 @@ use std::str;
 
 /// Writes the number of fields of the struct to `count`. Returns 5 if the type isn't a struct.
 #[unsafe(no_mangle)]
-pub extern "C" fn vlt_struct_nfields(dtype: &mut Slot, count: &mut usize) -> u32
-    ensures writes { Writes (on (type_in dtype.old.value) (λ t. within (struct_fields t) (λ fs. gives (length fs)))) result count.old count.new }
+pub extern "C" fn vlt_core_struct_nfields(dtype: &mut Slot, count: &mut usize) -> u32
+    ensures writes { Writes
+        (on (type_in dtype.old.value) (λ t. within (struct_fields t) (λ fs. gives (length fs))))
+        result count.old count.new }
     ensures kept { dtype.new.value ≡ dtype.old.value }
 {
     let Some(dtype) = as_dtype(dtype) else {
@@ -37,13 +39,16 @@ pub extern "C" fn vlt_struct_nfields(dtype: &mut Slot, count: &mut usize) -> u32
 /// Stores in `out` the type of the field at the position `index`. Returns 1 if the position isn't below the number of
 /// fields, and 5 if the type isn't a struct.
 #[unsafe(no_mangle)]
-pub extern "C" fn vlt_struct_field_by_index(
+pub extern "C" fn vlt_core_struct_field_by_index(
     alloc: Global,
     dtype: &mut Slot,
     index: usize,
     out: &mut Slot,
 ) -> u32
-    ensures puts { Puts type_in (on (type_in dtype.old.value) (λ t. within (struct_fields t) (λ fs. found (slice_get (field_types fs) index) (λ u. unless_memory (gives u))))) result out.old.value out.new.value }
+    ensures puts { Puts type_in
+        (on (type_in dtype.old.value)
+        (λ t. within (struct_fields t) (λ fs. found (slice_get (field_types fs) index) (λ u. unless_memory (gives u)))))
+        result out.old.value out.new.value }
     ensures kept { dtype.new.value ≡ dtype.old.value }
 {
     let Some(dtype) = as_dtype(dtype) else {
@@ -58,8 +63,11 @@ pub extern "C" fn vlt_struct_field_by_index(
 /// Writes the position of the first field with this name to `index`. Returns 1 if no field has the name, 3 if the name
 /// isn't UTF-8, and 5 if the type isn't a struct.
 #[unsafe(no_mangle)]
-pub extern "C" fn vlt_struct_find(dtype: &mut Slot, name: &[u8], index: &mut usize) -> u32
-    ensures writes { Writes (if_utf8 name.now (on (type_in dtype.old.value) (λ t. within (struct_fields t) (λ fs. found (first_place (field_names fs) name.now) gives)))) result index.old index.new }
+pub extern "C" fn vlt_core_struct_find(dtype: &mut Slot, name: &[u8], index: &mut usize) -> u32
+    ensures writes { Writes
+        (if_utf8 name.now (on (type_in dtype.old.value)
+        (λ t. within (struct_fields t) (λ fs. found (first_place (field_names fs) name.now) gives))))
+        result index.old index.new }
     ensures kept { dtype.new.value ≡ dtype.old.value }
 {
     let Ok(name) = str::from_utf8(name) else {
@@ -77,13 +85,16 @@ pub extern "C" fn vlt_struct_find(dtype: &mut Slot, name: &[u8], index: &mut usi
 /// Stores in `out` the type of the first field with this name. Returns 1 if no field has the name, 3 if the name isn't
 /// UTF-8, and 5 if the type isn't a struct.
 #[unsafe(no_mangle)]
-pub extern "C" fn vlt_struct_field(
+pub extern "C" fn vlt_core_struct_field(
     alloc: Global,
     dtype: &mut Slot,
     name: &[u8],
     out: &mut Slot,
 ) -> u32
-    ensures puts { Puts type_in (if_utf8 name.now (on (type_in dtype.old.value) (λ t. within (struct_fields t) (λ fs. found (first_named fs name.now) (λ u. unless_memory (gives u)))))) result out.old.value out.new.value }
+    ensures puts { Puts type_in
+        (if_utf8 name.now (on (type_in dtype.old.value)
+        (λ t. within (struct_fields t) (λ fs. found (first_named fs name.now) (λ u. unless_memory (gives u))))))
+        result out.old.value out.new.value }
     ensures kept { dtype.new.value ≡ dtype.old.value }
 {
     let Ok(name) = str::from_utf8(name) else {
@@ -101,13 +112,15 @@ pub extern "C" fn vlt_struct_field(
 /// Writes the name of the field at the position `index` to `buffer`. Returns 1 if the position isn't below the number
 /// of fields, and 5 if the type isn't a struct.
 #[unsafe(no_mangle)]
-pub extern "C" fn vlt_struct_field_name(
+pub extern "C" fn vlt_core_struct_field_name(
     dtype: &mut Slot,
     index: usize,
     buffer: &mut [u8],
     length: &mut usize,
 ) -> u32
-    ensures fills { Fills (on (type_in dtype.old.value) (λ t. within (struct_fields t) (λ fs. found (slice_get (field_names fs) index) gives))) result (buffer.old, length.old) (buffer.new, length.new) }
+    ensures fills { Fills
+        (on (type_in dtype.old.value) (λ t. within (struct_fields t) (λ fs. found (slice_get (field_names fs) index) gives)))
+        result (buffer.old, length.old) (buffer.new, length.new) }
     ensures kept { dtype.new.value ≡ dtype.old.value }
 {
     let Some(dtype) = as_dtype(dtype) else {

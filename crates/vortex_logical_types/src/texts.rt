@@ -22,13 +22,15 @@ use std::alloc::Global;
 
 /// Writes the type to `buffer` as the library displays it, for example `{a=i32, b=list(utf8)?}`.
 #[unsafe(no_mangle)]
-pub extern "C" fn vlt_dtype_display(
+pub extern "C" fn vlt_core_dtype_display(
     alloc: Global,
     dtype: &mut Slot,
     buffer: &mut [u8],
     length: &mut usize,
 ) -> u32
-    ensures fills { Fills (on (type_in dtype.old.value) (λ t. unless_memory (gives (text t)))) result (buffer.old, length.old) (buffer.new, length.new) }
+    ensures fills { Fills
+        (on (type_in dtype.old.value) (λ t. unless_memory (gives (text t))))
+        result (buffer.old, length.old) (buffer.new, length.new) }
     ensures kept { dtype.new.value ≡ dtype.old.value }
 {
     let Some(dtype) = as_dtype(dtype) else {
@@ -51,13 +53,15 @@ fn displayed(alloc: Global, dtype: &DType) -> VortexResult<String>
 /// Writes the fields of a struct to `buffer` as indented text, in which each field begins on a new line. Returns 5 if
 /// the type isn't a struct.
 #[unsafe(no_mangle)]
-pub extern "C" fn vlt_struct_indented(
+pub extern "C" fn vlt_core_struct_indented(
     alloc: Global,
     dtype: &mut Slot,
     buffer: &mut [u8],
     length: &mut usize,
 ) -> u32
-    ensures fills { Fills (on (type_in dtype.old.value) (λ t. within (struct_fields t) (λ fs. unless_memory (gives (indented_text (fields_of_pairs fs)))))) result (buffer.old, length.old) (buffer.new, length.new) }
+    ensures fills { Fills
+        (on (type_in dtype.old.value) (λ t. within (struct_fields t) (λ fs. unless_memory (gives (indented_text (fields_of_pairs fs))))))
+        result (buffer.old, length.old) (buffer.new, length.new) }
     ensures kept { dtype.new.value ≡ dtype.old.value }
 {
     let Some(dtype) = as_dtype(dtype) else {

@@ -20,8 +20,10 @@ use std::str;
 
 /// Writes the number of variants of the union to `count`. Returns 5 if the type isn't a union.
 #[unsafe(no_mangle)]
-pub extern "C" fn vlt_union_len(dtype: &mut Slot, count: &mut usize) -> u32
-    ensures writes { Writes (on (type_in dtype.old.value) (λ t. within (union_variants t) (λ vs. gives (length vs)))) result count.old count.new }
+pub extern "C" fn vlt_core_union_len(dtype: &mut Slot, count: &mut usize) -> u32
+    ensures writes { Writes
+        (on (type_in dtype.old.value) (λ t. within (union_variants t) (λ vs. gives (length vs))))
+        result count.old count.new }
     ensures kept { dtype.new.value ≡ dtype.old.value }
 {
     let Some(dtype) = as_dtype(dtype) else {
@@ -37,13 +39,16 @@ pub extern "C" fn vlt_union_len(dtype: &mut Slot, count: &mut usize) -> u32
 /// Stores in `out` the type of the variant at the position `index`. Returns 1 if the position isn't below the number of
 /// variants, and 5 if the type isn't a union.
 #[unsafe(no_mangle)]
-pub extern "C" fn vlt_union_variant_by_index(
+pub extern "C" fn vlt_core_union_variant_by_index(
     alloc: Global,
     dtype: &mut Slot,
     index: usize,
     out: &mut Slot,
 ) -> u32
-    ensures puts { Puts type_in (on (type_in dtype.old.value) (λ t. within (union_variants t) (λ vs. found (slice_get (variant_types vs) index) (λ u. unless_memory (gives u))))) result out.old.value out.new.value }
+    ensures puts { Puts type_in
+        (on (type_in dtype.old.value)
+        (λ t. within (union_variants t) (λ vs. found (slice_get (variant_types vs) index) (λ u. unless_memory (gives u)))))
+        result out.old.value out.new.value }
     ensures kept { dtype.new.value ≡ dtype.old.value }
 {
     let Some(dtype) = as_dtype(dtype) else {
@@ -58,8 +63,11 @@ pub extern "C" fn vlt_union_variant_by_index(
 /// Writes the position of the variant with this name to `index`. Returns 1 if no variant has the name, 3 if the name
 /// isn't UTF-8, and 5 if the type isn't a union.
 #[unsafe(no_mangle)]
-pub extern "C" fn vlt_union_find(dtype: &mut Slot, name: &[u8], index: &mut usize) -> u32
-    ensures writes { Writes (if_utf8 name.now (on (type_in dtype.old.value) (λ t. within (union_variants t) (λ vs. found (first_place (variant_names vs) name.now) gives)))) result index.old index.new }
+pub extern "C" fn vlt_core_union_find(dtype: &mut Slot, name: &[u8], index: &mut usize) -> u32
+    ensures writes { Writes
+        (if_utf8 name.now (on (type_in dtype.old.value)
+        (λ t. within (union_variants t) (λ vs. found (first_place (variant_names vs) name.now) gives))))
+        result index.old index.new }
     ensures kept { dtype.new.value ≡ dtype.old.value }
 {
     let Ok(name) = str::from_utf8(name) else {
@@ -77,13 +85,16 @@ pub extern "C" fn vlt_union_find(dtype: &mut Slot, name: &[u8], index: &mut usiz
 /// Stores in `out` the type of the variant with this name. Returns 1 if no variant has the name, 3 if the name isn't
 /// UTF-8, and 5 if the type isn't a union.
 #[unsafe(no_mangle)]
-pub extern "C" fn vlt_union_variant(
+pub extern "C" fn vlt_core_union_variant(
     alloc: Global,
     dtype: &mut Slot,
     name: &[u8],
     out: &mut Slot,
 ) -> u32
-    ensures puts { Puts type_in (if_utf8 name.now (on (type_in dtype.old.value) (λ t. within (union_variants t) (λ vs. found (variant_named vs name.now) (λ u. unless_memory (gives u)))))) result out.old.value out.new.value }
+    ensures puts { Puts type_in
+        (if_utf8 name.now (on (type_in dtype.old.value)
+        (λ t. within (union_variants t) (λ vs. found (variant_named vs name.now) (λ u. unless_memory (gives u))))))
+        result out.old.value out.new.value }
     ensures kept { dtype.new.value ≡ dtype.old.value }
 {
     let Ok(name) = str::from_utf8(name) else {
@@ -101,8 +112,14 @@ pub extern "C" fn vlt_union_variant(
 /// Writes the position of the variant with this tag to `index`. Returns 1 if no variant has the tag, and 5 if the type
 /// isn't a union.
 #[unsafe(no_mangle)]
-pub extern "C" fn vlt_union_tag_to_child_index(dtype: &mut Slot, tag: u8, index: &mut usize) -> u32
-    ensures writes { Writes (on (type_in dtype.old.value) (λ t. within (union_variants t) (λ vs. found (position (λ g. g == tag) (variant_tags vs)) gives))) result index.old index.new }
+pub extern "C" fn vlt_core_union_tag_to_child_index(
+    dtype: &mut Slot,
+    tag: u8,
+    index: &mut usize,
+) -> u32
+    ensures writes { Writes
+        (on (type_in dtype.old.value) (λ t. within (union_variants t) (λ vs. found (position (λ g. g == tag) (variant_tags vs)) gives)))
+        result index.old index.new }
     ensures kept { dtype.new.value ≡ dtype.old.value }
 {
     let Some(dtype) = as_dtype(dtype) else {
@@ -117,8 +134,14 @@ pub extern "C" fn vlt_union_tag_to_child_index(dtype: &mut Slot, tag: u8, index:
 /// Writes the tag of the variant at the position `index` to `tag`. Returns 1 if the position isn't below the number of
 /// variants, and 5 if the type isn't a union.
 #[unsafe(no_mangle)]
-pub extern "C" fn vlt_union_child_index_to_tag(dtype: &mut Slot, index: usize, tag: &mut u8) -> u32
-    ensures writes { Writes (on (type_in dtype.old.value) (λ t. within (union_variants t) (λ vs. found (slice_get (variant_tags vs) index) gives))) result tag.old tag.new }
+pub extern "C" fn vlt_core_union_child_index_to_tag(
+    dtype: &mut Slot,
+    index: usize,
+    tag: &mut u8,
+) -> u32
+    ensures writes { Writes
+        (on (type_in dtype.old.value) (λ t. within (union_variants t) (λ vs. found (slice_get (variant_tags vs) index) gives)))
+        result tag.old tag.new }
     ensures kept { dtype.new.value ≡ dtype.old.value }
 {
     let Some(dtype) = as_dtype(dtype) else {
@@ -137,13 +160,15 @@ pub extern "C" fn vlt_union_child_index_to_tag(dtype: &mut Slot, index: usize, t
 /// Writes the name of the variant at the position `index` to `buffer`. Returns 1 if the position isn't below the number
 /// of variants, and 5 if the type isn't a union.
 #[unsafe(no_mangle)]
-pub extern "C" fn vlt_union_variant_name(
+pub extern "C" fn vlt_core_union_variant_name(
     dtype: &mut Slot,
     index: usize,
     buffer: &mut [u8],
     length: &mut usize,
 ) -> u32
-    ensures fills { Fills (on (type_in dtype.old.value) (λ t. within (union_variants t) (λ vs. found (slice_get (variant_names vs) index) gives))) result (buffer.old, length.old) (buffer.new, length.new) }
+    ensures fills { Fills
+        (on (type_in dtype.old.value) (λ t. within (union_variants t) (λ vs. found (slice_get (variant_names vs) index) gives)))
+        result (buffer.old, length.old) (buffer.new, length.new) }
     ensures kept { dtype.new.value ≡ dtype.old.value }
 {
     let Some(dtype) = as_dtype(dtype) else {
@@ -158,8 +183,10 @@ pub extern "C" fn vlt_union_variant_name(
 /// Returns 0 if the tags are 0, 1, 2 and so on in the order of the variants, 1 if they aren't, and 5 if the type isn't
 /// a union.
 #[unsafe(no_mangle)]
-pub extern "C" fn vlt_union_is_consecutive(dtype: &mut Slot) -> u32
-    ensures answer { Answers (on (type_in dtype.old.value) (λ t. within (union_variants t) (λ vs. tells (AreConsecutive (variant_tags vs))))) result }
+pub extern "C" fn vlt_core_union_is_consecutive(dtype: &mut Slot) -> u32
+    ensures answer { Answers
+        (on (type_in dtype.old.value) (λ t. within (union_variants t) (λ vs. tells (AreConsecutive (variant_tags vs)))))
+        result }
     ensures kept { dtype.new.value ≡ dtype.old.value }
 {
     let Some(dtype) = as_dtype(dtype) else {

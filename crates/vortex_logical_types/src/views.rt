@@ -7,9 +7,10 @@ ghost use Rattle.std.specs.Borrow.{sem};
 ghost use Rattle.c_objects.specs.Lends.{Keeps};
 ghost use Rattle.dtype_messages.specs.MessageOf.{message};
 ghost use Rattle.dtype_types.specs.tree.TreeOf.{tree};
-ghost use Rattle.vortex_logical_types.specs.Slots.{mask_in, message_in, path_in, paths_in, set_in, type_in};
+ghost use Rattle.vortex_logical_types.specs.Slots.{error_in, fields_in, mask_in, message_in, pairs_of, path_in, paths_in, set_in, type_in};
 
-use c_objects::{Object, Slot};
+use c_objects::{Failure, Object, Slot};
+use dtype_base::FieldName;
 use dtype_messages::pb;
 use dtype_paths::{FieldMask, FieldPath, FieldPathSet};
 use dtype_types::DType;
@@ -76,6 +77,28 @@ pub fn as_message(slot: &mut Slot) -> Option<&pb::DType>
 {
     match slot.get() {
         Some(Object::Message(message)) => Some(message),
+        _ => None,
+    }
+}
+
+/// Returns the fields that the slot contains, or `None` if it contains none.
+pub fn as_fields(slot: &mut Slot) -> Option<&Vec<(FieldName, DType)>>
+    ensures value { MatchOption result (fields_in slot.old.value ≡ None) (λ v. fields_in slot.old.value ≡ Some (pairs_of v.now.items)) }
+    ensures* keeps { sem 𝓛 (Keeps slot.entry) }
+{
+    match slot.get() {
+        Some(Object::Fields(fields)) => Some(fields),
+        _ => None,
+    }
+}
+
+/// Returns the error that the slot contains, or `None` if it contains none.
+pub fn as_error(slot: &mut Slot) -> Option<&Failure>
+    ensures value { MatchOption result (error_in slot.old.value ≡ None) (λ e. error_in slot.old.value ≡ Some e.now) }
+    ensures* keeps { sem 𝓛 (Keeps slot.entry) }
+{
+    match slot.get() {
+        Some(Object::Error(failure)) => Some(failure),
         _ => None,
     }
 }

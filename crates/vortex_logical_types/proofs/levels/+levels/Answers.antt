@@ -1,7 +1,7 @@
 -- SPDX-License-Identifier: Apache-2.0
 -- SPDX-FileCopyrightText: Copyright the Vortex contributors
 
-use Rattle.std.proofs.Common.{◌≡◌, ◌∙◌, ap, sym, nat_le}
+use Rattle.std.proofs.Common.{◌∙◌, ap, sym, nat_le}
 use Rattle.dtype_types.specs.tree.TreeOf.{children, tree, variant_list}
 use Rattle.dtype_types.proofs.lemmas.TreeLaws.{tree_struct, tree_union}
 use Rattle.vortex_logical_types.specs.Levels.{levels, levels_over}

@@ -1,17 +1,15 @@
 -- SPDX-License-Identifier: Apache-2.0
 -- SPDX-FileCopyrightText: Copyright the Vortex contributors
 
-use Rattle.std.proofs.Common.{◌≡◌, ◌++◌, map, take}
-use Rattle.std.specs.List.{flat_map}
-use Rattle.vortex_logical_types.specs.Steps.{step_bytes, step_length}
-use Rattle.vortex_logical_types.specs.Steps.{step_size}
-use Rattle.vortex_logical_types.proofs.Lengths.{IsLeftAt}
+use Rattle.std.proofs.Common.{◌≡◌, ◌++◌, ℕ, drop}
+use Rattle.vortex_logical_types.specs.Several.{NamesFault}
+use Rattle.vortex_logical_types.specs.Steps.{step_size, steps_cut}
 use Rattle.vortex_logical_types.proofs.steps.steps_of.Given as goal
 
--- the steps so far have the bytes before what is left, and the lengths so far; what is left begins where the next step does
+-- the steps so far, before those of what is left, are all steps; the first fault of what is left is the first of all
 abbrev pub invariant-loop-length : goal.invariant-loop-length
 invariant-loop-length l = record {
-  bytes : flat_map step_bytes l.steps.items ++ l.names.rest.now ≡ l.fn.names;
-  sizes : map step_length l.steps.items ≡ take l.length-index l.lengths;
-  left : IsLeftAt step_size l.fn.names l.lengths l.length-index l.names.rest.now;
+  steps : l.steps.items ++ steps_cut l.names.rest.now (drop l.length-index l.lengths) ≡ steps_cut l.fn.names l.lengths;
+  first : (code : ℕ) → NamesFault step_size l.names.rest.now (drop l.length-index l.lengths) code → NamesFault step_size l.fn.names l.lengths code;
+  left : (code : ℕ) → NamesFault step_size l.fn.names l.lengths code → NamesFault step_size l.names.rest.now (drop l.length-index l.lengths) code;
 }

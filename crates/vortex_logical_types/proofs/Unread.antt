@@ -1,0 +1,62 @@
+-- SPDX-License-Identifier: Apache-2.0
+-- SPDX-FileCopyrightText: Copyright the Vortex contributors
+
+-- An error of the reader of a text is the reason that is stored, in the words of the export.
+use Rattle.std.proofs.Common.{◌≡◌, ℕ, List, length, Option, Some, None, Err, inl, inr}
+use Rattle.c_objects.specs.declared.failure.Failure.{Failure}
+use Rattle.c_objects.specs.declared.failure.Failure.TheVariants.{Library, Text, Deep, Arrow}
+use Rattle.c_objects.specs.declared.object.Object.{Object}
+use Rattle.dtype_paths.specs.declared.field.Field.{Field}
+use Rattle.dtype_text.specs.Grammar.{IsReadAs, IsSpelled}
+use Rattle.dtype_text.specs.PathGrammar.{StandsForPath}
+use Rattle.dtype_text.specs.Paths.{IsPathError}
+use Rattle.dtype_text.specs.declared.text_error.TextError.{TextError}
+use Rattle.dtype_text.specs.declared.text_error.TextError.TheVariants.{OutOfMemory, Refused, TooDeep, Misread}
+use Rattle.dtype_types.specs.tree.Tree.{Tree}
+use Rattle.vortex_logical_types.specs.Slots.{error_in, path_in, type_in}
+use Rattle.vortex_logical_types.specs.Texts.{IsReasonOf, IsUnreadPath, IsUnreadType, StoresUnread, reads_path, reads_type}
+use Rattle.vortex_logical_types.specs.Vocabulary.{OfThe, PutsOr, failure_code, unless_memory}
+
+-- what is true of every reason of one kind is true of the reason in a slot
+changed : (P Q : Failure → Type 0) → ((f : Failure) → P f → Q f) → (code : ℕ) (e : Option Failure) → OfThe e (λ f. (code ≡ failure_code f) × P f) → OfThe e (λ f. (code ≡ failure_code f) × Q f)
+changed P Q to code None h = h
+changed P Q to code (Some f) h = (h.0, to f h.1)
+
+type_reason : (text : List ℕ) (why : TextError) → ((t : Tree) → IsSpelled t text → IsReadAs t (Err why)) → (f : Failure) → IsReasonOf why (length text) f → IsUnreadType text f
+type_reason text OutOfMemory read f h = absurd h
+type_reason text (Refused e) read (Library g) h = read
+type_reason text (Refused e) read (Text at message) h = absurd h
+type_reason text (Refused e) read (Deep at) h = absurd h
+type_reason text (Refused e) read (Arrow message) h = absurd h
+type_reason text (TooDeep position) read (Deep at) h = (h.0, read)
+type_reason text (TooDeep position) read (Library g) h = absurd h
+type_reason text (TooDeep position) read (Text at message) h = absurd h
+type_reason text (TooDeep position) read (Arrow message) h = absurd h
+type_reason text (Misread position expected found) read (Text at message) h = (h.0, read)
+type_reason text (Misread position expected found) read (Library g) h = absurd h
+type_reason text (Misread position expected found) read (Deep at) h = absurd h
+type_reason text (Misread position expected found) read (Arrow message) h = absurd h
+
+-- a text that isn't read as a type
+pub type_unread : (text : List ℕ) (why : TextError) (code : ℕ) (old new was is : Option Object) → ((t : Tree) → IsSpelled t text → IsReadAs t (Err why))
+    → StoresUnread why (length text) code was is → new ≡ old → PutsOr type_in (unless_memory (reads_type text)) code old new was is
+type_unread text why code old new was is read (inl stored) same =
+    inl (inr (changed (IsReasonOf why (length text)) (IsUnreadType text) (type_reason text why read) code (error_in is) stored, same))
+type_unread text why code old new was is read (inr full) same = inr (full.0, same, full.1)
+
+path_reason : (text : List ℕ) (why : TextError) → IsPathError why → ((p : List Field) → StandsForPath p text → why ≡ OutOfMemory) → (f : Failure) → IsReasonOf why (length text) f
+    → IsUnreadPath text f
+path_reason text OutOfMemory error only f h = absurd h
+path_reason text (Refused e) error only f h = absurd error
+path_reason text (TooDeep position) error only f h = absurd error
+path_reason text (Misread position expected found) error only (Text at message) h = (h.0, λ p stands. let is_memory = only p stands in absurd cc)
+path_reason text (Misread position expected found) error only (Library g) h = absurd h
+path_reason text (Misread position expected found) error only (Deep at) h = absurd h
+path_reason text (Misread position expected found) error only (Arrow message) h = absurd h
+
+-- a text that isn't read as a path
+pub path_unread : (text : List ℕ) (why : TextError) (code : ℕ) (old new was is : Option Object) → IsPathError why → ((p : List Field) → StandsForPath p text → why ≡ OutOfMemory)
+    → StoresUnread why (length text) code was is → new ≡ old → PutsOr path_in (unless_memory (reads_path text)) code old new was is
+path_unread text why code old new was is error only (inl stored) same =
+    inl (inr (changed (IsReasonOf why (length text)) (IsUnreadPath text) (path_reason text why error only) code (error_in is) stored, same))
+path_unread text why code old new was is error only (inr full) same = inr (full.0, same, full.1)

@@ -1,0 +1,138 @@
+// SPDX-License-Identifier: Apache-2.0
+// SPDX-FileCopyrightText: Copyright the Vortex contributors
+
+// Types from and to the flat form of Arrow's schemas: nodes in pre-order, and the bytes of their texts.
+ghost use Rattle.std.specs.Prelude.{◌≡◌};
+ghost use Rattle.dtype_types.specs.tree.TreeOf.{tree};
+ghost use Rattle.vortex_logical_types.specs.Arrow.{FillsArrowOr, StoresFault, reads_arrow, writes_arrow};
+ghost use Rattle.vortex_logical_types.specs.AtOnce.{FillsWithBoth};
+ghost use Rattle.vortex_logical_types.specs.Slots.{type_in};
+ghost use Rattle.vortex_logical_types.specs.Vocabulary.{PutsOr, on};
+
+use crate::buffers::copy_both;
+use crate::errors::{KIND, LIBRARY, RANGE, TOO_DEEP};
+use crate::failures::{fail, fail_with};
+use crate::objects::put;
+use crate::views::as_dtype;
+use c_arrow::{ArrowFault, ArrowNode, dtype_of, nodes_of};
+use c_objects::{Failure, Object, Slot};
+use dtype_types::DType;
+use std::alloc::Global;
+
+/// Stores in `out` the type of the Arrow schema that the nodes and the bytes of the texts describe. If there is none, the
+/// first fault that is met in the order of the nodes is returned:
+///
+/// - 6 if a type is nested in more than 128 others.
+/// - 9 if the nodes and texts are those of no schema: if nodes or bytes end too early, or if some are left.
+/// - 10 if a field has no type here. `vlt_error_message` returns which field it is and why, for example
+///   `column "a.item": the Arrow format "tiM" has no type here`.
+/// - the number of the library's error if it refuses the type of a field: for a decimal 101 to 104, for a map 109 if its
+///   key type is nullable, and for a union 111 if it has more or fewer type ids than children, 112 if it has no children,
+///   113 if a type id occurs twice, and 115 if a name occurs twice.
+#[unsafe(no_mangle)]
+#[tactic(auto, using(crate::proofs::FaultsOfSchemas::faults))]
+pub extern "C" fn vlt_core_dtype_from_arrow_nodes(
+    alloc: Global,
+    nodes: &[ArrowNode],
+    texts: &[u8],
+    out: &mut Slot,
+    error: &mut Slot,
+) -> u32
+    ensures puts { PutsOr type_in reads_arrow result out.old.value out.new.value error.old.value error.new.value }
+{
+    match dtype_of(alloc, nodes, texts) {
+        Ok(dtype) => put(alloc, out, Object::DType(dtype)),
+        Err(fault) => fail_with_fault(alloc, error, fault),
+    }
+}
+
+/// Writes the nodes of the Arrow schema of the type to the front of `nodes`, the bytes of its texts to the front of
+/// `texts`, and the numbers of both to `node_count` and `text_length`. If one of the two buffers is too small, the call
+/// returns 7 and writes only the two numbers. It returns 6 if a type is nested in more than 128 others, and 10 if a part of
+/// the type has no Arrow type. `vlt_error_message` returns which part it is and why.
+///
+/// Nodes and texts are plain bytes, so another thread can read them.
+#[unsafe(no_mangle)]
+pub extern "C" fn vlt_core_dtype_to_arrow_nodes(
+    alloc: Global,
+    dtype: &mut Slot,
+    nodes: &mut [ArrowNode],
+    node_count: &mut usize,
+    texts: &mut [u8],
+    text_length: &mut usize,
+    error: &mut Slot,
+) -> u32
+    ensures fills { FillsArrowOr (on (type_in dtype.old.value) writes_arrow)
+        result ((nodes.old, node_count.old), (texts.old, text_length.old)) ((nodes.new, node_count.new), (texts.new, text_length.new))
+        error.old.value error.new.value }
+    ensures kept { dtype.new.value ≡ dtype.old.value }
+{
+    let Some(dtype) = as_dtype(dtype) else {
+        return KIND;
+    };
+    write(alloc, dtype, nodes, node_count, texts, text_length, error)
+}
+
+#[tactic(auto, using(crate::proofs::FaultsOfSchemas::faults))]
+fn write(
+    alloc: Global,
+    dtype: &DType,
+    nodes: &mut [ArrowNode],
+    node_count: &mut usize,
+    texts: &mut [u8],
+    text_length: &mut usize,
+    error: &mut Slot,
+) -> u32
+    ensures { FillsArrowOr (writes_arrow (tree dtype.now))
+        result ((nodes.old, node_count.old), (texts.old, text_length.old)) ((nodes.new, node_count.new), (texts.new, text_length.new))
+        error.old.value error.new.value }
+{
+    match nodes_of(alloc, dtype) {
+        Ok((all_nodes, all_texts)) => {
+            fill(
+                &all_nodes,
+                &all_texts,
+                nodes,
+                node_count,
+                texts,
+                text_length,
+            )
+        }
+        Err(fault) => fail_with_fault(alloc, error, fault),
+    }
+}
+
+// Writes nodes and texts to the fronts of two buffers, and their numbers beside them. If one doesn't fit, only the numbers are
+// written.
+fn fill(
+    all_nodes: &[ArrowNode],
+    all_texts: &[u8],
+    nodes: &mut [ArrowNode],
+    node_count: &mut usize,
+    texts: &mut [u8],
+    text_length: &mut usize,
+) -> u32
+    ensures { FillsWithBoth (all_nodes.now, all_texts.now) result
+        ((nodes.old, node_count.old), (texts.old, text_length.old)) ((nodes.new, node_count.new), (texts.new, text_length.new)) }
+{
+    *node_count = all_nodes.len();
+    *text_length = all_texts.len();
+    copy_both(all_nodes, all_texts, nodes, texts)
+}
+
+// Returns the number of a fault. If a field was refused, or if the library refused a type, the reason is stored in the slot
+// `error`.
+fn fail_with_fault(alloc: Global, error: &mut Slot, fault: ArrowFault) -> u32
+    ensures { StoresFault fault result error.old.value error.new.value }
+{
+    match fault {
+        ArrowFault::OutOfMemory => LIBRARY,
+        ArrowFault::OutOfRange => RANGE,
+        ArrowFault::TooDeep => TOO_DEEP,
+        ArrowFault::Library(why) => fail_with(alloc, error, why),
+        ArrowFault::Refused(refusal) => match refusal.message(alloc) {
+            Ok(message) => fail(alloc, error, Failure::Arrow { message }),
+            Err(_) => LIBRARY,
+        },
+    }
+}

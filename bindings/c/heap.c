@@ -2,8 +2,8 @@
 // SPDX-FileCopyrightText: Copyright the Vortex contributors
 
 /* The heap under libvortex_logical_types.a: the library calls these three functions for memory. Besides them it calls only
- * memcpy, memmove, memset, memcmp and bcmp of the C library. Here the three call malloc, realloc and free. They are weak
- * symbols, so a program that has another heap can define the three itself.
+ * memcpy, memmove, memset, memcmp, bcmp and strlen of the C library. Here the three call malloc, realloc and free. They are
+ * weak symbols, so a program that has another heap can define the three itself.
  *
  * A function that can't find memory returns ok = false; the library then returns 100 (out of memory) from the call that
  * asked. `at` is never null, also not where ok is false. No block is aligned to more than 16 bytes. */

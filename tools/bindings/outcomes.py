@@ -2,8 +2,9 @@
 # SPDX-FileCopyrightText: Copyright the Vortex contributors
 
 """Which numbers the contract of an exported function lets it return, as far as its clauses say so in a form that is known
-here. A clause is followed into the definitions that it uses, over each of their cases. Whatever isn't known counts as a
-statement that says nothing of the number, so the numbers that are found are never too few.
+here; and what it does with a slot, and which kind of object the slot contains. A clause is followed into the definitions
+that it uses, over each of their cases. Whatever isn't known counts as a statement that says nothing of the number, so the
+numbers that are found are never too few.
 
 For example, `Tells result P` is `((code ≡ 0) × P) ⊎ ((code ≡ 1) × (P → ⊥))`, so a function with this clause returns 0
 or 1."""
@@ -146,11 +147,21 @@ class Numbers:
             if count > len(given):
                 return None
             bound = {it: value for it, value in zip(case.parameters, given) if re.fullmatch(r"[^\W\d]\w*", it)}
+            if self.only_recurses(name, case, bound):
+                bound[name] = Bound("⊥", {})
             numbers = self.allowed(Bound(case.text, bound), given[count:], depth + 1)
             if numbers is None:
                 return None
             found |= numbers
         return found
+
+    def only_recurses(self, name, case, bound):
+        """Whether a case of a definition mentions it again, and each time with the same number at the end. Then that adds
+        no number to those of the other cases."""
+        again = re.findall(rf"\b{name}\b([^⊎×→]*)", case.text)
+        last = case.parameters[-1] if case.parameters else ""
+        return (bool(again) and last in bound and self.resolved(bound[last]).text == RESULT
+                and all(re.search(rf"\s{last}\)*\s*$", it) for it in again))
 
     def equal(self, sides):
         """The numbers that an equation allows, if one side of it is the result."""
@@ -167,16 +178,15 @@ class Numbers:
             it = Bound(bare(it.text), it.names)
         return it
 
-    def values(self, it):
+    def values(self, it, depth=0):
         """The numbers that an expression can be, or None where that isn't known."""
         if it.text.isdigit():
             return frozenset([int(it.text)])
         if re.fullmatch(r"100 \+ number_of \w+", it.text):
             return ERROR_NUMBERS
-        cases = self.definitions.get((arguments_of(it.text) or [""])[0], [])
-        if cases and all(case.text.isdigit() for case in cases):
-            return frozenset(int(case.text) for case in cases)
-        return None
+        cases = self.definitions.get((arguments_of(it.text) or [""])[0], []) if depth < DEEPEST else []
+        found = [self.values(Bound(case.text, {}), depth + 1) for case in cases]
+        return frozenset().union(*found) if found and None not in found else None
 
 
 def both(one, other):
@@ -184,3 +194,86 @@ def both(one, other):
     if one is None or other is None:
         return other if one is None else one
     return one & other
+
+
+SEEN = r"\b(?!objects_in)(\w+_in) "
+
+
+def slot_of(name, clauses, crate):
+    """What a call does with the slot, or the slots, of this name, and the word that finds its object, as its clauses say.
+    For example, `Puts type_in o result out.old.value out.new.value` says that a type is stored in `out`. The last two
+    arguments of a word whose name ends in `Or`, such as `PutsOr`, are the slot for why the call failed."""
+    role = kind = None
+    for it in clauses:
+        for fact in parts_of(bare(it), "×"):
+            head, *given = arguments_of(bare(fact)) or [""]
+            said = stored(head, given, name)
+            role, kind = said if said else (role, kind)
+    if not kind:
+        kind = next((word for it in clauses if (word := seen_in(bare(it), name, crate))), None)
+    return role, kind
+
+
+def stored(head, given, name):
+    """What an application of a word says that is done with a slot, or None. Several slots may be a tuple, for which the word
+    has as many arguments that find an object."""
+    slots = [re.match(r"(?:objects_in )?(\w+)\.old(?:\.value)?$", one) for it in given for one in items_of(it)]
+    slots = [it[1] for it in slots if it and f"{it[1]}.new" in " ".join(given)]
+    sees = [bare(it) for it in given if re.fullmatch(r"(?!objects_in)\w+_in", bare(it))]
+    if head.endswith("Or") and slots and name == slots[-1]:
+        return "tells", "error_in"
+    if sees and name in slots[:len(sees)]:
+        return ("changes" if head.startswith("Changes") else "puts"), sees[slots.index(name)]
+    return None
+
+
+def tuple_of(text):
+    """The items of a tuple, or the expression itself."""
+    text = text.strip()
+    if not text.startswith("(") or len(arguments_of(text)) > 1:
+        return [text]
+    parts = parts_of(text[1:-1].replace(",", " , "), ",")
+    return parts if len(parts) > 1 else tuple_of(parts[0])
+
+
+def items_of(text):
+    """The items of a tuple and of the tuples in it."""
+    parts = tuple_of(text)
+    return [one for it in parts for one in items_of(it)] if len(parts) > 1 else parts
+
+
+def place_of(text, name):
+    """Where a name is in an expression: `.1` for the second item of a pair, and an empty text if that is all of it."""
+    parts = tuple_of(text)
+    for at, it in enumerate(parts if len(parts) > 1 else ()):
+        if re.search(rf"\b{re.escape(name)}\b", it):
+            return f".{at}{place_of(it, name)}"
+    return ""
+
+
+def seen_in(text, name, crate, depth=0):
+    """The word that finds the object in a slot, in a statement and in the definitions that it uses."""
+    place = rf"(?:{re.escape(name)}(?:\.(?:old|new))?(?:\.value)?)(?![\w.])"
+    if found := re.search(SEEN + place, text) or re.search(rf"each_in (\w+_in) \((?:[^()]*[ (])?{place}", text):
+        return found[1]
+    if depth > 4:
+        return None
+    for fact in (one for it in parts_of(text, "⊎") for one in parts_of(bare(it), "×")):
+        head, *given = arguments_of(bare(fact)) or [""]
+        for case in definitions(crate).get(head, ()):
+            for parameter, value in zip(case.parameters, given):
+                inner = name_within(parameter, value, name) if re.fullmatch(r"[^\W\d]\w*", parameter) else None
+                if inner and (word := seen_in(case.text, inner, crate, depth + 1)):
+                    return word
+    return None
+
+
+def name_within(parameter, value, name):
+    """What a name is called in a definition whose parameter stands for this value, or None if it isn't in the value. For
+    example, of the pair `(a, b)` for the parameter `p` the name `b` is `p.1`, and of the value `q` the name `q.1` is."""
+    if re.search(rf"(?<![\w.]){re.escape(name)}\b", value):
+        return parameter + place_of(value, name)
+    whole, dot, rest = name.partition(".")
+    if dot and re.search(rf"(?<![\w.]){whole}(?![\w.])", value):
+        return f"{parameter}{place_of(value, whole)}.{rest}"
+    return None

@@ -2,8 +2,9 @@
 // SPDX-FileCopyrightText: Copyright the Vortex contributors
 
 //! Finds the proved library, which this package only calls: the file or the folder that `VORTEX_LOGICAL_TYPES_LIB`
-//! names, else `native/` in this package, else where `rt lib` writes it in the repository. Without the library, only the
-//! documentation can be built. The library of a release calls its heap by names of its own, which `src/ffi/heap.rs` then has.
+//! names, else `native/` in this package, else where `tools/bindings/library` writes it in the repository. Without the
+//! library, only the documentation can be built. The library of a release calls its heap by names of its own, which
+//! `src/ffi/heap.rs` then has.
 use std::path::{Path, PathBuf};
 use std::{env, fs};
 
@@ -37,8 +38,8 @@ fn main() {
             println!("cargo::rustc-cfg=without_library");
             println!(
                 "cargo::rustc-env=WITHOUT_LIBRARY=there is no {ARCHIVE} ({looked_for}): take the package of a release, which \
-                 has it in native/, or run `rt lib` in crates/vortex_logical_types of the repository, or set {SETTING} to \
-                 its path"
+                 has it in native/, or run `tools/bindings/library --prove` at the top of the repository, or set {SETTING} \
+                 to its path"
             );
         }
     }
@@ -50,10 +51,7 @@ fn archive() -> Result<PathBuf, String> {
     let places = match env::var_os(SETTING).filter(|named| !named.is_empty()) {
         Some(named) if Path::new(&named).is_dir() => vec![Path::new(&named).join(ARCHIVE)],
         Some(named) => vec![PathBuf::from(named)],
-        None => vec![
-            package.join("native").join(ARCHIVE),
-            package.join("../../crates/vortex_logical_types/out").join(ARCHIVE),
-        ],
+        None => vec![package.join("native").join(ARCHIVE), package.join("../../out/lib").join(ARCHIVE)],
     };
     match places.iter().find(|place| place.is_file()) {
         Some(place) if place.file_name() == Some(ARCHIVE.as_ref()) => Ok(place.clone()),

@@ -46,7 +46,7 @@ fn main() {
     time("contains, 100 members", 1_000_000, || {
         black_box(set.contains(&seventh));
     });
-    time("try_clone of u32", 1_000_000, || {
+    time("clone of u32", 1_000_000, || {
         black_box(leaf.clone());
     });
     time("resolve, one step, none", 1_000_000, || {
@@ -89,6 +89,13 @@ fn messages(wide: &DType) {
     });
     time("1,000 columns, to_flat", 200, || {
         black_box(message.to_flat().unwrap());
+    });
+    let schema = wide.to_arrow().unwrap();
+    time("1,000 columns, to_arrow", 200, || {
+        black_box(wide.to_arrow().unwrap());
+    });
+    time("1,000 columns, from_arrow", 200, || {
+        black_box(DType::from_arrow(&schema).unwrap());
     });
     time("1,000 columns, parse", 200, || {
         black_box(text.parse::<DType>().unwrap());

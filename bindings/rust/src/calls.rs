@@ -2,7 +2,7 @@
 // SPDX-FileCopyrightText: Copyright the Vortex contributors
 
 //! What the results of calls mean in Rust: values, texts, errors.
-use crate::error::Error;
+use crate::error::{Error, ErrorKind};
 use crate::ffi::{self, Slot};
 use crate::paths::Field;
 use std::alloc::{Layout, handle_alloc_error};
@@ -15,7 +15,7 @@ pub(crate) fn done(code: u32) -> Result<bool, Error> {
     match code {
         ffi::DONE => Ok(true),
         ffi::NONE => Ok(false),
-        _ => Err(Error::of(code, 0)),
+        _ => Err(Error::of(code)),
     }
 }
 
@@ -35,17 +35,19 @@ pub(crate) fn made(call: impl FnOnce(&mut Slot) -> u32) -> Result<Slot, Error> {
     let mut out = Slot::new();
     match call(&mut out) {
         ffi::DONE => Ok(out),
-        code => Err(Error::of(code, 0)),
+        code => Err(Error::of(code)),
     }
 }
 
 /// The object that a call reads from a text.
-pub(crate) fn read(text: &str, call: impl FnOnce(&[u8], &mut Slot, &mut usize) -> u32) -> Result<Slot, Error> {
-    let (mut out, mut position) = (Slot::new(), 0);
-    match call(text.as_bytes(), &mut out, &mut position) {
-        ffi::DONE => Ok(out),
-        code => Err(Error::of(code, position)),
-    }
+pub(crate) fn read(text: &str, call: impl FnOnce(&[u8], &mut Slot, &mut Slot) -> u32) -> Result<Slot, Error> {
+    explained(|error| made(|out| call(text.as_bytes(), out, error)))
+}
+
+/// What a call returns that is given a slot for its error. The error is the one in this slot, if the call left one there.
+pub(crate) fn explained<T>(call: impl FnOnce(&mut Slot) -> Result<T, Error>) -> Result<T, Error> {
+    let mut slot = Slot::new();
+    call(&mut slot).map_err(|error| error.explained_by(&slot))
 }
 
 /// The value that a call writes, if there is one.
@@ -63,7 +65,7 @@ pub(crate) fn plain<T: Default>(call: impl FnOnce(&mut T) -> u32) -> T {
 }
 
 /// The bytes that a call writes, and its result, which isn't that the buffer is too small.
-fn bytes(call: impl Fn(&mut [u8], &mut usize) -> u32) -> Result<(Vec<u8>, usize, u32), Error> {
+fn bytes(mut call: impl FnMut(&mut [u8], &mut usize) -> u32) -> Result<(Vec<u8>, usize, u32), Error> {
     let (mut short, mut length) = ([0; SHORT], 0);
     let code = call(&mut short, &mut length);
     if code != ffi::SMALL {
@@ -85,13 +87,13 @@ pub(crate) fn room<T: Clone + Default>(length: usize) -> Result<Vec<T>, Error> {
 /// An empty vector with room for so many items.
 pub(crate) fn reserved<T>(count: usize) -> Result<Vec<T>, Error> {
     let mut items = Vec::new();
-    items.try_reserve_exact(count).map_err(|_| Error::OutOfMemory)?;
+    items.try_reserve_exact(count).map_err(|_| Error::memory())?;
     Ok(items)
 }
 
 /// Puts an item behind the others of a vector.
 pub(crate) fn pushed<T>(items: &mut Vec<T>, item: T) -> Result<(), Error> {
-    items.try_reserve(1).map_err(|_| Error::OutOfMemory)?;
+    items.try_reserve(1).map_err(|_| Error::memory())?;
     items.push(item);
     Ok(())
 }
@@ -110,16 +112,16 @@ pub(crate) fn bytes_found(call: impl Fn(&mut [u8], &mut usize) -> u32) -> Result
 
 /// The text that a call writes.
 pub(crate) fn text(call: impl Fn(&mut [u8], &mut usize) -> u32) -> Result<String, Error> {
-    text_found(call)?.ok_or(Error::OutOfRange)
+    text_found(call)?.ok_or(ErrorKind::OutOfRange.into())
 }
 
 /// The text that a call writes, if there is one.
 pub(crate) fn text_found(call: impl Fn(&mut [u8], &mut usize) -> u32) -> Result<Option<String>, Error> {
-    bytes_found(call)?.map(|bytes| String::from_utf8(bytes).map_err(|_| Error::NotUtf8)).transpose()
+    bytes_found(call)?.map(|bytes| String::from_utf8(bytes).map_err(|_| ErrorKind::NotUtf8.into())).transpose()
 }
 
 /// The step that a call writes, if there is one.
-pub(crate) fn step_found(call: impl Fn(&mut [u8], &mut usize) -> u32) -> Result<Option<Field>, Error> {
+pub(crate) fn step_found(call: impl FnMut(&mut [u8], &mut usize) -> u32) -> Result<Option<Field>, Error> {
     let (bytes, length, code) = bytes(call)?;
     if !done(code)? {
         return Ok(None);
@@ -127,15 +129,24 @@ pub(crate) fn step_found(call: impl Fn(&mut [u8], &mut usize) -> u32) -> Result<
     if length == ffi::ELEMENT {
         return Ok(Some(Field::ElementType));
     }
-    String::from_utf8(bytes).map(|name| Some(Field::Name(name))).map_err(|_| Error::NotUtf8)
+    String::from_utf8(bytes).map(|name| Some(Field::Name(name))).map_err(|_| ErrorKind::NotUtf8.into())
 }
 
 /// What a call returns that fails by memory alone, as Rust's collections do.
+#[inline]
 pub(crate) fn or_abort<T>(result: Result<T, Error>) -> T {
     match result {
         Ok(value) => value,
-        Err(Error::OutOfMemory) => handle_alloc_error(Layout::new::<u64>()),
-        Err(error) => unreachable!("a call that only memory can stop failed: {error}"),
+        Err(error) => abort(error),
+    }
+}
+
+#[cold]
+#[inline(never)]
+fn abort(error: Error) -> ! {
+    match error.kind() {
+        ErrorKind::OutOfMemory => handle_alloc_error(Layout::new::<u64>()),
+        _ => unreachable!("a call that only memory can stop failed: {error}"),
     }
 }
 
@@ -148,9 +159,19 @@ pub(crate) struct Names {
 
 impl Names {
     pub(crate) fn push(&mut self, name: &str) -> Result<(), Error> {
-        self.text.try_reserve(name.len()).map_err(|_| Error::OutOfMemory)?;
+        self.text.try_reserve(name.len()).map_err(|_| Error::memory())?;
         self.text.extend_from_slice(name.as_bytes());
         self.push_length(name.len())
+    }
+
+    /// The names, in order. (There is no step into an element.)
+    pub(crate) fn iter(&self) -> impl Iterator<Item = &str> {
+        let mut rest = &*self.text;
+        self.lengths.iter().map_while(move |length| {
+            let (name, behind) = rest.split_at_checked(*length)?;
+            rest = behind;
+            std::str::from_utf8(name).ok()
+        })
     }
 
     pub(crate) fn push_element(&mut self) -> Result<(), Error> {
@@ -169,29 +190,43 @@ pub(crate) struct Texts {
     ends: Vec<usize>,
 }
 
+/// So many bytes of a name are expected, so that most names are read in one call.
+const NAME: usize = 16;
+
 impl Texts {
-    /// The texts that a call writes for each index below the count.
-    pub(crate) fn read(count: usize, call: impl Fn(usize, &mut [u8], &mut usize) -> u32) -> Result<Texts, Error> {
-        let (mut all, mut ends) = (Vec::new(), reserved(count)?);
-        let (mut short, mut length) = ([0; SHORT], 0);
-        for index in 0..count {
-            let begin = all.len();
-            let mut code = call(index, &mut short, &mut length);
-            all.try_reserve(length).map_err(|_| Error::OutOfMemory)?;
-            if code == ffi::SMALL {
-                all.resize(begin + length, 0);
-                code = call(index, &mut all[begin..], &mut length);
-            } else {
-                all.extend_from_slice(short.get(..length).unwrap_or(&[]));
-            }
-            if !done(code)? {
-                return Err(Error::OutOfRange);
-            }
-            ends.push(all.len());
-        }
-        Ok(Texts { text: String::from_utf8(all).map_err(|_| Error::NotUtf8)?, ends })
+    /// One text.
+    pub(crate) fn of(text: String) -> Result<Texts, Error> {
+        let mut ends = reserved(1)?;
+        ends.push(text.len());
+        Ok(Texts { text, ends })
     }
 
+    /// The texts that a call writes, of which there are so many: the bytes of all, with their number, and the length of
+    /// each, with their number.
+    pub(crate) fn read(
+        count: usize,
+        call: impl Fn(&mut [u8], &mut usize, &mut [usize], &mut usize) -> u32,
+    ) -> Result<Texts, Error> {
+        let (mut text, mut ends) = (room(count.saturating_mul(NAME))?, room(count)?);
+        let (mut length, mut written) = (0, 0);
+        let mut code = call(&mut text, &mut length, &mut ends, &mut written);
+        if code == ffi::SMALL {
+            text = room(length)?;
+            code = call(&mut text, &mut length, &mut ends, &mut written);
+        }
+        if !done(code)? || written != count {
+            return Err(ErrorKind::OutOfRange.into());
+        }
+        text.truncate(length);
+        let mut end = 0;
+        for one in &mut ends {
+            end += *one;
+            *one = end;
+        }
+        Ok(Texts { text: String::from_utf8(text).map_err(|_| ErrorKind::NotUtf8)?, ends })
+    }
+
+    #[inline]
     pub(crate) fn get(&self, index: usize) -> Option<&str> {
         let begin = if index == 0 { 0 } else { *self.ends.get(index - 1)? };
         self.text.get(begin..*self.ends.get(index)?)

@@ -2,8 +2,10 @@
 // SPDX-FileCopyrightText: Copyright the Vortex contributors
 
 //! Types.
-use crate::calls::{self, Names, found, holds, made, or_abort, plain, pushed, read, reserved, value};
+use crate::calls::{self, done, explained, found, holds, made, or_abort, plain, pushed, read, value};
 use crate::error::Error;
+#[cfg(doc)]
+use crate::error::ErrorKind;
 use crate::ffi::{self, Slot};
 use crate::parts::{ExtDTypeRef, MapDType, Parts, StructFields, UnionVariants};
 use crate::scalars::{DecimalDType, Kind, Nullability, PType};
@@ -35,14 +37,65 @@ struct Whole {
     slot: Slot,
     kind: Kind,
     nullability: Nullability,
+    detail: Detail,
     parts: OnceLock<Shared<Parts>>,
+}
+
+/// What is known of a type of some kinds from the beginning, apart from its nullability.
+#[derive(Clone, Copy)]
+enum Detail {
+    /// Of no other kind.
+    None,
+    Primitive(PType),
+    Decimal(DecimalDType),
+    /// The size of lists of a fixed size, or how many fields or variants there are.
+    Count(usize),
+}
+
+impl Detail {
+    /// What is known of the type of this kind in a slot.
+    fn of(slot: &Slot, kind: Kind) -> Detail {
+        match kind {
+            Kind::Primitive => Detail::Primitive(PType::of(plain(|number| ffi::dtype_ptype(slot, number)))),
+            Kind::Decimal => {
+                let mut precision = 0;
+                let scale = plain(|scale| ffi::dtype_decimal_parts(slot, &mut precision, scale));
+                Detail::Decimal(DecimalDType { precision, scale })
+            }
+            Kind::FixedSizeList => Detail::Count(plain::<u32>(|size| ffi::dtype_fixed_size(slot, size)) as usize),
+            Kind::Struct => Detail::Count(plain(|count| ffi::struct_nfields(slot, count))),
+            Kind::Union => Detail::Count(plain(|count| ffi::union_len(slot, count))),
+            _ => Detail::None,
+        }
+    }
+}
+
+/// The types of one object each that has no parts: for each number of [`leaf`] the non-nullable and the nullable one.
+static LEAVES: [OnceLock<DType>; 32] = [const { OnceLock::new() }; 32];
+
+/// The type of this kind, which is made if it is asked for the first time. (Of the numbers, 0 to 10 are those of the
+/// primitive types.)
+fn leaf(
+    number: u32,
+    nullability: Nullability,
+    (kind, detail): (Kind, Detail),
+    make: impl FnOnce(&mut Slot) -> u32,
+) -> Result<DType, Error> {
+    let cell = &LEAVES[2 * number as usize + usize::from(nullability.is_nullable())];
+    remembered(cell, || DType::with(made(make)?, kind, nullability, detail)).cloned()
 }
 
 impl DType {
     pub(crate) fn of(slot: Slot) -> Result<DType, Error> {
         let kind = Kind::of(plain(|kind| ffi::dtype_kind(&slot, kind)));
         let nullability = holds(ffi::dtype_is_nullable(&slot)).into();
-        Ok(DType { whole: Shared::try_new(Whole { slot, kind, nullability, parts: OnceLock::new() })? })
+        let detail = Detail::of(&slot, kind);
+        DType::with(slot, kind, nullability, detail)
+    }
+
+    /// The type in a slot, of which this is known.
+    fn with(slot: Slot, kind: Kind, nullability: Nullability, detail: Detail) -> Result<DType, Error> {
+        Ok(DType { whole: Shared::try_new(Whole { slot, kind, nullability, detail, parts: OnceLock::new() })? })
     }
 
     /// The type in a slot, if there is one.
@@ -50,19 +103,13 @@ impl DType {
         slot.map(DType::of).transpose()
     }
 
+    #[inline]
     pub(crate) fn slot(&self) -> &Slot {
         &self.whole.slot
     }
 
-    /// The object, or a copy of it if it is shared.
-    fn into_slot(self) -> Result<Slot, Error> {
-        match self.whole.into_inner() {
-            Ok(whole) => Ok(whole.slot),
-            Err(shared) => made(|out| ffi::dtype_copy(&shared.slot, out)),
-        }
-    }
-
     /// Whether both are one object of the library.
+    #[inline]
     pub(crate) fn is(&self, other: &DType) -> bool {
         self.whole.is(&other.whole)
     }
@@ -73,15 +120,16 @@ impl DType {
     }
 
     /// What is remembered of the parts.
+    #[inline]
     pub(crate) fn parts(&self) -> Result<&Parts, Error> {
-        let shared = remembered(&self.whole.parts, || {
-            Shared::try_new(Parts::of(match self.kind() {
-                Kind::Struct => plain(|count| ffi::struct_nfields(self.slot(), count)),
-                Kind::Union => plain(|count| ffi::union_len(self.slot(), count)),
-                _ => 0,
-            })?)
-        })?;
-        Ok(shared)
+        let count = if self.is_struct() || self.is_union() { self.count() } else { 0 };
+        remembered(&self.whole.parts, || Shared::try_new(Parts::of(count)?)).map(|it| &**it)
+    }
+
+    /// How many fields or variants there are, or elements in each list of a fixed size.
+    #[inline]
+    pub(crate) fn count(&self) -> usize {
+        if let Detail::Count(count) = self.whole.detail { count } else { 0 }
     }
 
     /// Returns the null type.
@@ -90,9 +138,9 @@ impl DType {
         or_abort(DType::try_null())
     }
 
-    /// Returns the null type, or [`Error::OutOfMemory`].
+    /// Returns the null type, or [`ErrorKind::OutOfMemory`].
     pub fn try_null() -> Result<DType, Error> {
-        made(ffi::dtype_null).and_then(DType::of)
+        leaf(15, Nullability::Nullable, (Kind::Null, Detail::None), ffi::dtype_null)
     }
 
     /// Returns the type of booleans.
@@ -101,9 +149,9 @@ impl DType {
         or_abort(DType::try_bool(nullability))
     }
 
-    /// Returns the type of booleans, or [`Error::OutOfMemory`].
+    /// Returns the type of booleans, or [`ErrorKind::OutOfMemory`].
     pub fn try_bool(nullability: Nullability) -> Result<DType, Error> {
-        made(|out| ffi::dtype_bool(nullability.into(), out)).and_then(DType::of)
+        leaf(11, nullability, (Kind::Bool, Detail::None), |out| ffi::dtype_bool(nullability.into(), out))
     }
 
     /// Returns a primitive type.
@@ -112,18 +160,22 @@ impl DType {
         or_abort(DType::try_primitive(ptype, nullability))
     }
 
-    /// Returns a primitive type, or [`Error::OutOfMemory`].
+    /// Returns a primitive type, or [`ErrorKind::OutOfMemory`].
     pub fn try_primitive(ptype: PType, nullability: Nullability) -> Result<DType, Error> {
-        made(|out| ffi::dtype_primitive(ptype.number(), nullability.into(), out)).and_then(DType::of)
+        let (number, known) = (ptype.number(), (Kind::Primitive, Detail::Primitive(ptype)));
+        leaf(number, nullability, known, |out| ffi::dtype_primitive(number, nullability.into(), out))
     }
 
     /// Returns a decimal type.
     ///
     /// # Errors
-    /// The library's errors 1 to 4, if the precision isn't from 1 to 76, or the scale is above 76 or above the precision,
-    /// and [`Error::OutOfMemory`].
+    /// - [`ErrorKind::PrecisionZero`] (1) if the precision is 0, and [`ErrorKind::PrecisionTooLarge`] (2) if it is above 76
+    /// - [`ErrorKind::ScaleTooLarge`] (3) if the scale is above 76, and [`ErrorKind::ScaleAbovePrecision`] (4) if it is above
+    ///   the precision
+    /// - [`ErrorKind::OutOfMemory`]
     pub fn decimal(precision: u8, scale: i8, nullability: Nullability) -> Result<DType, Error> {
-        made(|out| ffi::dtype_decimal(precision, scale, nullability.into(), out)).and_then(DType::of)
+        explained(|error| made(|out| ffi::dtype_decimal(precision, scale, nullability.into(), out, error)))
+            .and_then(DType::of)
     }
 
     /// Returns the type of UTF-8 strings.
@@ -132,9 +184,9 @@ impl DType {
         or_abort(DType::try_utf8(nullability))
     }
 
-    /// Returns the type of UTF-8 strings, or [`Error::OutOfMemory`].
+    /// Returns the type of UTF-8 strings, or [`ErrorKind::OutOfMemory`].
     pub fn try_utf8(nullability: Nullability) -> Result<DType, Error> {
-        made(|out| ffi::dtype_utf8(nullability.into(), out)).and_then(DType::of)
+        leaf(12, nullability, (Kind::Utf8, Detail::None), |out| ffi::dtype_utf8(nullability.into(), out))
     }
 
     /// Returns the type of byte strings.
@@ -143,9 +195,9 @@ impl DType {
         or_abort(DType::try_binary(nullability))
     }
 
-    /// Returns the type of byte strings, or [`Error::OutOfMemory`].
+    /// Returns the type of byte strings, or [`ErrorKind::OutOfMemory`].
     pub fn try_binary(nullability: Nullability) -> Result<DType, Error> {
-        made(|out| ffi::dtype_binary(nullability.into(), out)).and_then(DType::of)
+        leaf(13, nullability, (Kind::Binary, Detail::None), |out| ffi::dtype_binary(nullability.into(), out))
     }
 
     /// Returns the type of variants.
@@ -154,15 +206,15 @@ impl DType {
         or_abort(DType::try_variant(nullability))
     }
 
-    /// Returns the type of variants, or [`Error::OutOfMemory`].
+    /// Returns the type of variants, or [`ErrorKind::OutOfMemory`].
     pub fn try_variant(nullability: Nullability) -> Result<DType, Error> {
-        made(|out| ffi::dtype_variant(nullability.into(), out)).and_then(DType::of)
+        leaf(14, nullability, (Kind::Variant, Detail::None), |out| ffi::dtype_variant(nullability.into(), out))
     }
 
     /// Returns the type of lists with this element type.
     ///
     /// # Errors
-    /// [`Error::TooDeep`] if the element is 128 levels deep, and [`Error::OutOfMemory`].
+    /// [`ErrorKind::TooDeep`] if the element is 128 levels deep, and [`ErrorKind::OutOfMemory`].
     pub fn list(element: &DType, nullability: Nullability) -> Result<DType, Error> {
         made(|out| ffi::dtype_list(element.slot(), nullability.into(), out)).and_then(DType::of)
     }
@@ -178,40 +230,41 @@ impl DType {
     /// Returns the type of maps with these key and value types. `key` and `value` may be the same object.
     ///
     /// # Errors
-    /// The library's error 9 if the key is nullable; [`Error::TooDeep`]; [`Error::OutOfMemory`].
+    /// [`ErrorKind::MapKeyNullable`] (9) if the key is nullable; [`ErrorKind::TooDeep`] if one of the two is 128 levels deep;
+    /// and [`ErrorKind::OutOfMemory`].
     pub fn map(key: &DType, value: &DType, keys_sorted: bool, nullability: Nullability) -> Result<DType, Error> {
         let copy = key.apart_from(value)?;
         let value = copy.as_ref().unwrap_or(value.slot());
-        made(|out| ffi::dtype_map(key.slot(), value, keys_sorted, nullability.into(), out)).and_then(DType::of)
+        explained(|error| made(|out| ffi::dtype_map(key.slot(), value, keys_sorted, nullability.into(), out, error)))
+            .and_then(DType::of)
     }
 
     /// Returns a struct of these fields. All items are taken from the iterator before the library is called.
     ///
     /// # Errors
-    /// [`Error::TooDeep`] if a field's type is 128 levels deep, and [`Error::OutOfMemory`].
+    /// [`ErrorKind::TooDeep`] if a field's type is 128 levels deep, and [`ErrorKind::OutOfMemory`].
     pub fn struct_<N: AsRef<str>>(
         fields: impl IntoIterator<Item = (N, DType)>,
         nullability: Nullability,
     ) -> Result<DType, Error> {
-        let (names, mut dtypes) = taken_apart(fields)?;
-        made(|out| ffi::dtype_struct(&names.text, &names.lengths, &mut dtypes, nullability.into(), out))
-            .and_then(DType::of)
+        let fields = fields_of(taken(fields)?)?;
+        made(|out| ffi::dtype_struct(&fields, nullability.into(), out)).and_then(DType::of)
     }
 
     /// Returns a union of these variants, with the tags 0, 1, 2 and so on. All items are taken from the iterator before the
     /// library is called.
     ///
     /// # Errors
-    /// - The library's error 12 if there is no variant, 14 if there are more than 256 variants, and 15 if two variants have
-    ///   the same name
-    /// - [`Error::TooDeep`] if a variant's type is 128 levels deep
-    /// - [`Error::OutOfMemory`]
+    /// - [`ErrorKind::UnionEmpty`] (12) if there is no variant, [`ErrorKind::UnionTooMany`] (14) if there are more than 256
+    ///   variants, and [`ErrorKind::UnionNamesRepeat`] (15) if two variants have the same name
+    /// - [`ErrorKind::TooDeep`] if a variant's type is 128 levels deep
+    /// - [`ErrorKind::OutOfMemory`]
     pub fn union<N: AsRef<str>>(
         variants: impl IntoIterator<Item = (N, DType)>,
         nullability: Nullability,
     ) -> Result<DType, Error> {
-        let (names, mut dtypes) = taken_apart(variants)?;
-        made(|out| ffi::dtype_union_consecutive(&names.text, &names.lengths, &mut dtypes, nullability.into(), out))
+        let fields = fields_of(taken(variants)?)?;
+        explained(|error| made(|out| ffi::dtype_union_consecutive(&fields, nullability.into(), out, error)))
             .and_then(DType::of)
     }
 
@@ -219,52 +272,61 @@ impl DType {
     /// called.
     ///
     /// # Errors
-    /// - The library's error 12 if there is no variant, 13 if two variants have the same tag, and 15 if two variants have
-    ///   the same name
-    /// - [`Error::TooDeep`] if a variant's type is 128 levels deep
-    /// - [`Error::OutOfMemory`]
+    /// - [`ErrorKind::UnionEmpty`] (12) if there is no variant, [`ErrorKind::UnionTagsRepeat`] (13) if two variants have the
+    ///   same tag, and [`ErrorKind::UnionNamesRepeat`] (15) if two variants have the same name
+    /// - [`ErrorKind::TooDeep`] if a variant's type is 128 levels deep
+    /// - [`ErrorKind::OutOfMemory`]
     pub fn union_with_tags<N: AsRef<str>>(
         variants: impl IntoIterator<Item = (N, u8, DType)>,
         nullability: Nullability,
     ) -> Result<DType, Error> {
-        let (mut names, mut dtypes, mut tags) = (Names::default(), Vec::new(), Vec::new());
+        let (mut fields, mut tags) = (Vec::new(), Vec::new());
         for (name, tag, dtype) in variants {
-            names.push(name.as_ref())?;
-            pushed(&mut dtypes, dtype)?;
+            pushed(&mut fields, (name, dtype))?;
             pushed(&mut tags, tag)?;
         }
-        let mut dtypes = slots_of(dtypes)?;
-        made(|out| ffi::dtype_union(&names.text, &names.lengths, &mut dtypes, &tags, nullability.into(), out))
+        let fields = fields_of(fields)?;
+        explained(|error| made(|out| ffi::dtype_union(&fields, &tags, nullability.into(), out, error)))
             .and_then(DType::of)
     }
 
     /// Returns an extension type: an id, metadata that only the extension understands, and the type in which it is stored.
     ///
     /// # Errors
-    /// [`Error::TooDeep`] if the storage type is 128 levels deep, and [`Error::OutOfMemory`].
+    /// [`ErrorKind::TooDeep`] if the storage type is 128 levels deep, and [`ErrorKind::OutOfMemory`].
     pub fn extension(id: &str, metadata: &[u8], storage: &DType) -> Result<DType, Error> {
         made(|out| ffi::dtype_extension(id.as_bytes(), metadata, storage.slot(), out)).and_then(DType::of)
     }
 
     /// Returns which kind of type it is.
     #[must_use]
+    #[inline]
     pub fn kind(&self) -> Kind {
         self.whole.kind
     }
 
     /// Returns whether values may be null.
     #[must_use]
+    #[inline]
     pub fn is_nullable(&self) -> bool {
         self.nullability().is_nullable()
     }
 
     /// Returns whether values may be null.
     #[must_use]
+    #[inline]
     pub fn nullability(&self) -> Nullability {
         self.whole.nullability
     }
 
     /// Returns whether the type can be made non-nullable. This is true of all types except null and extensions over null.
+    ///
+    /// ```
+    /// # use vortex_logical_types::DType;
+    /// assert!("list(i32?)?".parse::<DType>()?.can_be_nonnullable());
+    /// assert!(!"x.tag[0x](null)".parse::<DType>()?.can_be_nonnullable());
+    /// # Ok::<(), vortex_logical_types::Error>(())
+    /// ```
     #[must_use]
     pub fn can_be_nonnullable(&self) -> bool {
         holds(ffi::dtype_can_be_nonnullable(self.slot()))
@@ -274,9 +336,17 @@ impl DType {
     /// becomes `list(i32)?` with [`Nullability::Nullable`]. For an extension type, the outer nullability is that of its
     /// storage type.
     ///
+    /// ```
+    /// # use vortex_logical_types::{DType, Nullability::{NonNullable, Nullable}};
+    /// let dtype: DType = "list(i32)".parse()?;
+    /// assert_eq!(dtype.with_nullability(Nullable)?, "list(i32)?".parse()?);
+    /// assert!(DType::null().with_nullability(NonNullable).is_err());
+    /// # Ok::<(), vortex_logical_types::Error>(())
+    /// ```
+    ///
     /// # Errors
-    /// [`Error::Precondition`] if `nullability` is [`Nullability::NonNullable`] and the type can't be made non-nullable,
-    /// which [`DType::can_be_nonnullable`] tests; and [`Error::OutOfMemory`].
+    /// [`ErrorKind::Precondition`] if `nullability` is [`Nullability::NonNullable`] and the type can't be made non-nullable,
+    /// which [`DType::can_be_nonnullable`] tests; and [`ErrorKind::OutOfMemory`].
     pub fn with_nullability(&self, nullability: Nullability) -> Result<DType, Error> {
         made(|out| ffi::dtype_with_nullability(self.slot(), nullability.into(), out)).and_then(DType::of)
     }
@@ -287,7 +357,7 @@ impl DType {
         or_abort(self.try_as_nullable())
     }
 
-    /// Returns the type as a nullable one, or [`Error::OutOfMemory`].
+    /// Returns the type as a nullable one, or [`ErrorKind::OutOfMemory`].
     pub fn try_as_nullable(&self) -> Result<DType, Error> {
         self.with_nullability(Nullability::Nullable)
     }
@@ -301,12 +371,19 @@ impl DType {
     }
 
     /// Returns the type, which is nullable if it was nullable or if `nullability` is [`Nullability::Nullable`].
+    ///
+    /// ```
+    /// # use vortex_logical_types::{DType, Nullability::{NonNullable, Nullable}};
+    /// let (one, other): (DType, DType) = ("i32".parse()?, "i32?".parse()?);
+    /// assert_eq!((one.union_nullability(Nullable), other.union_nullability(NonNullable)), (other.clone(), other));
+    /// # Ok::<(), vortex_logical_types::Error>(())
+    /// ```
     #[must_use]
     pub fn union_nullability(&self, nullability: Nullability) -> DType {
         or_abort(self.try_union_nullability(nullability))
     }
 
-    /// Returns what [`DType::union_nullability`] returns, or [`Error::OutOfMemory`].
+    /// Returns what [`DType::union_nullability`] returns, or [`ErrorKind::OutOfMemory`].
     pub fn try_union_nullability(&self, nullability: Nullability) -> Result<DType, Error> {
         made(|out| ffi::dtype_union_nullability(self.slot(), nullability.into(), out)).and_then(DType::of)
     }
@@ -317,18 +394,43 @@ impl DType {
     }
 
     /// Returns whether the two types are equal except for nullability, at every depth.
+    ///
+    /// ```
+    /// # use vortex_logical_types::DType;
+    /// let (one, other): (DType, DType) = ("{a=i32?}".parse()?, "{a=i32}?".parse()?);
+    /// assert!(one.eq_ignore_nullability(&other) && one != other);
+    /// # Ok::<(), vortex_logical_types::Error>(())
+    /// ```
     #[must_use]
     pub fn eq_ignore_nullability(&self, other: &DType) -> bool {
         self.is(other) || holds(ffi::dtype_eq_ignore_nullability(self.slot(), other.slot()))
     }
 
     /// Feeds the hasher a hash that is the same for all types that are equal except for nullability.
+    ///
+    /// ```
+    /// # use vortex_logical_types::DType;
+    /// use std::hash::{DefaultHasher, Hasher};
+    /// let hashed = |text: &str| {
+    ///     let mut state = DefaultHasher::new();
+    ///     text.parse::<DType>().map(|dtype| dtype.hash_ignore_nullability(&mut state)).map(|()| state.finish())
+    /// };
+    /// assert_eq!(hashed("{a=i32?}")?, hashed("{a=i32}?")?);
+    /// # Ok::<(), vortex_logical_types::Error>(())
+    /// ```
     pub fn hash_ignore_nullability<H: Hasher>(&self, state: &mut H) {
         state.write_u64(plain(|hash| ffi::dtype_hash_ignore_nullability(self.slot(), hash)));
     }
 
     /// Returns whether this type is a subset of `other`: the two are equal except for nullability, and `other` is nullable
-    /// wherever this type is.
+    /// wherever this type is. For example, `i32` is a subset of `i32?`, because each value of the first is one of the second.
+    ///
+    /// ```
+    /// # use vortex_logical_types::DType;
+    /// let (one, other): (DType, DType) = ("{a=i32, b=utf8?}".parse()?, "{a=i32?, b=utf8?}".parse()?);
+    /// assert!(one.eq_with_nullability_subset(&other) && !other.eq_with_nullability_subset(&one));
+    /// # Ok::<(), vortex_logical_types::Error>(())
+    /// ```
     #[must_use]
     pub fn eq_with_nullability_subset(&self, other: &DType) -> bool {
         self.is(other) || holds(ffi::dtype_nullability_subset(self.slot(), other.slot()))
@@ -353,12 +455,14 @@ impl DType {
     /// assert_eq!(one.merge_nullability(&one), Some(one.clone()));
     /// # Ok::<(), vortex_logical_types::Error>(())
     /// ```
+    ///
+    /// [`DType::merge_columns`] also merges structs with different columns.
     #[must_use]
     pub fn merge_nullability(&self, other: &DType) -> Option<DType> {
         or_abort(self.try_merge_nullability(other))
     }
 
-    /// Returns what [`DType::merge_nullability`] returns, or [`Error::OutOfMemory`].
+    /// Returns what [`DType::merge_nullability`] returns, or [`ErrorKind::OutOfMemory`].
     pub fn try_merge_nullability(&self, other: &DType) -> Result<Option<DType>, Error> {
         self.with_other(other, ffi::dtype_merge_nullability)
     }
@@ -371,13 +475,13 @@ impl DType {
         or_abort(self.try_intersect_nullability(other))
     }
 
-    /// Returns what [`DType::intersect_nullability`] returns, or [`Error::OutOfMemory`].
+    /// Returns what [`DType::intersect_nullability`] returns, or [`ErrorKind::OutOfMemory`].
     pub fn try_intersect_nullability(&self, other: &DType) -> Result<Option<DType>, Error> {
         self.with_other(other, ffi::dtype_intersect_nullability)
     }
 
     /// What a call makes of two types, which may be one.
-    fn with_other(
+    pub(crate) fn with_other(
         &self,
         other: &DType,
         call: impl FnOnce(&Slot, &Slot, &mut Slot) -> u32,
@@ -387,126 +491,151 @@ impl DType {
         DType::of_found(found(|out| call(self.slot(), other, out))?)
     }
 
-    /// Returns the part of the type that a reader of the paths opens, or `None` if no path of the set exists in the type.
-    /// The fields of the part are in the order of this type. For example, the part of `{a=i32, b={c=u8, d=u8}}` for the
+    /// Returns the type, cut down to what the paths of the set lead to, or `None` if no path of the set exists in the type.
+    /// This is the schema of the columns that a reader of these paths has to open. Its fields are in the order of this type. For example, the part of `{a=i32, b={c=u8, d=u8}}` for the
     /// path `b.c` is `{b={c=u8}}`.
+    ///
+    /// ```
+    /// # use vortex_logical_types::{DType, FieldPathSet};
+    /// let orders: DType = "{id=u64, lines=list({sku=utf8, price=decimal(10,2)?})}".parse()?;
+    /// let part = orders.project_paths(&FieldPathSet::parse(["lines.[].sku", "absent"])?);
+    /// assert_eq!(part, Some("{lines=list({sku=utf8})}".parse()?));
+    /// # Ok::<(), vortex_logical_types::Error>(())
+    /// ```
     #[must_use]
     pub fn project_paths(&self, set: &FieldPathSet) -> Option<DType> {
         or_abort(self.try_project_paths(set))
     }
 
-    /// Returns what [`DType::project_paths`] returns, or [`Error::OutOfMemory`].
+    /// Returns what [`DType::project_paths`] returns, or [`ErrorKind::OutOfMemory`].
     pub fn try_project_paths(&self, set: &FieldPathSet) -> Result<Option<DType>, Error> {
         DType::of_found(found(|out| ffi::project_paths(self.slot(), &set.slot, out))?)
     }
 
     /// Returns whether it is the type of booleans.
     #[must_use]
+    #[inline]
     pub fn is_boolean(&self) -> bool {
         self.kind() == Kind::Bool
     }
 
     /// Returns whether it is a primitive type.
     #[must_use]
+    #[inline]
     pub fn is_primitive(&self) -> bool {
         self.kind() == Kind::Primitive
     }
 
     /// Returns whether it is the type of an unsigned integer.
     #[must_use]
+    #[inline]
     pub fn is_unsigned_int(&self) -> bool {
         self.as_ptype_opt().is_some_and(PType::is_unsigned_int)
     }
 
     /// Returns whether it is the type of a signed integer.
     #[must_use]
+    #[inline]
     pub fn is_signed_int(&self) -> bool {
         self.as_ptype_opt().is_some_and(PType::is_signed_int)
     }
 
     /// Returns whether it is the type of an integer.
     #[must_use]
+    #[inline]
     pub fn is_int(&self) -> bool {
         self.as_ptype_opt().is_some_and(PType::is_int)
     }
 
     /// Returns whether it is the type of a floating-point number.
     #[must_use]
+    #[inline]
     pub fn is_float(&self) -> bool {
         self.as_ptype_opt().is_some_and(PType::is_float)
     }
 
     /// Returns whether it is a decimal type.
     #[must_use]
+    #[inline]
     pub fn is_decimal(&self) -> bool {
         self.kind() == Kind::Decimal
     }
 
     /// Returns whether it is the type of UTF-8 strings.
     #[must_use]
+    #[inline]
     pub fn is_utf8(&self) -> bool {
         self.kind() == Kind::Utf8
     }
 
     /// Returns whether it is the type of byte strings.
     #[must_use]
+    #[inline]
     pub fn is_binary(&self) -> bool {
         self.kind() == Kind::Binary
     }
 
     /// Returns whether it is the type of lists.
     #[must_use]
+    #[inline]
     pub fn is_list(&self) -> bool {
         self.kind() == Kind::List
     }
 
     /// Returns whether it is the type of lists of a fixed size.
     #[must_use]
+    #[inline]
     pub fn is_fixed_size_list(&self) -> bool {
         self.kind() == Kind::FixedSizeList
     }
 
     /// Returns whether it is the type of maps.
     #[must_use]
+    #[inline]
     pub fn is_map(&self) -> bool {
         self.kind() == Kind::Map
     }
 
     /// Returns whether it is a struct.
     #[must_use]
+    #[inline]
     pub fn is_struct(&self) -> bool {
         self.kind() == Kind::Struct
     }
 
     /// Returns whether it is a union.
     #[must_use]
+    #[inline]
     pub fn is_union(&self) -> bool {
         self.kind() == Kind::Union
     }
 
     /// Returns whether it is the type of variants.
     #[must_use]
+    #[inline]
     pub fn is_variant(&self) -> bool {
         self.kind() == Kind::Variant
     }
 
     /// Returns whether it is an extension type.
     #[must_use]
+    #[inline]
     pub fn is_extension(&self) -> bool {
         self.kind() == Kind::Extension
     }
 
     /// Returns the primitive type, or `None` if the type isn't primitive.
     #[must_use]
+    #[inline]
     pub fn as_ptype_opt(&self) -> Option<PType> {
-        or_abort(value(|ptype| ffi::dtype_ptype(self.slot(), ptype))).map(PType::of)
+        if let Detail::Primitive(ptype) = self.whole.detail { Some(ptype) } else { None }
     }
 
     /// Returns the precision and the scale of a decimal type, or `None` for every other type.
     #[must_use]
+    #[inline]
     pub fn as_decimal_opt(&self) -> Option<DecimalDType> {
-        let mut decimal = DecimalDType { precision: 0, scale: 0 };
-        holds(ffi::dtype_decimal_parts(self.slot(), &mut decimal.precision, &mut decimal.scale)).then_some(decimal)
+        if let Detail::Decimal(decimal) = self.whole.detail { Some(decimal) } else { None }
     }
 
     /// Returns the element type of a list. Returns `None` for every other type, also for a list of a fixed size.
@@ -519,23 +648,27 @@ impl DType {
     /// # Ok::<(), vortex_logical_types::Error>(())
     /// ```
     #[must_use]
+    #[inline]
     pub fn as_list_element_opt(&self) -> Option<&DType> {
         if self.is_list() { self.as_any_size_list_element_opt() } else { None }
     }
 
     /// Returns the element type of a list of a fixed size. Returns `None` for every other type.
     #[must_use]
+    #[inline]
     pub fn as_fixed_size_list_element_opt(&self) -> Option<&DType> {
         if self.is_fixed_size_list() { self.as_any_size_list_element_opt() } else { None }
     }
 
     /// Returns the element type of a list, of a fixed size or not. Returns `None` for every other type.
     #[must_use]
+    #[inline]
     pub fn as_any_size_list_element_opt(&self) -> Option<&DType> {
         or_abort(self.try_as_any_size_list_element_opt())
     }
 
-    /// Returns what [`DType::as_any_size_list_element_opt`] returns, or [`Error::OutOfMemory`].
+    /// Returns what [`DType::as_any_size_list_element_opt`] returns, or [`ErrorKind::OutOfMemory`].
+    #[inline]
     pub fn try_as_any_size_list_element_opt(&self) -> Result<Option<&DType>, Error> {
         if !self.is_list() && !self.is_fixed_size_list() {
             return Ok(None);
@@ -545,30 +678,35 @@ impl DType {
 
     /// Returns how many elements the lists of a fixed size have, or `None` if the type isn't that of such lists.
     #[must_use]
+    #[inline]
     pub fn as_fixed_size_opt(&self) -> Option<u32> {
-        or_abort(value(|size| ffi::dtype_fixed_size(self.slot(), size)))
+        if self.is_fixed_size_list() { Some(self.count() as u32) } else { None }
     }
 
     /// Returns a view of the key and value types of a map, or `None` for every other type.
     #[must_use]
+    #[inline]
     pub fn as_map_opt(&self) -> Option<MapDType<'_>> {
         self.is_map().then_some(MapDType { dtype: self })
     }
 
     /// Returns a view of the fields of a struct, or `None` for every other type.
     #[must_use]
+    #[inline]
     pub fn as_struct_fields_opt(&self) -> Option<StructFields<'_>> {
         self.is_struct().then_some(StructFields { dtype: self })
     }
 
     /// Returns a view of the variants of a union, or `None` for every other type.
     #[must_use]
+    #[inline]
     pub fn as_union_variants_opt(&self) -> Option<UnionVariants<'_>> {
         self.is_union().then_some(UnionVariants { dtype: self })
     }
 
     /// Returns a view of the id, the metadata and the storage type of an extension, or `None` for every other type.
     #[must_use]
+    #[inline]
     pub fn as_extension_opt(&self) -> Option<ExtDTypeRef<'_>> {
         self.is_extension().then_some(ExtDTypeRef { dtype: self })
     }
@@ -576,11 +714,19 @@ impl DType {
     /// Returns the number of bytes that each value takes, or `None` if the type or a part of it is of variable width, such
     /// as a text.
     ///
+    /// ```
+    /// # use vortex_logical_types::DType;
+    /// let size = |text: &str| text.parse::<DType>()?.element_size();
+    /// assert_eq!((size("fixed_size_list(i32)[3]")?, size("{a=i8, b=f64}")?), (Some(12), Some(9)));
+    /// assert_eq!(size("{a=i8, b=utf8}")?, None);
+    /// # Ok::<(), vortex_logical_types::Error>(())
+    /// ```
+    ///
     /// # Errors
-    /// The library's error 19 if no part of the type is of variable width, and the width of the type, or of a part of it,
-    /// is above [`usize::MAX`].
+    /// [`ErrorKind::WidthOverflow`] (19) if no part of the type is of variable width, and the width of the type, or of a part
+    /// of it, is above [`usize::MAX`].
     pub fn element_size(&self) -> Result<Option<usize>, Error> {
-        value(|size| ffi::dtype_element_size(self.slot(), size))
+        explained(|error| value(|size| ffi::dtype_element_size(self.slot(), size, error)))
     }
 
     /// Returns the console's text of the type, from which [`FromStr`] reads the same type.
@@ -597,36 +743,38 @@ impl DType {
         or_abort(self.try_to_source())
     }
 
-    /// Returns the console's text of the type, or [`Error::OutOfMemory`].
+    /// Returns the console's text of the type, or [`ErrorKind::OutOfMemory`].
     pub fn try_to_source(&self) -> Result<String, Error> {
         calls::text(|buffer, length| ffi::dtype_to_text(self.slot(), buffer, length))
     }
 }
 
-/// The names and the types of fields or variants, all of which are taken from the iterator.
-fn taken_apart<N: AsRef<str>>(fields: impl IntoIterator<Item = (N, DType)>) -> Result<(Names, Vec<Slot>), Error> {
-    let (mut names, mut dtypes) = (Names::default(), Vec::new());
-    for (name, dtype) in fields {
-        names.push(name.as_ref())?;
-        pushed(&mut dtypes, dtype)?;
+/// All items of an iterator.
+fn taken<T>(items: impl IntoIterator<Item = T>) -> Result<Vec<T>, Error> {
+    let mut all = Vec::new();
+    for item in items {
+        pushed(&mut all, item)?;
     }
-    Ok((names, slots_of(dtypes)?))
+    Ok(all)
 }
 
-/// The objects of types, no two of which are one.
-fn slots_of(dtypes: Vec<DType>) -> Result<Vec<Slot>, Error> {
-    let mut slots = reserved(dtypes.len())?;
-    for dtype in dtypes {
-        slots.push(dtype.into_slot()?);
+/// The library's object for these fields.
+fn fields_of<N: AsRef<str>>(fields: Vec<(N, DType)>) -> Result<Slot, Error> {
+    let mut all = made(ffi::fields_new)?;
+    for (name, dtype) in fields {
+        done(ffi::fields_push(&mut all, name.as_ref().as_bytes(), dtype.slot()))?;
     }
-    Ok(slots)
+    Ok(all)
 }
 
 /// Reads the console's text of a type, such as `{a=list(i32?), "b c"=decimal(10,2)}`.
 ///
 /// # Errors
-/// [`Error::Unreadable`] with the position, also if the text is nested more than 128 levels deep;
-/// [`Error::OutOfMemory`]; and the library's errors if a type in the text can't be made, such as `decimal(0,0)`.
+/// - [`ErrorKind::Unreadable`] with the position from which the text can't be read on, and with what was expected there
+/// - [`ErrorKind::TooDeep`], with the position of the first type that is inside more than 128 others
+/// - If a type in the text can't be made, such as `decimal(0,0)`, the error with which its constructor fails:
+///   [`DType::decimal`], [`DType::map`], [`DType::union`] or [`DType::union_with_tags`]
+/// - [`ErrorKind::OutOfMemory`]
 impl FromStr for DType {
     type Err = Error;
 
@@ -649,6 +797,7 @@ impl fmt::Debug for DType {
 }
 
 impl PartialEq for DType {
+    #[inline]
     fn eq(&self, other: &DType) -> bool {
         self.is(other) || holds(ffi::dtype_eq(self.slot(), other.slot()))
     }

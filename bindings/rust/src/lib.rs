@@ -8,9 +8,8 @@
 //! library. Most methods that also exist in `vortex-array` have the same name in both.
 //!
 //! Each exported function has a contract, and the contracts are proved. They specify which object a call makes or which
-//! value it writes, and for most functions also which error is returned in which case. They don't specify which value a
-//! text stands for: that `parse`, `to_source` and [`answer`] read and write the right text, and that each error has the
-//! right text, is only tested.
+//! value it writes, which type or path a text stands for, and for most functions also which error is returned in which
+//! case. They don't specify the text of an error, which is only tested.
 //!
 //! The Rust code between a method and its function is thin, and it is tested and not proved.
 //!
@@ -34,59 +33,116 @@
 //!
 //! A type or a path has three texts:
 //!
-//! - `to_source` writes the form that the library's console uses, and [`FromStr`](std::str::FromStr) reads this form.
-//!   What `to_source` writes is read back as the same value.
+//! - `to_source` writes its text in the *form of the console*, a program of this library, and
+//!   [`FromStr`](std::str::FromStr) reads this form: if `dtype` is a type, then `dtype.to_source().parse() == Ok(dtype)`.
+//!   The form is described below. Where this documentation speaks of the text of a type or path, it means this one.
 //! - `Display` writes the text that the `Display` of the proved library writes. `FromStr` may not read it back. For
 //!   example, `Display` writes a name that contains a comma without quotes.
 //! - `Debug` writes the form of the console, with the name of the Rust type around it, for example `DType(utf8?)`.
+//!
+//! In the form of the console, a `?` behind a type makes it nullable. `null`, which is always nullable, and extensions,
+//! which have the nullability of their storage type, never have one.
+//!
+//! | Type | Example |
+//! |---|---|
+//! | without parts | `null`, `bool`, `utf8`, `binary`, `variant`, or a primitive type: `u8` to `u64`, `i8` to `i64`, `f16`, `f32`, `f64` |
+//! | decimal, with its precision and scale | `decimal(10,-2)` |
+//! | list | `list(i32?)?` |
+//! | fixed-size list, with its size | `fixed_size_list(u8)[20]` |
+//! | map | `map(utf8, i32, keys_sorted=true)` |
+//! | struct | `{a=i32, "b c"=utf8?}`, `{}` |
+//! | union with the tags 0, 1 and so on | `union(a=i32, b=utf8)` |
+//! | union with other tags | `union(a@5=i32, b@9=utf8)` |
+//! | extension, with its id, its metadata and its storage type | `x.tag[0x6162](utf8)` |
+//!
+//! Blanks, ends of lines and comments, which go from `#` to the end of the line, may stand between the parts of a type.
+//!
+//! A path is steps with a `.` between them, each a name or `[]` for the element of a list, such as `lines.[].sku`. The root
+//! is `.` alone.
+//!
+//! A name that consists of letters, digits, `_` and characters beyond ASCII is written without quotes, and any other in
+//! double quotes, such as `"a b"` or `""`. So is a name with a typographic quote, or with one of the characters beyond ASCII
+//! that a list of the library calls special, such as a no-break space. In quotes the escapes are `\\`, `\"`, `\'`, `\t`,
+//! `\n`, `\r`, and `\x` with the two hexadecimal digits of a byte.
 //!
 //! # What is shared, copied and remembered
 //!
 //! A type, a path, a mask or a message doesn't change. Its value in this package is a handle that is shared: `clone` counts
 //! one owner more, and two clones are equal without a look at what is in them. A [`FieldPathSet`] changes, so its `clone`
-//! copies it.
+//! copies it. The constructors of the types that have no parts, such as [`DType::bool`] and [`DType::primitive`], make each
+//! of these 31 types once in a program, and return clones. (A decimal is made anew each time.)
 //!
-//! The kind and the nullability of a type are known from the beginning. The parts of a type are lent: the type of a field,
-//! of a variant or of an element, a key, value or storage type, the names, an id and its metadata. The same is true of the
-//! steps of a path. Each is made when it is asked for first, which allocates, and is then remembered as long as the type or
-//! path lives. The names of all fields of a struct are remembered together when one of them is asked for. So what a type
-//! remembers is at most its own names, and one handle for each part that was asked for. Comparing, hashing, looking up a
-//! name and resolving a path remember nothing.
+//! These are known from the beginning: the kind and the nullability of a type, a primitive type, a precision and a scale, the
+//! size of lists of a fixed size, the number of fields or variants, and the length of a path. The parts of a type are lent:
+//! the type of a field, of a variant or of an element, a key, value or storage type, the names, an id and its metadata. The
+//! same is true of the steps of a path and of the paths of a set. Each is made when it is asked for first, which allocates,
+//! and is then remembered as long as the type or path lives, or until a path is inserted into the set. The names of all
+//! fields of a struct are remembered together when one of them is asked for, and so are the paths of a set. So what a type
+//! remembers is at most its own names, and one handle for each part that was asked for, and what a set remembers is at most
+//! one handle for each of its paths. Comparing, hashing, looking up a name and resolving a path remember nothing.
 //!
 //! # Errors and memory
 //!
-//! A call that can fail for another reason than lack of memory returns a [`Result`] with an [`Error`]. If memory runs
-//! out in such a call, the error is [`Error::OutOfMemory`]. The same is true of [`answer`], which can fail only for lack
-//! of memory.
+//! A call that can fail for another reason than lack of memory returns a [`Result`] with an [`Error`], whose
+//! [`kind`](Error::kind) is one of these. `Display` of the error is the library's text, with its data. If memory runs out
+//! in such a call, the kind is [`ErrorKind::OutOfMemory`].
+//!
+//! | Number | Kind | When | Returned by |
+//! |---|---|---|---|
+//! | 0 | [`OutOfMemory`](ErrorKind::OutOfMemory) | An allocation failed, or a count of owners is at its maximum | each call that allocates |
+//! | 1 | [`PrecisionZero`](ErrorKind::PrecisionZero) | The precision of a decimal is 0 | `decimal`, `parse`, `from_proto` |
+//! | 2 | [`PrecisionTooLarge`](ErrorKind::PrecisionTooLarge) | The precision of a decimal is above 76 | `decimal`, `parse`, `from_proto` |
+//! | 3 | [`ScaleTooLarge`](ErrorKind::ScaleTooLarge) | The scale of a decimal is above 76 | `decimal`, `parse`, `from_proto` |
+//! | 4 | [`ScaleAbovePrecision`](ErrorKind::ScaleAbovePrecision) | The scale of a decimal is above its precision | `decimal`, `parse`, `from_proto` |
+//! | 5 | [`NotDecimal`](ErrorKind::NotDecimal) | The type isn't a decimal type | no call of this package |
+//! | 6 | [`NotPrimitive`](ErrorKind::NotPrimitive) | The type isn't a primitive type | no call of this package |
+//! | 7 | [`NotDecimalPType`](ErrorKind::NotDecimalPType) | The primitive type isn't a storage type of decimals | no call of this package |
+//! | 8 | [`BytesLength`](ErrorKind::BytesLength) | The number of bytes isn't the width of the integer that is read from them | no call of this package |
+//! | 9 | [`MapKeyNullable`](ErrorKind::MapKeyNullable) | The key type of a map is nullable | `map`, `parse`, `from_proto` |
+//! | 10 | [`UnionTypesLength`](ErrorKind::UnionTypesLength) | A union has more or fewer types than names | `from_proto` |
+//! | 11 | [`UnionTagsLength`](ErrorKind::UnionTagsLength) | A union has more or fewer tags than names | `from_proto` |
+//! | 12 | [`UnionEmpty`](ErrorKind::UnionEmpty) | A union has no variants | `union`, `parse`, `from_proto` |
+//! | 13 | [`UnionTagsRepeat`](ErrorKind::UnionTagsRepeat) | Two variants of a union have the same tag | `union_with_tags`, `parse`, `from_proto` |
+//! | 14 | [`UnionTooMany`](ErrorKind::UnionTooMany) | A union without tags has more than 256 variants | `union`, `parse` |
+//! | 15 | [`UnionNamesRepeat`](ErrorKind::UnionNamesRepeat) | Two variants of a union have the same name | `union`, `parse`, `from_proto` |
+//! | 16 | [`FieldNotFound`](ErrorKind::FieldNotFound) | A selected name isn't the name of a field | `project` |
+//! | 17 | [`IndexOutOfBounds`](ErrorKind::IndexOutOfBounds) | The index of a field isn't below the number of fields | `without_field` |
+//! | 18 | [`DuplicateNames`](ErrorKind::DuplicateNames) | Two structs can't be merged, because a name occurs in both of them, or twice in one of them | `disjoint_merge` |
+//! | 19 | [`WidthOverflow`](ErrorKind::WidthOverflow) | The width of a value in bytes is above `usize::MAX` | `element_size` |
+//! | 20 | [`ExactRoot`](ErrorKind::ExactRoot) | A field mask that selects only the root can't be stepped into | `step_into` of a mask |
+//! | 21 | [`AllMask`](ErrorKind::AllMask) | The field mask that selects all paths has no starting field | `starting_field` |
+//! | 22 | [`MetadataRefused`](ErrorKind::MetadataRefused) | A plugin doesn't accept the metadata or the storage type of an extension | no call of this package |
+//! | 23 | [`ExtensionIdDiffers`](ErrorKind::ExtensionIdDiffers) | An extension has another id than the one that it is taken for | no call of this package |
+//! | 24 | [`TypeMissing`](ErrorKind::TypeMissing) | The message of a type has no kind | `from_proto`, `normal` |
+//! | 25 | [`PrimitiveNumber`](ErrorKind::PrimitiveNumber) | In a message, the number of a primitive type isn't from 0 to 10 | `from_proto`, `normal` |
+//! | 26 | [`PrecisionRange`](ErrorKind::PrecisionRange) | In a message, the precision of a decimal is above 255 | `from_proto`, `normal` |
+//! | 27 | [`ScaleRange`](ErrorKind::ScaleRange) | In a message, the scale of a decimal isn't from -128 to 127 | `from_proto`, `normal` |
+//! | 28 | [`ListElementMissing`](ErrorKind::ListElementMissing) | In a message, a list has no element type | `from_proto`, `normal` |
+//! | 29 | [`FixedElementMissing`](ErrorKind::FixedElementMissing) | In a message, a fixed-size list has no element type | `from_proto`, `normal` |
+//! | 30 | [`MapKeyMissing`](ErrorKind::MapKeyMissing) | In a message, a map has no key type | `from_proto`, `normal` |
+//! | 31 | [`MapValueMissing`](ErrorKind::MapValueMissing) | In a message, a map has no value type | `from_proto`, `normal` |
+//! | 32 | [`StructLengths`](ErrorKind::StructLengths) | In a message, a struct has more or fewer types than names | `from_proto`, `normal` |
+//! | 33 | [`TypeIdRange`](ErrorKind::TypeIdRange) | In a message, a tag of a union isn't from 0 to 255 | `from_proto`, `normal` |
+//! | 34 | [`StorageMissing`](ErrorKind::StorageMissing) | In a message, an extension has no storage type | `from_proto`, `normal` |
+//! | 35 | [`ExtensionUnregistered`](ErrorKind::ExtensionUnregistered) | In a message, an extension has an id that isn't registered, and unknown ids aren't allowed | `from_proto`, `normal` |
+//! | 36 | [`PathPartMissing`](ErrorKind::PathPartMissing) | In the message of a path, a part has no kind | `FieldPath::from_proto` |
+//! | - | [`Unreadable`](ErrorKind::Unreadable) | A text can't be read from a byte on | `parse` of a type, a path, a `PType` or a `Kind` |
+//! | - | [`NotUtf8`](ErrorKind::NotUtf8) | A name or an id isn't UTF-8 | `from_nodes` |
+//! | - | [`Precondition`](ErrorKind::Precondition) | The call has a precondition, and the arguments don't meet it | `with_nullability`, `starts_with_name` |
+//! | - | [`TooDeep`](ErrorKind::TooDeep) | A type or a message would be nested more than 128 levels deep | `list`, `struct_` and the other constructors, `parse`, `from_nodes` |
+//! | - | [`OutOfRange`](ErrorKind::OutOfRange) | An argument is out of its range | `from_nodes`, `to_flat`, `date`, `time`, `timestamp` |
+//! | - | [`Arrow`](ErrorKind::Arrow) | An Arrow field has no type, or a type has no Arrow field | `from_arrow`, `to_arrow` |
+//!
+//! `from_proto` returns the first fault of a message. If a call reads or makes a type of several parts, it returns the
+//! first fault that it finds.
 //!
 //! If any other call can fail only for lack of memory and memory runs out, it calls
 //! [`std::alloc::handle_alloc_error`], which aborts the program, as Rust's own collections do. Almost every such call
 //! has a second form, whose name begins with `try_` and which returns the error. For example, [`FieldPath::try_push`] is
 //! the second form of [`FieldPath::push`]. A call of a trait has its second form among the methods of the type. For
 //! example, `try_from_iter` is that of `collect`, and [`FieldPathSet::try_union`] that of `|`. The `clone` of a
-//! type, a path, a mask or a message doesn't allocate. These calls have no second form:
-//!
-//! - [`StructFields::names`]: call [`StructFields::try_field_name`] for each index instead.
-//! - [`StructFields::fields`]: call [`StructFields::try_field_by_index`] for each index instead.
-//! - [`StructFields::iter`]: call both.
-//! - [`UnionVariants::names`]: call [`UnionVariants::try_variant_name`] for each index instead.
-//! - [`UnionVariants::variants`]: call [`UnionVariants::try_variant_by_index`] for each index instead.
-//! - [`UnionVariants::iter`]: call both.
-//! - [`UnionVariants::type_ids`]: call [`UnionVariants::child_index_to_tag`] for each index instead, which doesn't
-//!   allocate.
-//! - [`DType::as_list_element_opt`] and [`DType::as_fixed_size_list_element_opt`]: test [`DType::is_list`] or
-//!   [`DType::is_fixed_size_list`], and then call [`DType::try_as_any_size_list_element_opt`].
-//! - [`FieldPathSet::is_empty`]: call [`FieldPathSet::try_len`] instead.
-//! - `==` of sets and [`FieldPathSet::is_superset`]: call [`FieldPathSet::try_is_subset`] and, for `==`, compare the lengths.
-//! - [`FieldPathSet::into_cover`]: call [`FieldPathSet::try_cover`] instead.
-//! - [`FieldPath::from_field`]: call [`FieldPath::try_from_iter`] instead.
-//! - The order of paths, `for step in &path` and [`FieldPath::iter`]: call [`FieldPath::try_parts`] first, which remembers the
-//!   steps.
-//! - `hash` of a [`FieldMask`] or a [`Message`].
-//! - `next_back` of [`Paths`]: call [`Paths::try_next`], which begins at the other end.
-//! - `from` and `clone` of [`Field`], and `clone` of [`FlatMessage`]: these are plain Rust values, whose texts and lists
-//!   Rust's own allocator makes. If you pass a text to [`FieldPath::try_push`] or [`FieldPath::try_from_iter`], these make a
-//!   [`Field`] of it first. [`FieldPath::try_from_name`] doesn't.
+//! type, a path, a mask or a message doesn't allocate. The [last section](#calls-without-a-second-form) lists the calls that
+//! have no second form.
 //!
 //! `Display` and `Debug` of a type, a path, a set, a mask or a message neither abort nor return an [`Error`]. If memory
 //! runs out while the library makes a text for them, they return [`std::fmt::Error`], on which `to_string`, `format!`
@@ -126,6 +182,12 @@
 //! - A child that `fork` makes of a process with several threads must not call this package before `exec`, because another
 //!   thread may have held the lock.
 //!
+//! # From and to vortex-array
+//!
+//! The file `examples/vortex_array/translate.rs` of this package has two functions to copy into a program that depends on
+//! `vortex-array` too: `to_proved` returns a type of `vortex-array` 0.89.0 as one of this package, and `to_vortex` the other
+//! way around. They are tested on random types, together with the calls of both.
+//!
 //! # With serde
 //!
 //! This package depends on no other. To serialize a type as its text, put these lines into your program and write
@@ -150,25 +212,55 @@
 //! program decodes these bytes, it writes what it decoded as a list of [`Node`]s and the bytes of all texts, and passes
 //! both to [`Message::from_nodes`]. Then [`DType::from_proto`] returns the type that the message describes, or an error
 //! that says what is wrong with the message.
+//!
+//! # Calls without a second form
+//!
+//! These calls abort the program if memory runs out, and have no form that begins with `try_`. If your program must go on,
+//! call what stands beside them instead:
+//!
+//! - [`StructFields::names`]: call [`StructFields::try_field_name`] for each index instead.
+//! - [`StructFields::fields`]: call [`StructFields::try_field_by_index`] for each index instead.
+//! - [`StructFields::iter`]: call both.
+//! - [`UnionVariants::names`]: call [`UnionVariants::try_variant_name`] for each index instead.
+//! - [`UnionVariants::variants`]: call [`UnionVariants::try_variant_by_index`] for each index instead.
+//! - [`UnionVariants::iter`]: call both.
+//! - [`UnionVariants::type_ids`]: call [`UnionVariants::child_index_to_tag`] for each index instead, which doesn't
+//!   allocate.
+//! - [`DType::as_list_element_opt`] and [`DType::as_fixed_size_list_element_opt`]: test [`DType::is_list`] or
+//!   [`DType::is_fixed_size_list`], and then call [`DType::try_as_any_size_list_element_opt`].
+//! - [`FieldPathSet::into_cover`]: call [`FieldPathSet::try_cover`] instead.
+//! - [`FieldPath::from_field`]: call [`FieldPath::try_from_iter`] instead.
+//! - The order of paths, `for step in &path` and [`FieldPath::iter`]: call [`FieldPath::try_parts`] first, which remembers the
+//!   steps.
+//! - `hash` of a [`FieldMask`] or a [`Message`]: of a message, hash the parts of [`Message::to_flat`] instead.
+//! - [`ArrowSchema::into_raw`](arrow::ArrowSchema::into_raw): pass a pointer to the variable instead.
+//! - `next_back` of [`Paths`]: call [`Paths::try_next`], which begins at the other end.
+//! - `from` and `clone` of [`Field`], and `clone` of [`FlatMessage`]: these are plain Rust values, whose texts and lists
+//!   Rust's own allocator makes. If you pass a text to [`FieldPath::try_push`] or [`FieldPath::try_from_iter`], these make a
+//!   [`Field`] of it first. [`FieldPath::try_from_name`] doesn't.
+//! - `DType::from` of a [`PType`]: call [`DType::try_primitive`]. `FieldPathSet::default`: call [`FieldPathSet::try_new`].
+//!   `Message::from` of a type: call [`DType::try_to_proto`].
 #![deny(unsafe_code, missing_docs, missing_debug_implementations)]
 
 #[cfg(all(without_library, not(doc)))]
 compile_error!(env!("WITHOUT_LIBRARY"));
 
-pub use console::answer;
 pub use dtype::DType;
-pub use error::{Error, LibraryError};
+pub use error::{Error, ErrorKind};
 pub use ffi::Node;
 pub use masks::{FieldMask, MaskKind};
+pub use merging::MergeConflict;
 pub use messages::{FlatMessage, Message, UnknownIds};
 pub use parts::{ExtDTypeRef, MapDType, StructFields, UnionVariants};
 pub use paths::{Field, FieldPath};
 pub use scalars::{DecimalDType, Kind, Nullability, PType};
 pub use sets::{Below, FieldPathSet, Paths};
+pub use time::TimeUnit;
 pub use view::View;
 
+#[allow(unsafe_code)]
+pub mod arrow;
 mod calls;
-mod console;
 mod dtype;
 mod error;
 #[allow(unsafe_code, dead_code)]
@@ -177,6 +269,7 @@ mod ffi;
 mod masks;
 #[cfg(test)]
 mod memory;
+mod merging;
 mod messages;
 mod parts;
 mod paths;
@@ -184,6 +277,7 @@ mod scalars;
 mod sets;
 #[allow(unsafe_code)]
 mod shared;
+mod time;
 mod view;
 
 /// Fails to compile unless every public type can be used on every thread.
@@ -199,5 +293,7 @@ const _: () = {
     is_for_all_threads::<(Field, FieldPath, FieldPathSet, Paths, Below)>();
     is_for_all_threads::<(FieldMask, MaskKind)>();
     is_for_all_threads::<(Message, FlatMessage, Node, UnknownIds)>();
-    is_for_all_threads::<(Error, LibraryError)>();
+    is_for_all_threads::<(Error, ErrorKind, MergeConflict, TimeUnit)>();
+    const fn is_for_each_thread<T: Send + 'static>() {}
+    is_for_each_thread::<arrow::ArrowSchema>();
 };

@@ -2,8 +2,10 @@
 // SPDX-FileCopyrightText: Copyright the Vortex contributors
 
 //! Masks: which paths a reader wants.
-use crate::calls::{self, found, holds, made, or_abort, plain};
+use crate::calls::{self, explained, found, holds, made, or_abort, plain};
 use crate::error::Error;
+#[cfg(doc)]
+use crate::error::ErrorKind;
 use crate::ffi::{self, Slot};
 use crate::paths::{Field, FieldPath};
 use crate::shared::Shared;
@@ -29,6 +31,12 @@ pub struct FieldMask {
 }
 
 /// Which form a [`FieldMask`] has.
+///
+/// ```
+/// use vortex_logical_types::{FieldMask, MaskKind, field_path};
+///
+/// assert_eq!(FieldMask::exact(&field_path!("a")).kind(), MaskKind::Exact);
+/// ```
 #[derive(Debug, Clone, Copy, PartialEq, Eq, Hash)]
 pub enum MaskKind {
     /// All paths match.
@@ -50,7 +58,7 @@ impl FieldMask {
         or_abort(FieldMask::try_all())
     }
 
-    /// Returns the mask that all paths match, or [`Error::OutOfMemory`].
+    /// Returns the mask that all paths match, or [`ErrorKind::OutOfMemory`].
     pub fn try_all() -> Result<FieldMask, Error> {
         made(ffi::mask_all).and_then(FieldMask::of)
     }
@@ -61,7 +69,7 @@ impl FieldMask {
         or_abort(FieldMask::try_prefix(path))
     }
 
-    /// Returns the mask that selects `path` and every path that begins with `path`, or [`Error::OutOfMemory`].
+    /// Returns the mask that selects `path` and every path that begins with `path`, or [`ErrorKind::OutOfMemory`].
     pub fn try_prefix(path: &FieldPath) -> Result<FieldMask, Error> {
         made(|out| ffi::mask_prefix(path.slot(), out)).and_then(FieldMask::of)
     }
@@ -72,7 +80,7 @@ impl FieldMask {
         or_abort(FieldMask::try_exact(path))
     }
 
-    /// Returns the mask that this path alone matches, or [`Error::OutOfMemory`].
+    /// Returns the mask that this path alone matches, or [`ErrorKind::OutOfMemory`].
     pub fn try_exact(path: &FieldPath) -> Result<FieldMask, Error> {
         made(|out| ffi::mask_exact(path.slot(), out)).and_then(FieldMask::of)
     }
@@ -94,27 +102,37 @@ impl FieldMask {
         or_abort(self.try_path())
     }
 
-    /// Returns what [`FieldMask::path`] returns, or [`Error::OutOfMemory`].
+    /// Returns what [`FieldMask::path`] returns, or [`ErrorKind::OutOfMemory`].
     pub fn try_path(&self) -> Result<Option<FieldPath>, Error> {
         found(|out| ffi::mask_path(&self.slot, out))?.map(FieldPath::of).transpose()
     }
 
-    /// Returns the mask of what is selected below the first step of the mask's path. For example, for the prefix `a.b` it
-    /// is the prefix `b`, and for the prefix `a` it is [`FieldMask::all`]. For `FieldMask::all` and for the prefix of the
-    /// root, the call returns `FieldMask::all` too.
+    /// Returns the mask of what is selected below the first step of the mask's path:
+    ///
+    /// | Mask | Result |
+    /// |---|---|
+    /// | all | all |
+    /// | the prefix of the root | all |
+    /// | the prefix `a` | all |
+    /// | the prefix `a.b` | the prefix `b` |
+    /// | exactly `a.b` | exactly `b` |
+    /// | exactly `a` | exactly the root |
+    /// | exactly the root | the error [`ErrorKind::ExactRoot`] |
     ///
     /// # Errors
-    /// The library's error 20 for the mask of exactly the root, and [`Error::OutOfMemory`].
+    /// [`ErrorKind::ExactRoot`] (20) for the mask of exactly the root, and [`ErrorKind::OutOfMemory`].
     pub fn step_into(&self) -> Result<FieldMask, Error> {
-        made(|out| ffi::mask_step_into(&self.slot, out)).and_then(FieldMask::of)
+        explained(|error| made(|out| ffi::mask_step_into(&self.slot, out, error))).and_then(FieldMask::of)
     }
 
     /// Returns the first step of the mask's path, or `None` if that path is the root.
     ///
     /// # Errors
-    /// The library's error 21 for [`FieldMask::all`], which has no path, and [`Error::OutOfMemory`].
+    /// [`ErrorKind::AllMask`] (21) for [`FieldMask::all`], which has no path, and [`ErrorKind::OutOfMemory`].
     pub fn starting_field(&self) -> Result<Option<Field>, Error> {
-        calls::step_found(|buffer, length| ffi::mask_starting_field(&self.slot, buffer, length))
+        explained(|error| {
+            calls::step_found(|buffer, length| ffi::mask_starting_field(&self.slot, buffer, length, error))
+        })
     }
 
     /// Returns whether all paths match.
@@ -124,6 +142,12 @@ impl FieldMask {
     }
 
     /// Returns whether the root matches.
+    ///
+    /// ```
+    /// # use vortex_logical_types::{FieldMask, FieldPath, field_path};
+    /// assert!(FieldMask::prefix(&FieldPath::root()).matches_root());
+    /// assert!(!FieldMask::prefix(&field_path!("a")).matches_root());
+    /// ```
     #[must_use]
     pub fn matches_root(&self) -> bool {
         holds(ffi::mask_matches_root(&self.slot))

@@ -4,14 +4,15 @@
 //! Tests of what calls do when memory runs out: each allocation of the library and of the package is refused in turn.
 use crate::ffi::heap::refusing::BEFORE;
 use crate::{
-    DType, Error, Field, FieldMask, FieldPath, FieldPathSet, Message, Nullability::Nullable, PType, UnknownIds, answer,
+    DType, Error, ErrorKind, Field, FieldMask, FieldPath, FieldPathSet, Message, Nullability::Nullable, PType,
+    TimeUnit, UnknownIds,
 };
 use std::fmt::{self, Write};
 
 /// What a call returns, which if it says that memory ran out is made once more.
 fn again<T>(lacked: &mut usize, call: impl Fn() -> Result<T, Error>) -> T {
     let result = match call() {
-        Err(Error::OutOfMemory) => {
+        Err(error) if error.kind() == ErrorKind::OutOfMemory => {
             *lacked += 1;
             call()
         }
@@ -61,9 +62,60 @@ fn texts(n: &mut usize, whole: &DType, path: &FieldPath, set: &FieldPathSet, mes
     shown(n, format_args!("{:?} {} {:?}", PType::U8, PType::U8, Field::ElementType));
     let decimal = again(n, || DType::decimal(10, 2, Nullable));
     shown(n, format_args!("{0:?} {0:?}", decimal.as_decimal_opt()));
-    // (Without memory, an error of the library is shown by its number.)
-    let errors = [Error::TooDeep, DType::decimal(0, 0, Nullable).expect_err("no digits")];
-    errors.iter().for_each(|error| shown(n, format_args!("{error} {error:?}")));
+}
+
+/// The error of a call that isn't memory. If memory runs out while the error is made, the call is made once more.
+fn refused<T>(lacked: &mut usize, call: impl Fn() -> Result<T, Error>) -> Error {
+    let error = call().err().expect("an error");
+    if error.kind() != ErrorKind::OutOfMemory {
+        return error;
+    }
+    *lacked += 1;
+    call().err().expect("an error")
+}
+
+/// Errors with their data, whose texts are made with them.
+fn errors(n: &mut usize, whole: &DType) {
+    let fields = whole.as_struct_fields_opt().expect("a struct");
+    for (error, kind) in [
+        (refused(n, || DType::decimal(0, 0, Nullable)), ErrorKind::PrecisionZero),
+        (refused(n, || "{a=int32}".parse::<DType>()), ErrorKind::Unreadable),
+        (refused(n, || "a..b".parse::<FieldPath>()), ErrorKind::Unreadable),
+        (refused(n, || "int32".parse::<PType>()), ErrorKind::Unreadable),
+        (refused(n, || fields.project(["d", "x"])), ErrorKind::FieldNotFound),
+        (refused(n, || fields.without_field(9)), ErrorKind::IndexOutOfBounds),
+        (refused(n, || FieldMask::try_all()?.starting_field()), ErrorKind::AllMask),
+        (refused(n, || FieldPath::from_proto([None::<&str>])), ErrorKind::PathPartMissing),
+    ] {
+        assert_eq!(error.kind(), kind);
+        // (Nothing is allocated for a copy of the error, and for its text.)
+        assert_eq!(error.clone(), error);
+        let mut length = Length(0);
+        write!(length, "{error} {error:?}").expect("a text that needs no memory");
+        assert!(length.0 > 20, "{error}");
+    }
+}
+
+const MANY_FIELDS: &str = concat!(
+    "{a=u8, a=u8, a=u8, a=u8, a=u8, a=u8, a=u8, a=u8, a=u8, a=u8, a=u8, a=u8, a=u8, a=u8, a=u8, a=u8, a=u8, a=u8, a=u8, a=u8, ",
+    "a=u8, a=u8, a=u8, a=u8, a=u8, a=u8, a=u8, a=u8, a=u8, a=u8, a=u8, a=u8, a=u8, a=u8, a=u8, a=u8, a=u8, a=u8, a=u8, a=u8}"
+);
+
+/// Types to Arrow and back, also more fields than there is room for without an allocation, and a part that can't be written.
+fn arrow(n: &mut usize, whole: &DType) {
+    let schema = again(n, || whole.to_arrow());
+    assert_eq!(&again(n, || DType::from_arrow(&schema)), whole);
+    let wide = again(n, || MANY_FIELDS.parse::<DType>());
+    let schema = again(n, || wide.to_arrow());
+    assert_eq!(again(n, || DType::from_arrow(&schema)), wide);
+    let variant = again(n, || DType::try_variant(Nullable));
+    assert_eq!(refused(n, || variant.to_arrow()).kind(), ErrorKind::Arrow);
+    let paid = again(n, || DType::timestamp(TimeUnit::Seconds, "UTC", Nullable));
+    assert_eq!(
+        (again(n, || paid.try_time_unit()), again(n, || paid.try_time_zone())),
+        (Some(TimeUnit::Seconds), Some("UTC"))
+    );
+    again(n, || DType::date(TimeUnit::Days, Nullable));
 }
 
 /// Calls of each form, and how many of them said that memory ran out.
@@ -101,7 +153,7 @@ fn calls() -> usize {
     let set = again(n, || FieldPathSet::try_from_iter([&path]));
     let mut longer = again(n, || set.try_clone());
     if let Err(error) = longer.try_insert(again(n, || "d".parse::<FieldPath>())) {
-        assert_eq!((error, longer.len()), (Error::OutOfMemory, 1));
+        assert_eq!((error.kind(), longer.len()), (ErrorKind::OutOfMemory, 1));
         *n += 1;
         longer.insert(again(n, || "d".parse::<FieldPath>()));
     }
@@ -112,32 +164,33 @@ fn calls() -> usize {
     let mut cover = again(n, || longer.try_cover());
     loop {
         match cover.try_next() {
-            Ok(Some(path)) => assert!(path.exists_in(&whole)),
+            Ok(Some(path)) => assert!(!path.is_root() && path.exists_in(&whole)),
             Ok(None) => break,
             Err(error) => {
-                assert_eq!(error, Error::OutOfMemory);
+                assert_eq!(error.kind(), ErrorKind::OutOfMemory);
                 *n += 1;
             }
         }
     }
     assert_eq!(again(n, || whole.try_project_paths(&longer)).map(|it| it.is_struct()), Some(true));
     assert!(again(n, || whole.try_merge_nullability(&other)).is_some_and(|it| it.eq_ignore_nullability(&other)));
+    let wider = again(n, || "{e=i8, a=list({b=u32, f=i8})}".parse::<DType>());
+    let merged = "{a=list({b=u32, c=utf8?, f=i8?})?, d=i8?, e=i8?}";
+    assert_eq!(again(n, || whole.try_merge_columns(&wider)?.expect("a type").try_to_source()), merged);
+    let all = again(n, || DType::try_merge_all([&whole, &whole, &wider])).expect("no conflict");
+    assert_eq!(again(n, || all.as_ref().expect("a type").try_to_source()), merged);
+    let conflict = again(n, || whole.try_merge_conflict(list));
+    assert!(conflict.is_some_and(|it| it.path.is_root()));
     assert_eq!(again(n, || whole.try_to_source()), source);
     again(n, || FieldMask::try_prefix(&path)?.step_into());
     let message = again(n, || whole.try_to_proto());
     let flat = again(n, || message.to_flat());
     assert_eq!(again(n, || DType::from_proto(&Message::from_flat(&flat)?, UnknownIds::Refuse)), whole);
-    assert_eq!(again(n, || message.try_to_source()?.parse::<Message>()), message);
     assert_eq!(again(n, || message.normal(UnknownIds::Refuse)), message);
     assert_eq!(again(n, || FieldPath::from_proto([Some("a"), Some("b")])).len(), 2);
+    arrow(n, &whole);
     texts(n, &whole, &path, &longer, &message);
-    let mut said = again(n, || answer("overlap a a.b"));
-    if said.as_deref() == Some("refused 0: out of memory") {
-        // (that memory ran out is an answer of the console, too)
-        *n += 1;
-        said = again(n, || answer("overlap a a.b"));
-    }
-    assert_eq!(said.as_deref(), Some("true"));
+    errors(n, &whole);
     lacked
 }
 

@@ -2,26 +2,31 @@
 // SPDX-FileCopyrightText: Copyright the Vortex contributors
 
 //! Messages of types: the protobuf message of a schema, without the bytes of protobuf.
-use crate::calls::{self, Names, holds, made, or_abort, read, room};
+use crate::calls::{self, Names, explained, holds, made, or_abort, room};
 use crate::dtype::DType;
-use crate::error::Error;
+use crate::error::{Error, ErrorKind};
 use crate::ffi::{self, Node, Slot};
 use crate::paths::FieldPath;
 use crate::shared::Shared;
 use std::fmt;
 use std::hash::{Hash, Hasher};
-use std::str::FromStr;
 
-/// The message of a type. It is read from protobuf's text format or from the flat form. A message may describe no type.
+/// The message of a type. It is made from a type, or of [`Node`]s, which are its flat form. A message may describe no type.
 /// Then [`DType::from_proto`] returns the error that says what is wrong with it.
 ///
 /// ```
-/// use vortex_logical_types::{DType, Message, UnknownIds};
+/// use vortex_logical_types::{DType, ErrorKind, Message, Node, UnknownIds};
 ///
-/// let message: Message = r#"struct { names: "a" dtypes { primitive { type: I32 nullable: true } } }"#.parse()?;
-/// let dtype: DType = "{a=i32?}".parse()?;
-/// assert_eq!(DType::from_proto(&message, UnknownIds::Refuse)?, dtype);
-/// assert_eq!(dtype.to_proto(), message);
+/// let message: Message = "list(i32?)".parse::<DType>()?.to_proto();
+/// assert_eq!(DType::from_proto(&message, UnknownIds::Refuse)?, "list(i32?)".parse()?);
+///
+/// let list = Node { kind: 7, has_first: 1, ..Node::default() };
+/// let element = Node { kind: 3, nullable: 1, value: 6, ..Node::default() };
+/// assert_eq!(Message::from_nodes(&[list, element], b"")?, message);
+/// // A list without an element type is a message, but it describes no type.
+/// let list = Message::from_nodes(&[Node { kind: 7, ..Node::default() }], b"")?;
+/// let error = DType::from_proto(&list, UnknownIds::Refuse).unwrap_err();
+/// assert_eq!(error.kind(), ErrorKind::ListElementMissing);
 /// # Ok::<(), vortex_logical_types::Error>(())
 /// ```
 #[derive(Clone)]
@@ -30,9 +35,19 @@ pub struct Message {
 }
 
 /// What is done with an extension whose id isn't known. No id is known here, because a plugin can't be registered.
+///
+/// ```
+/// use vortex_logical_types::{DType, ErrorKind, UnknownIds};
+///
+/// let (dtype, message) = "x.tag[0x01](utf8)".parse::<DType>().map(|it| (it.clone(), it.to_proto()))?;
+/// assert_eq!(DType::from_proto(&message, UnknownIds::Allow)?, dtype);
+/// let error = DType::from_proto(&message, UnknownIds::Refuse).unwrap_err();
+/// assert_eq!(error.kind(), ErrorKind::ExtensionUnregistered);
+/// # Ok::<(), vortex_logical_types::Error>(())
+/// ```
 #[derive(Debug, Clone, Copy, PartialEq, Eq, Hash, Default)]
 pub enum UnknownIds {
-    /// A message with an extension is refused, by the library's error 35.
+    /// A message with an extension is refused, by [`ErrorKind::ExtensionUnregistered`] (35).
     #[default]
     Refuse,
     /// The extension keeps its id and its metadata.
@@ -41,7 +56,17 @@ pub enum UnknownIds {
 
 /// A message in the flat form: its nodes in pre-order, and the bytes of its texts, one text directly after the other. Both
 /// are plain data, so a flat message can be stored or sent to another process, and a program that has decoded the bytes of a
-/// message can write the nodes by itself. [`Node`] explains the fields of a node.
+/// message can write the nodes by itself. [`Node`] explains the fields of a node. This is the order of the nodes:
+///
+/// ```text
+/// message         = the node of its kind, and then
+///   list, fixed-size list:  the element type (if has_first)
+///   map:                    the key type (if has_first), the value type (if has_second)
+///   struct:                 a text for each name, a message for each type
+///   union:                  a text for each name, a tag for each tag, a message for each type
+///   extension:              the text of the id, the text of the metadata (if has_second), the storage type (if has_first)
+///   other kinds:            nothing
+/// ```
 ///
 /// ```
 /// use vortex_logical_types::{DType, FlatMessage, Message, Node, UnknownIds};
@@ -79,8 +104,8 @@ impl Message {
     /// Returns the message of these nodes and the bytes of their texts.
     ///
     /// # Errors
-    /// [`Error::OutOfRange`] if they aren't the nodes and texts of one message; [`Error::NotUtf8`] if a name or an id isn't
-    /// UTF-8; [`Error::TooDeep`] if a message is nested in more than 128 others; and [`Error::OutOfMemory`].
+    /// [`ErrorKind::OutOfRange`] if they aren't the nodes and texts of one message; [`ErrorKind::NotUtf8`] if a name or an id isn't
+    /// UTF-8; [`ErrorKind::TooDeep`] if a message is nested in more than 128 others; and [`ErrorKind::OutOfMemory`].
     pub fn from_nodes(nodes: &[Node], texts: &[u8]) -> Result<Message, Error> {
         made(|out| ffi::message_from_nodes(nodes, texts, out)).and_then(Message::of)
     }
@@ -96,8 +121,8 @@ impl Message {
     /// Returns the flat form.
     ///
     /// # Errors
-    /// [`Error::OutOfRange`] if a message has more names, tags, types or bytes of a text than 32 bits can count;
-    /// [`Error::TooDeep`] if a message is nested in more than 128 others; and [`Error::OutOfMemory`].
+    /// [`ErrorKind::OutOfRange`] if a message has more names, tags, types or bytes of a text than 32 bits can count;
+    /// [`ErrorKind::TooDeep`] if a message is nested in more than 128 others; and [`ErrorKind::OutOfMemory`].
     pub fn to_flat(&self) -> Result<FlatMessage, Error> {
         let (mut nodes, mut texts) = (Vec::new(), Vec::new());
         let (mut count, mut length) = (0, 0);
@@ -109,18 +134,22 @@ impl Message {
             (nodes, texts) = (room(count)?, room(length)?);
             code = write(&mut nodes, &mut texts, &mut count, &mut length);
         }
-        if calls::done(code)? { Ok(FlatMessage { nodes, texts }) } else { Err(Error::OutOfRange) }
+        if calls::done(code)? { Ok(FlatMessage { nodes, texts }) } else { Err(ErrorKind::OutOfRange.into()) }
     }
 
     /// Returns the normal form of this message, which is the message that [`DType::to_proto`] returns for the type that
-    /// this message describes. It has every child, flag and number, and the metadata of each extension, even if that is
-    /// empty.
+    /// this message describes. All values that a message may leave out because they are the default are written out in it,
+    /// for example the metadata of an extension if it is empty.
     ///
     /// ```
-    /// # use vortex_logical_types::{Message, UnknownIds};
-    /// let message: Message = r#"extension { id: "x.tag" storage_dtype { utf8 {} } }"#.parse()?;
-    /// let normal = message.normal(UnknownIds::Allow)?;
-    /// assert_eq!(normal, r#"extension { id: "x.tag" storage_dtype { utf8 {} } metadata: "" }"#.parse()?);
+    /// # use vortex_logical_types::{Message, Node, UnknownIds};
+    /// // An extension with its storage type, without metadata; its id, of five bytes; and the storage type, utf8.
+    /// let (id, utf8) = (Node { kind: 14, number: 5, ..Node::default() }, Node { kind: 5, ..Node::default() });
+    /// let extension = Node { kind: 13, has_first: 1, ..Node::default() };
+    /// let message = Message::from_nodes(&[extension, id, utf8], b"x.tag")?;
+    /// let nodes = message.normal(UnknownIds::Allow)?.to_flat()?.nodes;
+    /// // The normal form has metadata, a text of no bytes.
+    /// assert_eq!((nodes[0].has_second, nodes.len()), (1, 4));
     /// assert!(message.normal(UnknownIds::Refuse).is_err());
     /// # Ok::<(), vortex_logical_types::Error>(())
     /// ```
@@ -128,23 +157,13 @@ impl Message {
     /// # Errors
     /// As [`DType::from_proto`].
     pub fn normal(&self, unknown: UnknownIds) -> Result<Message, Error> {
-        made(|out| ffi::message_normal(&self.slot, unknown.are_allowed(), out)).and_then(Message::of)
+        explained(|error| made(|out| ffi::message_normal(&self.slot, unknown.are_allowed(), out, error)))
+            .and_then(Message::of)
     }
 
     /// Returns the same as `clone`, which doesn't allocate and so can't fail.
     pub fn try_clone(&self) -> Result<Message, Error> {
         Ok(self.clone())
-    }
-
-    /// Returns protobuf's text format of the message, from which [`FromStr`] reads the same message.
-    #[must_use]
-    pub fn to_source(&self) -> String {
-        or_abort(self.try_to_source())
-    }
-
-    /// Returns protobuf's text format of the message, or [`Error::OutOfMemory`].
-    pub fn try_to_source(&self) -> Result<String, Error> {
-        calls::text(|buffer, length| ffi::message_to_text(&self.slot, buffer, length))
     }
 }
 
@@ -152,11 +171,16 @@ impl DType {
     /// Returns the type that the message describes.
     ///
     /// # Errors
-    /// The library's error for the first fault of the message, if it describes no type. It is one of the errors 24 to 35,
-    /// or 1 to 4 for a decimal, 9 for a map, and 10 to 13 or 15 for a union. For an extension it is 35, if `unknown` is
-    /// [`UnknownIds::Refuse`]. And [`Error::OutOfMemory`]. (A message is nested at most as deep as a type may be.)
+    /// - If the message describes no type, its first fault, which is one of the errors 24 to 34 in the
+    ///   [table](crate#errors-and-memory). For example, it is [`ErrorKind::ListElementMissing`] (28) for a list without an
+    ///   element type. For a decimal it may be one of 1 to 4, for a map 9, and for a union 10 to 13 or 15.
+    /// - [`ErrorKind::ExtensionUnregistered`] (35) for an extension, if `unknown` is [`UnknownIds::Refuse`]
+    /// - [`ErrorKind::OutOfMemory`]
+    ///
+    /// (A message is nested at most as deep as a type may be.)
     pub fn from_proto(message: &Message, unknown: UnknownIds) -> Result<DType, Error> {
-        made(|out| ffi::message_to_dtype(&message.slot, unknown.are_allowed(), out)).and_then(DType::of)
+        explained(|error| made(|out| ffi::message_to_dtype(&message.slot, unknown.are_allowed(), out, error)))
+            .and_then(DType::of)
     }
 
     /// Returns the message that describes the type.
@@ -165,7 +189,7 @@ impl DType {
         or_abort(self.try_to_proto())
     }
 
-    /// Returns the message that describes the type, or [`Error::OutOfMemory`].
+    /// Returns the message that describes the type, or [`ErrorKind::OutOfMemory`].
     pub fn try_to_proto(&self) -> Result<Message, Error> {
         made(|out| ffi::dtype_to_message(self.slot(), out)).and_then(Message::of)
     }
@@ -183,7 +207,7 @@ impl FieldPath {
     /// ```
     ///
     /// # Errors
-    /// The library's error 36 if a part has no kind, and [`Error::OutOfMemory`].
+    /// [`ErrorKind::PathPartMissing`] (36) if a part has no kind, and [`ErrorKind::OutOfMemory`].
     pub fn from_proto<N: AsRef<str>>(parts: impl IntoIterator<Item = Option<N>>) -> Result<FieldPath, Error> {
         let mut names = Names::default();
         for part in parts {
@@ -192,34 +216,19 @@ impl FieldPath {
                 None => names.push_element()?,
             }
         }
-        made(|out| ffi::path_from_message(&names.text, &names.lengths, out)).and_then(FieldPath::of)
-    }
-
-    /// Returns the path that the message of a path describes, which is read from protobuf's text format, such as
-    /// `path { name: "a" } path { name: "b" }`.
-    ///
-    /// # Errors
-    /// [`Error::Unreadable`] with the position; the library's error 36 if a part has no kind; and [`Error::OutOfMemory`].
-    pub fn from_proto_source(text: &str) -> Result<FieldPath, Error> {
-        read(text, ffi::path_from_message_text).and_then(FieldPath::of)
+        explained(|error| made(|out| ffi::path_from_message(&names.text, &names.lengths, out, error)))
+            .and_then(FieldPath::of)
     }
 }
 
-/// Reads protobuf's text format of a message, such as `list { element_type { utf8 {} } }`.
-///
-/// # Errors
-/// [`Error::Unreadable`] with the position, and [`Error::OutOfMemory`].
-impl FromStr for Message {
-    type Err = Error;
-
-    fn from_str(text: &str) -> Result<Message, Error> {
-        read(text, ffi::message_from_text).and_then(Message::of)
-    }
-}
-
+/// The flat form.
 impl fmt::Debug for Message {
     fn fmt(&self, f: &mut fmt::Formatter<'_>) -> fmt::Result {
-        write!(f, "Message({})", self.try_to_source().map_err(|_| fmt::Error)?)
+        let flat = self.to_flat().map_err(|_| fmt::Error)?;
+        f.debug_struct("Message")
+            .field("nodes", &flat.nodes)
+            .field("texts", &format_args!("\"{}\"", flat.texts.escape_ascii()))
+            .finish()
     }
 }
 
@@ -231,18 +240,17 @@ impl PartialEq for Message {
 
 impl Eq for Message {}
 
-/// (Equal messages have the same text.)
+/// (Equal messages have the same flat form. A message whose flat form can't be made has the hash of none.)
 impl Hash for Message {
     fn hash<H: Hasher>(&self, state: &mut H) {
-        self.to_source().hash(state);
-    }
-}
-
-impl TryFrom<&str> for Message {
-    type Error = Error;
-
-    fn try_from(text: &str) -> Result<Message, Error> {
-        text.parse()
+        let flat = match self.to_flat() {
+            Err(error) if error.kind() != ErrorKind::OutOfMemory => FlatMessage::default(),
+            flat => or_abort(flat),
+        };
+        flat.texts.hash(state);
+        for Node { kind, nullable, number, value, .. } in flat.nodes {
+            (kind, nullable, number, value).hash(state);
+        }
     }
 }
 

@@ -2,9 +2,9 @@
 // SPDX-FileCopyrightText: Copyright the Vortex contributors
 
 //! What is in a type: the fields of a struct, the variants of a union, and so on. Each is a view of its type.
-use crate::calls::{self, Names, Texts, holds, made, or_abort, plain, reserved, value};
+use crate::calls::{self, Names, Texts, done, explained, holds, made, or_abort, reserved, value};
 use crate::dtype::DType;
-use crate::error::Error;
+use crate::error::{Error, ErrorKind};
 use crate::ffi::{self, Slot};
 use crate::shared::remembered;
 use std::sync::OnceLock;
@@ -18,8 +18,9 @@ pub(crate) struct Parts {
     /// The names of fields or variants, or the id.
     names: OnceLock<Texts>,
     metadata: OnceLock<Vec<u8>>,
-    /// The types of fields or variants.
+    /// The types of fields or variants, and whether there is each of them.
     types: Vec<OnceLock<DType>>,
+    has_all: OnceLock<()>,
 }
 
 impl Parts {
@@ -27,19 +28,22 @@ impl Parts {
     pub(crate) fn of(count: usize) -> Result<Parts, Error> {
         let mut types = reserved(count)?;
         types.resize_with(count, OnceLock::new);
-        let (first, second, names, metadata) = Default::default();
-        Ok(Parts { first, second, names, metadata, types })
+        let (first, second, names, metadata, has_all) = Default::default();
+        Ok(Parts { first, second, names, metadata, types, has_all })
     }
 
+    #[inline]
     pub(crate) fn first(&self, call: impl FnOnce(&mut Slot) -> u32) -> Result<&DType, Error> {
         remembered(&self.first, || made(call).and_then(DType::of))
     }
 
+    #[inline]
     fn second(&self, call: impl FnOnce(&mut Slot) -> u32) -> Result<&DType, Error> {
         remembered(&self.second, || made(call).and_then(DType::of))
     }
 
-    /// The type of a field or of a variant, if there is one at the position.
+    /// The type of a field or of a variant, if there is one at the index.
+    #[inline]
     fn at(&self, index: usize, call: impl FnOnce(&mut Slot) -> u32) -> Result<Option<&DType>, Error> {
         let Some(cell) = self.types.get(index) else {
             return Ok(None);
@@ -47,10 +51,37 @@ impl Parts {
         remembered(cell, || made(call).and_then(DType::of)).map(Some)
     }
 
-    /// All names, or the id.
-    fn names(&self, count: usize, call: impl Fn(usize, &mut [u8], &mut usize) -> u32) -> Result<&Texts, Error> {
-        remembered(&self.names, || Texts::read(count, call))
+    /// The types of all fields or variants, which a call stores in slots. Those that were asked for before stay.
+    fn all(&self, call: impl FnOnce(&mut [Slot], &mut usize) -> u32) -> Result<&[OnceLock<DType>], Error> {
+        remembered(&self.has_all, || {
+            let (mut slots, mut count) = (reserved(self.types.len())?, 0);
+            slots.resize_with(self.types.len(), Slot::new);
+            if !done(call(&mut slots, &mut count))? || count != slots.len() {
+                return Err(ErrorKind::OutOfRange.into());
+            }
+            for (cell, slot) in self.types.iter().zip(slots) {
+                remembered(cell, || DType::of(slot))?;
+            }
+            Ok(())
+        })?;
+        Ok(&self.types)
     }
+
+    /// The names of all fields or variants, which a call writes.
+    #[inline]
+    fn names(&self, call: impl Fn(&mut [u8], &mut usize, &mut [usize], &mut usize) -> u32) -> Result<&Texts, Error> {
+        remembered(&self.names, || Texts::read(self.types.len(), call))
+    }
+
+    /// The id, which is remembered as the only name.
+    fn id(&self, call: impl Fn(&mut [u8], &mut usize) -> u32) -> Result<&str, Error> {
+        Ok(remembered(&self.names, || calls::text(call).and_then(Texts::of))?.get(0).unwrap_or_default())
+    }
+}
+
+/// The type in a cell that has one.
+fn known(cell: &OnceLock<DType>) -> &DType {
+    cell.get().unwrap_or_else(|| unreachable!("each type is remembered"))
 }
 
 /// The fields of a struct, from [`DType::as_struct_fields_opt`].
@@ -75,33 +106,42 @@ pub struct StructFields<'a> {
 impl<'a> StructFields<'a> {
     /// Returns the number of fields.
     #[must_use]
+    #[inline]
     pub fn nfields(&self) -> usize {
-        plain(|count| ffi::struct_nfields(self.dtype.slot(), count))
+        self.dtype.count()
     }
 
+    #[inline]
     fn try_names(&self) -> Result<&'a Texts, Error> {
         let slot = self.dtype.slot();
-        self.dtype.parts()?.names(self.nfields(), |at, buffer, length| ffi::struct_field_name(slot, at, buffer, length))
+        self.dtype.parts()?.names(|text, length, lengths, count| ffi::struct_names(slot, text, length, lengths, count))
     }
 
-    /// Returns the name of the field at the position, or `None` if the position isn't below the number of fields.
+    fn try_types(&self) -> Result<&'a [OnceLock<DType>], Error> {
+        self.dtype.parts()?.all(|types, count| ffi::struct_types(self.dtype.slot(), types, count))
+    }
+
+    /// Returns the name of the field at this index, or `None` if the index isn't below the number of fields.
     #[must_use]
+    #[inline]
     pub fn field_name(&self, index: usize) -> Option<&'a str> {
         or_abort(self.try_field_name(index))
     }
 
-    /// Returns what [`StructFields::field_name`] returns, or [`Error::OutOfMemory`].
+    /// Returns what [`StructFields::field_name`] returns, or [`ErrorKind::OutOfMemory`].
+    #[inline]
     pub fn try_field_name(&self, index: usize) -> Result<Option<&'a str>, Error> {
         Ok(self.try_names()?.get(index))
     }
 
     /// Returns the names of the fields, in their order.
+    #[inline]
     pub fn names(self) -> impl ExactSizeIterator<Item = &'a str> + DoubleEndedIterator + use<'a> {
         let names = or_abort(self.try_names());
         (0..self.nfields()).map(|index| names.get(index).unwrap_or_else(|| unreachable!("{index} is a position")))
     }
 
-    /// Returns the position of the first field of the name, or `None` if no field has the name.
+    /// Returns the index of the first field of this name, counted from 0, or `None` if no field has the name.
     #[must_use]
     pub fn find(&self, name: &str) -> Option<usize> {
         or_abort(value(|index| ffi::struct_find(self.dtype.slot(), name.as_bytes(), index)))
@@ -113,7 +153,7 @@ impl<'a> StructFields<'a> {
         or_abort(self.try_field(name))
     }
 
-    /// Returns what [`StructFields::field`] returns, or [`Error::OutOfMemory`].
+    /// Returns what [`StructFields::field`] returns, or [`ErrorKind::OutOfMemory`].
     pub fn try_field(&self, name: &str) -> Result<Option<&'a DType>, Error> {
         match self.find(name) {
             Some(index) => self.try_field_by_index(index),
@@ -121,24 +161,27 @@ impl<'a> StructFields<'a> {
         }
     }
 
-    /// Returns the type of the field at the position, or `None` if the position isn't below the number of fields.
+    /// Returns the type of the field at this index, or `None` if the index isn't below the number of fields.
     #[must_use]
+    #[inline]
     pub fn field_by_index(&self, index: usize) -> Option<&'a DType> {
         or_abort(self.try_field_by_index(index))
     }
 
-    /// Returns what [`StructFields::field_by_index`] returns, or [`Error::OutOfMemory`].
+    /// Returns what [`StructFields::field_by_index`] returns, or [`ErrorKind::OutOfMemory`].
+    #[inline]
     pub fn try_field_by_index(&self, index: usize) -> Result<Option<&'a DType>, Error> {
         self.dtype.parts()?.at(index, |out| ffi::struct_field_by_index(self.dtype.slot(), index, out))
     }
 
     /// Returns the types of the fields, in their order.
+    #[inline]
     pub fn fields(self) -> impl ExactSizeIterator<Item = &'a DType> + DoubleEndedIterator + use<'a> {
-        (0..self.nfields())
-            .map(move |index| self.field_by_index(index).unwrap_or_else(|| unreachable!("{index} is a position")))
+        or_abort(self.try_types()).iter().map(known)
     }
 
     /// Returns the name and the type of each field, in their order.
+    #[inline]
     pub fn iter(self) -> impl ExactSizeIterator<Item = (&'a str, &'a DType)> + DoubleEndedIterator + use<'a> {
         self.names().zip(self.fields())
     }
@@ -146,42 +189,84 @@ impl<'a> StructFields<'a> {
     /// Returns the struct of the fields with these names, in the order of the names, with the nullability of the type. All
     /// names are taken from the iterator before the library is called.
     ///
+    /// ```
+    /// # use vortex_logical_types::DType;
+    /// let orders: DType = "{id=u64, at=i64, note=utf8?}".parse()?;
+    /// let fields = orders.as_struct_fields_opt().expect("a struct");
+    /// assert_eq!(fields.project(["note", "id"])?, "{note=utf8?, id=u64}".parse()?);
+    /// # Ok::<(), vortex_logical_types::Error>(())
+    /// ```
+    ///
     /// # Errors
-    /// The library's error 16 if one of the names isn't the name of a field, and [`Error::OutOfMemory`].
+    /// [`ErrorKind::FieldNotFound`] (16) if one of the names isn't the name of a field, with the first such name and its
+    /// place among the names, counted from 0; and [`ErrorKind::OutOfMemory`].
     pub fn project<N: AsRef<str>>(&self, names: impl IntoIterator<Item = N>) -> Result<DType, Error> {
         let mut projection = Names::default();
         for name in names {
             projection.push(name.as_ref())?;
         }
-        made(|out| ffi::struct_project(self.dtype.slot(), &projection.text, &projection.lengths, out))
-            .and_then(DType::of)
+        explained(|error| {
+            made(|out| ffi::struct_project(self.dtype.slot(), &projection.text, &projection.lengths, out, error))
+        })
+        .and_then(DType::of)
+        .map_err(|error| match projection.iter().find(|name| self.find(name).is_none()) {
+            Some(missing) if error.kind() == ErrorKind::FieldNotFound => error.about(missing),
+            _ => error,
+        })
     }
 
-    /// Returns the struct without the field at the position, with the nullability of the type.
+    /// Returns the struct without the field at this index, with the nullability of the type.
+    ///
+    /// ```
+    /// # use vortex_logical_types::DType;
+    /// let dtype: DType = "{a=i8, b=i16}?".parse()?;
+    /// let fields = dtype.as_struct_fields_opt().expect("a struct");
+    /// assert_eq!(fields.without_field(0)?, "{b=i16}?".parse()?);
+    /// # Ok::<(), vortex_logical_types::Error>(())
+    /// ```
     ///
     /// # Errors
-    /// The library's error 17 if there is no such field, and [`Error::OutOfMemory`].
+    /// [`ErrorKind::IndexOutOfBounds`] (17) if there is no such field, and [`ErrorKind::OutOfMemory`].
     pub fn without_field(&self, index: usize) -> Result<DType, Error> {
-        made(|out| ffi::struct_without_field(self.dtype.slot(), index, out)).and_then(DType::of)
+        explained(|error| made(|out| ffi::struct_without_field(self.dtype.slot(), index, out, error)))
+            .and_then(DType::of)
     }
 
     /// Returns the struct of the fields of both, first those of this struct, with the nullability of this struct.
     ///
+    /// ```
+    /// # use vortex_logical_types::DType;
+    /// let (one, other): (DType, DType) = ("{a=i8}".parse()?, "{b=i16}".parse()?);
+    /// let (one, other) = (one.as_struct_fields_opt().expect("a struct"), other.as_struct_fields_opt().expect("a struct"));
+    /// assert_eq!(one.disjoint_merge(&other)?, "{a=i8, b=i16}".parse()?);
+    /// assert!(one.disjoint_merge(&one).is_err());
+    /// # Ok::<(), vortex_logical_types::Error>(())
+    /// ```
+    ///
     /// # Errors
-    /// The library's error 18 if a name occurs twice among the fields of both, and [`Error::OutOfMemory`].
+    /// [`ErrorKind::DuplicateNames`] (18) if a name occurs twice among the fields of both, and [`ErrorKind::OutOfMemory`].
     pub fn disjoint_merge(&self, other: &StructFields<'_>) -> Result<DType, Error> {
         let copy = self.dtype.apart_from(other.dtype)?;
         let other = copy.as_ref().unwrap_or(other.dtype.slot());
-        made(|out| ffi::struct_disjoint_merge(self.dtype.slot(), other, out)).and_then(DType::of)
+        explained(|error| made(|out| ffi::struct_disjoint_merge(self.dtype.slot(), other, out, error)))
+            .and_then(DType::of)
     }
 
     /// Returns the fields as the library indents them, each on a line of its own.
+    ///
+    /// ```
+    /// # use vortex_logical_types::DType;
+    /// let dtype: DType = "{a=i8, b={c=utf8?}}".parse()?;
+    /// let text = dtype.as_struct_fields_opt().expect("a struct").indented();
+    /// assert!(text.lines().count() > 3 && text.contains("utf8?"));
+    /// # Ok::<(), vortex_logical_types::Error>(())
+    /// ```
     #[must_use]
     pub fn indented(&self) -> String {
         or_abort(self.try_indented())
     }
 
-    /// Returns the fields as the library indents them, or [`Error::OutOfMemory`].
+    /// Returns the fields as the library indents them, or [`ErrorKind::OutOfMemory`].
     pub fn try_indented(&self) -> Result<String, Error> {
         calls::text(|buffer, length| ffi::struct_indented(self.dtype.slot(), buffer, length))
     }
@@ -209,27 +294,36 @@ impl<'a> UnionVariants<'a> {
     /// Returns the number of variants, which isn't 0.
     #[allow(clippy::len_without_is_empty)]
     #[must_use]
+    #[inline]
     pub fn len(&self) -> usize {
-        plain(|count| ffi::union_len(self.dtype.slot(), count))
+        self.dtype.count()
     }
 
+    #[inline]
     fn try_names(&self) -> Result<&'a Texts, Error> {
         let slot = self.dtype.slot();
-        self.dtype.parts()?.names(self.len(), |at, buffer, length| ffi::union_variant_name(slot, at, buffer, length))
+        self.dtype.parts()?.names(|text, length, lengths, count| ffi::union_names(slot, text, length, lengths, count))
     }
 
-    /// Returns the name of the variant at the position, or `None` if the position isn't below the number of variants.
+    fn try_types(&self) -> Result<&'a [OnceLock<DType>], Error> {
+        self.dtype.parts()?.all(|types, count| ffi::union_types(self.dtype.slot(), types, count))
+    }
+
+    /// Returns the name of the variant at this index, or `None` if the index isn't below the number of variants.
     #[must_use]
+    #[inline]
     pub fn variant_name(&self, index: usize) -> Option<&'a str> {
         or_abort(self.try_variant_name(index))
     }
 
-    /// Returns what [`UnionVariants::variant_name`] returns, or [`Error::OutOfMemory`].
+    /// Returns what [`UnionVariants::variant_name`] returns, or [`ErrorKind::OutOfMemory`].
+    #[inline]
     pub fn try_variant_name(&self, index: usize) -> Result<Option<&'a str>, Error> {
         Ok(self.try_names()?.get(index))
     }
 
     /// Returns the names of the variants, in their order.
+    #[inline]
     pub fn names(self) -> impl ExactSizeIterator<Item = &'a str> + DoubleEndedIterator + use<'a> {
         let names = or_abort(self.try_names());
         (0..self.len()).map(|index| names.get(index).unwrap_or_else(|| unreachable!("{index} is a position")))
@@ -241,7 +335,7 @@ impl<'a> UnionVariants<'a> {
         (0..self.len()).filter_map(|index| self.child_index_to_tag(index)).collect()
     }
 
-    /// Returns the position of the variant of the name, or `None` if no variant has the name.
+    /// Returns the index of the variant of this name, counted from 0, or `None` if no variant has the name.
     #[must_use]
     pub fn find(&self, name: &str) -> Option<usize> {
         or_abort(value(|index| ffi::union_find(self.dtype.slot(), name.as_bytes(), index)))
@@ -253,7 +347,7 @@ impl<'a> UnionVariants<'a> {
         or_abort(self.try_variant(name))
     }
 
-    /// Returns what [`UnionVariants::variant`] returns, or [`Error::OutOfMemory`].
+    /// Returns what [`UnionVariants::variant`] returns, or [`ErrorKind::OutOfMemory`].
     pub fn try_variant(&self, name: &str) -> Result<Option<&'a DType>, Error> {
         match self.find(name) {
             Some(index) => self.try_variant_by_index(index),
@@ -261,41 +355,51 @@ impl<'a> UnionVariants<'a> {
         }
     }
 
-    /// Returns the type of the variant at the position, or `None` if the position isn't below the number of variants.
+    /// Returns the type of the variant at this index, or `None` if the index isn't below the number of variants.
     #[must_use]
+    #[inline]
     pub fn variant_by_index(&self, index: usize) -> Option<&'a DType> {
         or_abort(self.try_variant_by_index(index))
     }
 
-    /// Returns what [`UnionVariants::variant_by_index`] returns, or [`Error::OutOfMemory`].
+    /// Returns what [`UnionVariants::variant_by_index`] returns, or [`ErrorKind::OutOfMemory`].
+    #[inline]
     pub fn try_variant_by_index(&self, index: usize) -> Result<Option<&'a DType>, Error> {
         self.dtype.parts()?.at(index, |out| ffi::union_variant_by_index(self.dtype.slot(), index, out))
     }
 
     /// Returns the types of the variants, in their order.
+    #[inline]
     pub fn variants(self) -> impl ExactSizeIterator<Item = &'a DType> + DoubleEndedIterator + use<'a> {
-        (0..self.len())
-            .map(move |index| self.variant_by_index(index).unwrap_or_else(|| unreachable!("{index} is a position")))
+        or_abort(self.try_types()).iter().map(known)
     }
 
     /// Returns the name and the type of each variant, in their order.
+    #[inline]
     pub fn iter(self) -> impl ExactSizeIterator<Item = (&'a str, &'a DType)> + DoubleEndedIterator + use<'a> {
         self.names().zip(self.variants())
     }
 
-    /// Returns the position of the variant that has the tag, or `None` if no variant has it.
+    /// Returns the index of the variant that has the tag, or `None` if no variant has it.
     #[must_use]
     pub fn tag_to_child_index(&self, tag: u8) -> Option<usize> {
         or_abort(value(|index| ffi::union_tag_to_child_index(self.dtype.slot(), tag, index)))
     }
 
-    /// Returns the tag of the variant at the position, or `None` if the position isn't below the number of variants.
+    /// Returns the tag of the variant at this index, or `None` if the index isn't below the number of variants.
     #[must_use]
     pub fn child_index_to_tag(&self, index: usize) -> Option<u8> {
         or_abort(value(|tag| ffi::union_child_index_to_tag(self.dtype.slot(), index, tag)))
     }
 
     /// Returns whether the tags are 0, 1, 2 and so on, in order.
+    ///
+    /// ```
+    /// # use vortex_logical_types::DType;
+    /// let dtype: DType = "union(a=i8, b=utf8)".parse()?;
+    /// assert!(dtype.as_union_variants_opt().is_some_and(|variants| variants.is_consecutive()));
+    /// # Ok::<(), vortex_logical_types::Error>(())
+    /// ```
     #[must_use]
     pub fn is_consecutive(&self) -> bool {
         holds(ffi::union_is_consecutive(self.dtype.slot()))
@@ -321,22 +425,26 @@ pub struct MapDType<'a> {
 impl<'a> MapDType<'a> {
     /// Returns the type of the keys.
     #[must_use]
+    #[inline]
     pub fn key_dtype(&self) -> &'a DType {
         or_abort(self.try_key_dtype())
     }
 
-    /// Returns the type of the keys, or [`Error::OutOfMemory`].
+    /// Returns the type of the keys, or [`ErrorKind::OutOfMemory`].
+    #[inline]
     pub fn try_key_dtype(&self) -> Result<&'a DType, Error> {
         self.dtype.parts()?.first(|out| ffi::dtype_key(self.dtype.slot(), out))
     }
 
     /// Returns the type of the values.
     #[must_use]
+    #[inline]
     pub fn value_dtype(&self) -> &'a DType {
         or_abort(self.try_value_dtype())
     }
 
-    /// Returns the type of the values, or [`Error::OutOfMemory`].
+    /// Returns the type of the values, or [`ErrorKind::OutOfMemory`].
+    #[inline]
     pub fn try_value_dtype(&self) -> Result<&'a DType, Error> {
         self.dtype.parts()?.second(|out| ffi::dtype_value(self.dtype.slot(), out))
     }
@@ -344,8 +452,16 @@ impl<'a> MapDType<'a> {
     /// Returns the type of the entries: a non-nullable struct with the fields `key` and `value`. For example, for
     /// `map(utf8, i32?, keys_sorted=true)` it is `{key=utf8, value=i32?}`.
     ///
+    /// ```
+    /// # use vortex_logical_types::DType;
+    /// let dtype: DType = "map(utf8, i32?, keys_sorted=true)".parse()?;
+    /// let entries = dtype.as_map_opt().expect("a map").entries_dtype()?;
+    /// assert_eq!(entries, "{key=utf8, value=i32?}".parse()?);
+    /// # Ok::<(), vortex_logical_types::Error>(())
+    /// ```
+    ///
     /// # Errors
-    /// [`Error::OutOfMemory`].
+    /// [`ErrorKind::OutOfMemory`].
     pub fn entries_dtype(&self) -> Result<DType, Error> {
         made(|out| ffi::dtype_entries(self.dtype.slot(), out)).and_then(DType::of)
     }
@@ -376,24 +492,26 @@ pub struct ExtDTypeRef<'a> {
 impl<'a> ExtDTypeRef<'a> {
     /// Returns the id.
     #[must_use]
+    #[inline]
     pub fn id(&self) -> &'a str {
         or_abort(self.try_id())
     }
 
-    /// Returns the id, or [`Error::OutOfMemory`].
+    /// Returns the id, or [`ErrorKind::OutOfMemory`].
+    #[inline]
     pub fn try_id(&self) -> Result<&'a str, Error> {
-        let names =
-            self.dtype.parts()?.names(1, |_, buffer, length| ffi::dtype_id(self.dtype.slot(), buffer, length))?;
-        Ok(names.get(0).unwrap_or_default())
+        self.dtype.parts()?.id(|buffer, length| ffi::dtype_id(self.dtype.slot(), buffer, length))
     }
 
     /// Returns the bytes of the metadata.
     #[must_use]
+    #[inline]
     pub fn metadata_bytes(&self) -> &'a [u8] {
         or_abort(self.try_metadata_bytes())
     }
 
-    /// Returns the bytes of the metadata, or [`Error::OutOfMemory`].
+    /// Returns the bytes of the metadata, or [`ErrorKind::OutOfMemory`].
+    #[inline]
     pub fn try_metadata_bytes(&self) -> Result<&'a [u8], Error> {
         remembered(&self.dtype.parts()?.metadata, || {
             let bytes = calls::bytes_found(|buffer, length| ffi::dtype_metadata(self.dtype.slot(), buffer, length))?;
@@ -404,11 +522,13 @@ impl<'a> ExtDTypeRef<'a> {
 
     /// Returns the type in which values are stored.
     #[must_use]
+    #[inline]
     pub fn storage_dtype(&self) -> &'a DType {
         or_abort(self.try_storage_dtype())
     }
 
-    /// Returns the type in which values are stored, or [`Error::OutOfMemory`].
+    /// Returns the type in which values are stored, or [`ErrorKind::OutOfMemory`].
+    #[inline]
     pub fn try_storage_dtype(&self) -> Result<&'a DType, Error> {
         self.dtype.parts()?.first(|out| ffi::dtype_storage(self.dtype.slot(), out))
     }

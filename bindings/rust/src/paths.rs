@@ -5,6 +5,8 @@
 use crate::calls::{self, Names, found, holds, made, or_abort, plain, read, reserved};
 use crate::dtype::DType;
 use crate::error::Error;
+#[cfg(doc)]
+use crate::error::ErrorKind;
 use crate::ffi::{self, Slot};
 use crate::shared::{Shared, remembered};
 use std::cmp::Ordering;
@@ -15,6 +17,13 @@ use std::sync::OnceLock;
 
 /// A step of a path: into a field of a struct, or into the element of a list. The element is before all names, and names
 /// are ordered by their bytes.
+///
+/// ```
+/// use vortex_logical_types::{Field, field_path};
+///
+/// assert_eq!(field_path!("lines", [], "sku").parts(), ["lines".into(), Field::ElementType, "sku".into()]);
+/// assert!(Field::ElementType < Field::from("") && Field::from("Z") < Field::from("a"));
+/// ```
 #[derive(Debug, Clone, PartialEq, Eq, Hash)]
 pub enum Field {
     /// Into the field of this name.
@@ -95,17 +104,31 @@ pub struct FieldPath {
     whole: Shared<Whole>,
 }
 
-/// An object of the library, with what is remembered of its steps.
+/// An object of the library, with how many steps it has, and what is remembered of them.
 struct Whole {
     slot: Slot,
+    length: usize,
     steps: OnceLock<Vec<Field>>,
 }
 
 impl FieldPath {
     pub(crate) fn of(slot: Slot) -> Result<FieldPath, Error> {
-        Ok(FieldPath { whole: Shared::try_new(Whole { slot, steps: OnceLock::new() })? })
+        let length = plain(|count| ffi::path_len(&slot, count));
+        Ok(FieldPath { whole: Shared::try_new(Whole { slot, length, steps: OnceLock::new() })? })
     }
 
+    /// The path that a call puts into a slot. If memory runs out for what the path is in, the call isn't made.
+    pub(crate) fn moved(call: impl FnOnce(&mut Slot) -> u32) -> Result<FieldPath, Error> {
+        let mut whole = Shared::try_new(Whole { slot: Slot::new(), length: 0, steps: OnceLock::new() })?;
+        let inside = whole.get_mut().unwrap_or_else(|| unreachable!("a new path has one owner"));
+        match call(&mut inside.slot) {
+            ffi::DONE => inside.length = plain(|count| ffi::path_len(&inside.slot, count)),
+            code => return Err(Error::of(code)),
+        }
+        Ok(FieldPath { whole })
+    }
+
+    #[inline]
     pub(crate) fn slot(&self) -> &Slot {
         &self.whole.slot
     }
@@ -116,7 +139,7 @@ impl FieldPath {
         or_abort(FieldPath::try_root())
     }
 
-    /// Returns the path of no step, or [`Error::OutOfMemory`].
+    /// Returns the path of no step, or [`ErrorKind::OutOfMemory`].
     pub fn try_root() -> Result<FieldPath, Error> {
         made(ffi::path_root).and_then(FieldPath::of)
     }
@@ -127,7 +150,7 @@ impl FieldPath {
         or_abort(FieldPath::try_from_name(name))
     }
 
-    /// Returns the path of one step, into the field of this name, or [`Error::OutOfMemory`].
+    /// Returns the path of one step, into the field of this name, or [`ErrorKind::OutOfMemory`].
     pub fn try_from_name(name: &str) -> Result<FieldPath, Error> {
         FieldPath::of_steps(name.as_bytes(), &[name.len()])
     }
@@ -138,7 +161,7 @@ impl FieldPath {
         or_abort(FieldPath::try_from_iter([field.into()]))
     }
 
-    /// Returns the path of these steps, or [`Error::OutOfMemory`]. All items are taken from the iterator before the library
+    /// Returns the path of these steps, or [`ErrorKind::OutOfMemory`]. All items are taken from the iterator before the library
     /// is called.
     pub fn try_from_iter(parts: impl IntoIterator<Item = impl Into<Field>>) -> Result<FieldPath, Error> {
         let mut steps = Names::default();
@@ -168,11 +191,13 @@ impl FieldPath {
 
     /// Returns the steps. They are remembered from the first call, which allocates.
     #[must_use]
+    #[inline]
     pub fn parts(&self) -> &[Field] {
         or_abort(self.try_parts())
     }
 
-    /// Returns the steps, or [`Error::OutOfMemory`].
+    /// Returns the steps, or [`ErrorKind::OutOfMemory`].
+    #[inline]
     pub fn try_parts(&self) -> Result<&[Field], Error> {
         remembered(&self.whole.steps, || {
             let mut steps = reserved(self.len())?;
@@ -190,6 +215,7 @@ impl FieldPath {
     }
 
     /// Returns the steps, from the root on. `parts` returns the same as a slice.
+    #[inline]
     pub fn iter(&self) -> std::slice::Iter<'_, Field> {
         self.parts().iter()
     }
@@ -205,7 +231,7 @@ impl FieldPath {
         or_abort(self.try_join(other))
     }
 
-    /// Returns what [`FieldPath::join`] returns, or [`Error::OutOfMemory`].
+    /// Returns what [`FieldPath::join`] returns, or [`ErrorKind::OutOfMemory`].
     pub fn try_join(&self, other: &FieldPath) -> Result<FieldPath, Error> {
         FieldPath::of_parts(self.try_parts()?.iter().chain(other.try_parts()?))
     }
@@ -222,7 +248,7 @@ impl FieldPath {
         or_abort(self.try_parent())
     }
 
-    /// Returns what [`FieldPath::parent`] returns, or [`Error::OutOfMemory`].
+    /// Returns what [`FieldPath::parent`] returns, or [`ErrorKind::OutOfMemory`].
     pub fn try_parent(&self) -> Result<Option<FieldPath>, Error> {
         match self.try_parts()?.split_last() {
             Some((_, parts)) => FieldPath::of_parts(parts.iter()).map(Some),
@@ -245,18 +271,21 @@ impl FieldPath {
 
     /// Returns whether there is no step, as [`FieldPath::is_root`] does.
     #[must_use]
+    #[inline]
     pub fn is_empty(&self) -> bool {
         self.len() == 0
     }
 
     /// Returns the number of steps.
     #[must_use]
+    #[inline]
     pub fn len(&self) -> usize {
-        plain(|count| ffi::path_len(self.slot(), count))
+        self.whole.length
     }
 
     /// Returns whether there is no step.
     #[must_use]
+    #[inline]
     pub fn is_root(&self) -> bool {
         self.is_empty()
     }
@@ -267,7 +296,7 @@ impl FieldPath {
         or_abort(self.try_push(field))
     }
 
-    /// Returns the path with one more step, or [`Error::OutOfMemory`].
+    /// Returns the path with one more step, or [`ErrorKind::OutOfMemory`].
     pub fn try_push(&self, field: impl Into<Field>) -> Result<FieldPath, Error> {
         match field.into() {
             Field::Name(name) => made(|out| ffi::path_push_name(self.slot(), name.as_bytes(), out)),
@@ -278,19 +307,32 @@ impl FieldPath {
 
     /// Returns whether the first step is this name. For the root it returns false.
     ///
+    /// ```
+    /// # use vortex_logical_types::{FieldPath, field_path};
+    /// assert_eq!(field_path!("a", []).starts_with_name("a"), Ok(true));
+    /// assert_eq!(FieldPath::root().starts_with_name("a"), Ok(false));
+    /// assert!(field_path!([], "a").starts_with_name("a").is_err());
+    /// ```
+    ///
     /// # Errors
-    /// [`Error::Precondition`] if the first step is the element.
+    /// [`ErrorKind::Precondition`] if the first step is the element.
     pub fn starts_with_name(&self, name: &str) -> Result<bool, Error> {
         calls::done(ffi::path_starts_with_name(self.slot(), name.as_bytes()))
     }
 
     /// Returns the path without its first step, or `None` for the root, which has no step.
+    ///
+    /// ```
+    /// # use vortex_logical_types::{FieldPath, field_path};
+    /// assert_eq!(field_path!("a", "b").step_into(), Some(field_path!("b")));
+    /// assert_eq!(FieldPath::root().step_into(), None);
+    /// ```
     #[must_use]
     pub fn step_into(&self) -> Option<FieldPath> {
         or_abort(self.try_step_into())
     }
 
-    /// Returns what [`FieldPath::step_into`] returns, or [`Error::OutOfMemory`].
+    /// Returns what [`FieldPath::step_into`] returns, or [`ErrorKind::OutOfMemory`].
     pub fn try_step_into(&self) -> Result<Option<FieldPath>, Error> {
         found(|out| ffi::path_step_into(self.slot(), out))?.map(FieldPath::of).transpose()
     }
@@ -311,7 +353,7 @@ impl FieldPath {
         or_abort(self.try_resolve(dtype))
     }
 
-    /// Returns what [`FieldPath::resolve`] returns, or [`Error::OutOfMemory`].
+    /// Returns what [`FieldPath::resolve`] returns, or [`ErrorKind::OutOfMemory`].
     pub fn try_resolve(&self, dtype: &DType) -> Result<Option<DType>, Error> {
         DType::of_found(found(|out| ffi::path_resolve(dtype.slot(), self.slot(), out))?)
     }
@@ -323,7 +365,14 @@ impl FieldPath {
     }
 
     /// Returns whether one of the paths is a prefix of the other.
+    ///
+    /// ```
+    /// # use vortex_logical_types::field_path;
+    /// assert!(field_path!("a", "b").overlap(&field_path!("a")));
+    /// assert!(!field_path!("a", "b").overlap(&field_path!("a", "c")));
+    /// ```
     #[must_use]
+    #[inline]
     pub fn overlap(&self, other: &FieldPath) -> bool {
         self.whole.is(&other.whole) || holds(ffi::path_overlap(self.slot(), other.slot()))
     }
@@ -339,7 +388,7 @@ impl FieldPath {
         or_abort(self.try_to_source())
     }
 
-    /// Returns the console's text of the path, or [`Error::OutOfMemory`].
+    /// Returns the console's text of the path, or [`ErrorKind::OutOfMemory`].
     pub fn try_to_source(&self) -> Result<String, Error> {
         calls::text(|buffer, length| ffi::path_to_text(self.slot(), buffer, length))
     }
@@ -348,7 +397,7 @@ impl FieldPath {
 /// Reads the console's text of a path, such as `a.[]."b c"`, or `.` for the root.
 ///
 /// # Errors
-/// [`Error::Unreadable`] with the position, and [`Error::OutOfMemory`].
+/// [`ErrorKind::Unreadable`] with the position, and [`ErrorKind::OutOfMemory`].
 impl FromStr for FieldPath {
     type Err = Error;
 
@@ -371,6 +420,7 @@ impl fmt::Debug for FieldPath {
 }
 
 impl PartialEq for FieldPath {
+    #[inline]
     fn eq(&self, other: &FieldPath) -> bool {
         self.whole.is(&other.whole) || holds(ffi::path_eq(self.slot(), other.slot()))
     }

@@ -3,11 +3,20 @@
 
 //! Values without parts: nullability, primitive types, decimals, kinds of types. They are plain Rust, and no call is made.
 use crate::error::Error;
+#[cfg(doc)]
+use crate::error::ErrorKind;
 use std::fmt;
 use std::ops::{BitOr, BitOrAssign};
 use std::str::FromStr;
 
 /// Whether values may be null.
+///
+/// ```
+/// use vortex_logical_types::Nullability::{self, NonNullable, Nullable};
+///
+/// assert_eq!((NonNullable | Nullable, Nullability::from(false)), (Nullable, NonNullable));
+/// assert_eq!((NonNullable.to_string(), Nullable.to_string()), (String::new(), "?".to_owned()));
+/// ```
 #[derive(Debug, Clone, Copy, PartialEq, Eq, Hash, Default)]
 pub enum Nullability {
     /// No value is null.
@@ -52,7 +61,7 @@ impl BitOrAssign for Nullability {
     }
 }
 
-/// What stands behind a type: `?` if it is nullable, else nothing.
+/// The mark behind a type in its text: `?` if it is nullable, and otherwise nothing.
 impl fmt::Display for Nullability {
     fn fmt(&self, f: &mut fmt::Formatter<'_>) -> fmt::Result {
         f.write_str(if self.is_nullable() { "?" } else { "" })
@@ -60,6 +69,14 @@ impl fmt::Display for Nullability {
 }
 
 /// A primitive type. The order is that of the numbers, 0 to 10, which messages have.
+///
+/// ```
+/// use vortex_logical_types::{DType, PType};
+///
+/// assert_eq!(("u16".parse::<PType>()?, PType::U16.number(), PType::F64.is_float()), (PType::U16, 1, true));
+/// assert_eq!(DType::from(PType::U16), "u16".parse()?);
+/// # Ok::<(), vortex_logical_types::Error>(())
+/// ```
 #[derive(Debug, Clone, Copy, PartialEq, Eq, PartialOrd, Ord, Hash)]
 #[allow(missing_docs)]
 pub enum PType {
@@ -163,8 +180,8 @@ impl fmt::Display for PType {
     }
 }
 
-/// The one of these values that is displayed as the text.
-fn named<T: Copy + fmt::Display>(all: &[T], text: &str) -> Result<T, Error> {
+/// The one of these values that is displayed as the text. The others are what was expected.
+fn named<T: Copy + fmt::Display>(all: &[T], text: &str, expected: &str) -> Result<T, Error> {
     struct Same<'a>(&'a str);
     impl fmt::Write for Same<'_> {
         fn write_str(&mut self, part: &str) -> fmt::Result {
@@ -176,18 +193,21 @@ fn named<T: Copy + fmt::Display>(all: &[T], text: &str) -> Result<T, Error> {
         let mut left = Same(text);
         fmt::write(&mut left, format_args!("{it}")).is_ok() && left.0.is_empty()
     };
-    all.iter().find(is_named).copied().ok_or(Error::Unreadable { position: 1 })
+    all.iter()
+        .find(is_named)
+        .copied()
+        .ok_or_else(|| Error::unreadable(1, &["expected ", expected, ", not \"", text, "\""]))
 }
 
 /// Reads the name that `Display` writes, such as `u8`.
 ///
 /// # Errors
-/// [`Error::Unreadable`] at byte 1 if no primitive type has the name.
+/// [`ErrorKind::Unreadable`] at byte 1 if no primitive type has the name.
 impl FromStr for PType {
     type Err = Error;
 
     fn from_str(text: &str) -> Result<PType, Error> {
-        named(&PType::ALL, text)
+        named(&PType::ALL, text, "a primitive type (u8 to u64, i8 to i64, f16, f32 or f64)")
     }
 }
 
@@ -201,6 +221,14 @@ impl TryFrom<&str> for PType {
 
 /// The precision and the scale of a decimal type: how many digits a value has at most, and how many of them are behind the
 /// point.
+///
+/// ```
+/// use vortex_logical_types::DType;
+///
+/// let decimal = "decimal(10,-2)?".parse::<DType>()?.as_decimal_opt().expect("a decimal");
+/// assert_eq!((decimal.precision(), decimal.scale(), decimal.to_string()), (10, -2, "decimal(10,-2)".to_owned()));
+/// # Ok::<(), vortex_logical_types::Error>(())
+/// ```
 #[derive(Debug, Clone, Copy, PartialEq, Eq, Hash)]
 pub struct DecimalDType {
     pub(crate) precision: u8,
@@ -230,6 +258,13 @@ impl fmt::Display for DecimalDType {
 }
 
 /// Which kind of type a [`DType`](crate::DType) is. The order is that of the numbers which the C interface has.
+///
+/// ```
+/// use vortex_logical_types::{DType, Kind};
+///
+/// assert_eq!(("list(i8)".parse::<DType>()?.kind(), "list".parse::<Kind>()?), (Kind::List, Kind::List));
+/// # Ok::<(), vortex_logical_types::Error>(())
+/// ```
 #[derive(Debug, Clone, Copy, PartialEq, Eq, PartialOrd, Ord, Hash)]
 #[allow(missing_docs)]
 pub enum Kind {
@@ -266,8 +301,9 @@ impl Kind {
         Kind::Extension,
     ];
 
+    /// The kind of a number, from 1 to 13.
     pub(crate) fn of(number: u32) -> Kind {
-        Kind::ALL[number as usize]
+        Kind::ALL[number as usize - 1]
     }
 }
 
@@ -295,12 +331,12 @@ impl fmt::Display for Kind {
 /// Reads the name that `Display` writes, such as `list`.
 ///
 /// # Errors
-/// [`Error::Unreadable`] at byte 1 if no kind has the name.
+/// [`ErrorKind::Unreadable`] at byte 1 if no kind has the name.
 impl FromStr for Kind {
     type Err = Error;
 
     fn from_str(text: &str) -> Result<Kind, Error> {
-        named(&Kind::ALL, text)
+        named(&Kind::ALL, text, "a kind of types, such as `list`")
     }
 }
 

@@ -2,15 +2,20 @@
 // SPDX-FileCopyrightText: Copyright the Vortex contributors
 
 //! Sets of paths.
-use crate::calls::{done, found, holds, made, or_abort, plain, pushed, reserved, value};
+use crate::calls::{done, found, holds, made, or_abort, plain, pushed, reserved};
 use crate::dtype::DType;
 use crate::error::Error;
+#[cfg(doc)]
+use crate::error::ErrorKind;
 use crate::ffi::{self, Slot};
 use crate::paths::{Field, FieldPath};
+use crate::shared::remembered;
 use std::borrow::Borrow;
 use std::fmt;
 use std::ops::BitOr;
 use std::ptr;
+use std::slice;
+use std::sync::OnceLock;
 
 /// A set of paths.
 ///
@@ -47,9 +52,19 @@ use std::ptr;
 /// ```
 pub struct FieldPathSet {
     pub(crate) slot: Slot,
+    /// The paths of the set, if they were asked for since the last one was inserted.
+    members: OnceLock<Vec<FieldPath>>,
 }
 
 /// How the paths of a set continue after a path: see [`FieldPathSet::below`].
+///
+/// ```
+/// use vortex_logical_types::{Below, FieldPathSet, field_path};
+///
+/// let set = FieldPathSet::parse(["a.b", "a.c.d", "e"])?;
+/// assert_eq!(set.below(&field_path!("a")), Some(Below { is_end: false, has_element: false, name_count: 2 }));
+/// # Ok::<(), vortex_logical_types::Error>(())
+/// ```
 #[derive(Debug, Clone, Copy, PartialEq, Eq, Hash)]
 pub struct Below {
     /// Whether the path itself is in the set.
@@ -61,18 +76,28 @@ pub struct Below {
 }
 
 impl FieldPathSet {
+    fn of(slot: Slot) -> FieldPathSet {
+        FieldPathSet { slot, members: OnceLock::new() }
+    }
+
+    /// The object, to be changed.
+    fn changed(&mut self) -> &mut Slot {
+        self.members.take();
+        &mut self.slot
+    }
+
     /// Returns the empty set.
     #[must_use]
     pub fn new() -> FieldPathSet {
         or_abort(FieldPathSet::try_new())
     }
 
-    /// Returns the empty set, or [`Error::OutOfMemory`].
+    /// Returns the empty set, or [`ErrorKind::OutOfMemory`].
     pub fn try_new() -> Result<FieldPathSet, Error> {
-        made(ffi::set_new).map(|slot| FieldPathSet { slot })
+        made(ffi::set_new).map(FieldPathSet::of)
     }
 
-    /// Returns the set of these paths, or [`Error::OutOfMemory`]. All items are taken from the iterator before the first
+    /// Returns the set of these paths, or [`ErrorKind::OutOfMemory`]. All items are taken from the iterator before the first
     /// path is inserted.
     pub fn try_from_iter(paths: impl IntoIterator<Item = impl Borrow<FieldPath>>) -> Result<FieldPathSet, Error> {
         let mut set = FieldPathSet::try_new()?;
@@ -85,19 +110,20 @@ impl FieldPathSet {
         or_abort(self.try_insert(path));
     }
 
-    /// Inserts a path. If memory runs out, the call returns [`Error::OutOfMemory`] and the set is unchanged.
+    /// Inserts a path. If memory runs out, the call returns [`ErrorKind::OutOfMemory`] and the set is unchanged.
     pub fn try_insert(&mut self, path: impl Borrow<FieldPath>) -> Result<(), Error> {
-        inserted(ffi::set_insert(&mut self.slot, path.borrow().slot()))
+        inserted(ffi::set_insert(self.changed(), path.borrow().slot()))
     }
 
     /// Inserts paths in order, after the iterator has yielded all of them. If memory runs out, the call returns
-    /// [`Error::OutOfMemory`], and the paths that were inserted before stay in the set.
+    /// [`ErrorKind::OutOfMemory`], and the paths that were inserted before stay in the set.
     pub fn try_extend(&mut self, paths: impl IntoIterator<Item = impl Borrow<FieldPath>>) -> Result<(), Error> {
         let mut given = Vec::new();
         for path in paths {
             pushed(&mut given, path)?;
         }
-        given.iter().try_for_each(|path| inserted(ffi::set_insert(&mut self.slot, path.borrow().slot())))
+        let slot = self.changed();
+        given.iter().try_for_each(|path| inserted(ffi::set_insert(slot, path.borrow().slot())))
     }
 
     /// Returns whether the path is in the set.
@@ -106,15 +132,15 @@ impl FieldPathSet {
         holds(ffi::set_contains(&self.slot, path.slot()))
     }
 
-    /// Returns the number of paths in the set. The library makes a list of the paths to count them, so this allocates.
+    /// Returns the number of paths in the set. The library counts them at each call.
     #[must_use]
     pub fn len(&self) -> usize {
-        or_abort(self.try_len())
+        plain(|count| ffi::set_len(&self.slot, count))
     }
 
-    /// Returns how many paths are in the set, or [`Error::OutOfMemory`].
+    /// Returns the same as `len`, which doesn't allocate and so can't fail.
     pub fn try_len(&self) -> Result<usize, Error> {
-        value(|count| ffi::set_len(&self.slot, count)).map(Option::unwrap_or_default)
+        Ok(self.len())
     }
 
     /// Returns whether no path is in the set.
@@ -135,7 +161,7 @@ impl FieldPathSet {
     /// ```
     ///
     /// # Errors
-    /// [`Error::Unreadable`] with the position in the first text that can't be read, and [`Error::OutOfMemory`].
+    /// [`ErrorKind::Unreadable`] with the position in the first text that can't be read, and [`ErrorKind::OutOfMemory`].
     pub fn parse(texts: impl IntoIterator<Item = impl AsRef<str>>) -> Result<FieldPathSet, Error> {
         let mut paths = Vec::new();
         for text in texts {
@@ -156,12 +182,12 @@ impl FieldPathSet {
     /// ```
     #[must_use]
     pub fn is_subset(&self, other: &FieldPathSet) -> bool {
-        or_abort(self.try_is_subset(other))
+        ptr::eq(self, other) || holds(ffi::set_is_subset(&self.slot, &other.slot))
     }
 
-    /// Returns what [`FieldPathSet::is_subset`] returns, or [`Error::OutOfMemory`].
+    /// Returns the same as `is_subset`, which doesn't allocate and so can't fail.
     pub fn try_is_subset(&self, other: &FieldPathSet) -> Result<bool, Error> {
-        self.each(|path| other.contains(path))
+        Ok(self.is_subset(other))
     }
 
     /// Returns whether each path of `other` is in this set.
@@ -173,24 +199,12 @@ impl FieldPathSet {
     /// Returns whether no path is in both sets.
     #[must_use]
     pub fn is_disjoint(&self, other: &FieldPathSet) -> bool {
-        or_abort(self.try_is_disjoint(other))
+        if ptr::eq(self, other) { self.is_empty() } else { holds(ffi::set_is_disjoint(&self.slot, &other.slot)) }
     }
 
-    /// Returns what [`FieldPathSet::is_disjoint`] returns, or [`Error::OutOfMemory`].
+    /// Returns the same as `is_disjoint`, which doesn't allocate and so can't fail.
     pub fn try_is_disjoint(&self, other: &FieldPathSet) -> Result<bool, Error> {
-        self.each(|path| !other.contains(path))
-    }
-
-    /// Whether this is true of each path of the set. (The library has no call for subsets, equality and disjointness yet.
-    /// They are made here alone, of its calls `members` and `contains`.)
-    fn each(&self, is_true: impl Fn(&FieldPath) -> bool) -> Result<bool, Error> {
-        let mut paths = self.try_iter()?;
-        while let Some(path) = paths.try_next()? {
-            if !is_true(&path) {
-                return Ok(false);
-            }
-        }
-        Ok(true)
+        Ok(self.is_disjoint(other))
     }
 
     /// Returns the set of the paths that are in this set, in `other` or in both. `one | other` of references is the same.
@@ -206,32 +220,56 @@ impl FieldPathSet {
         or_abort(self.try_union(other))
     }
 
-    /// Returns what [`FieldPathSet::union`] returns, or [`Error::OutOfMemory`].
+    /// Returns what [`FieldPathSet::union`] returns, or [`ErrorKind::OutOfMemory`].
     pub fn try_union(&self, other: &FieldPathSet) -> Result<FieldPathSet, Error> {
-        let mut both = self.try_clone()?;
-        inserted(ffi::set_extend_from_list(&mut both.slot, &other.try_iter()?.list))?;
-        Ok(both)
+        if ptr::eq(self, other) {
+            return self.try_clone();
+        }
+        made(|out| ffi::set_union(&self.slot, &other.slot, out)).map(FieldPathSet::of)
     }
 
-    /// Returns the paths of the set, each once, in no promised order.
-    #[must_use]
-    pub fn iter(&self) -> Paths {
+    /// Returns the paths of the set, each once, in no promised order. They are made at the first call, which allocates, and
+    /// are remembered until a path is inserted.
+    ///
+    /// ```
+    /// # use vortex_logical_types::{FieldPath, FieldPathSet};
+    /// let set = FieldPathSet::parse(["a.b", "c"])?;
+    /// let longest: Option<&FieldPath> = set.iter().max_by_key(|path| path.len());
+    /// assert_eq!(longest.map(ToString::to_string).as_deref(), Some("$a.$b"));
+    /// # Ok::<(), vortex_logical_types::Error>(())
+    /// ```
+    pub fn iter(&self) -> slice::Iter<'_, FieldPath> {
         or_abort(self.try_iter())
     }
 
-    /// Returns the paths of the set, each once, or [`Error::OutOfMemory`].
-    pub fn try_iter(&self) -> Result<Paths, Error> {
-        made(|out| ffi::set_members(&self.slot, out)).map(Paths::of)
+    /// Returns the paths of the set, each once, or [`ErrorKind::OutOfMemory`].
+    pub fn try_iter(&self) -> Result<slice::Iter<'_, FieldPath>, Error> {
+        let members = remembered(&self.members, || {
+            let mut paths = made(|out| ffi::set_members(&self.slot, out)).map(Paths::of)?;
+            let mut members = reserved(paths.len())?;
+            while let Some(path) = paths.try_next()? {
+                members.push(path);
+            }
+            Ok(members)
+        })?;
+        Ok(members.iter())
     }
 
     /// Returns the cover, in no promised order: those paths of the set of which no other path of the set is a prefix. For
     /// example, the cover of `a.b`, `x` and `a` is `a` and `x`.
+    ///
+    /// ```
+    /// # use vortex_logical_types::FieldPathSet;
+    /// let cover = FieldPathSet::parse(["a.b", "x", "a"])?.cover();
+    /// assert_eq!(cover.collect::<FieldPathSet>(), FieldPathSet::parse(["a", "x"])?);
+    /// # Ok::<(), vortex_logical_types::Error>(())
+    /// ```
     #[must_use]
     pub fn cover(&self) -> Paths {
         or_abort(self.try_cover())
     }
 
-    /// Returns the cover, or [`Error::OutOfMemory`].
+    /// Returns the cover, or [`ErrorKind::OutOfMemory`].
     pub fn try_cover(&self) -> Result<Paths, Error> {
         made(|out| ffi::set_cover(&self.slot, out)).map(Paths::of)
     }
@@ -242,7 +280,7 @@ impl FieldPathSet {
         self.cover()
     }
 
-    /// Returns the cover, which is fewer paths than the set has.
+    /// Returns the cover only. For all paths of the set, call [`FieldPathSet::iter`].
     #[deprecated(note = "call `into_cover` for the paths of the cover, and `iter` for all paths of the set")]
     #[allow(clippy::should_implement_trait)]
     #[must_use]
@@ -251,18 +289,25 @@ impl FieldPathSet {
     }
 
     /// Returns the paths of the set that don't exist in the type, in no promised order.
+    ///
+    /// ```
+    /// # use vortex_logical_types::{DType, FieldPathSet};
+    /// let (set, dtype): (_, DType) = (FieldPathSet::parse(["a", "a.b", "c"])?, "{a={b=i8}}".parse()?);
+    /// assert_eq!(set.unresolved(&dtype).collect::<FieldPathSet>(), FieldPathSet::parse(["c"])?);
+    /// # Ok::<(), vortex_logical_types::Error>(())
+    /// ```
     #[must_use]
     pub fn unresolved(&self, dtype: &DType) -> Paths {
         or_abort(self.try_unresolved(dtype))
     }
 
-    /// Returns the paths of the set that don't exist in the type, or [`Error::OutOfMemory`].
+    /// Returns the paths of the set that don't exist in the type, or [`ErrorKind::OutOfMemory`].
     pub fn try_unresolved(&self, dtype: &DType) -> Result<Paths, Error> {
         made(|out| ffi::set_unresolved(&self.slot, dtype.slot(), out)).map(Paths::of)
     }
 
-    /// Returns how the paths of the set continue after this path, or `None` if it is a prefix of no path of the set. Nothing
-    /// is copied.
+    /// Returns how the paths of the set continue after this path, or `None` if no path of the set begins with it. Nothing is
+    /// copied.
     ///
     /// ```
     /// # use vortex_logical_types::{Below, FieldPath, FieldPathSet};
@@ -280,14 +325,21 @@ impl FieldPathSet {
         holds(ffi::set_below(&self.slot, path.slot(), is_end, has_element, name_count)).then_some(below)
     }
 
-    /// Returns the names with which paths of the set continue after this path, or `None` if it is a prefix of no path of the
-    /// set.
+    /// Returns the names with which paths of the set continue after this path, or `None` if no path of the set begins with
+    /// it.
+    ///
+    /// ```
+    /// # use vortex_logical_types::{FieldPathSet, field_path};
+    /// let names = FieldPathSet::parse(["a.b", "a.c.d"])?.names_below(&field_path!("a"));
+    /// assert_eq!(names.map(|mut names| { names.sort(); names }), Some(vec!["b".to_owned(), "c".to_owned()]));
+    /// # Ok::<(), vortex_logical_types::Error>(())
+    /// ```
     #[must_use]
     pub fn names_below(&self, path: &FieldPath) -> Option<Vec<String>> {
         or_abort(self.try_names_below(path))
     }
 
-    /// Returns the names with which paths of the set continue after this path, or [`Error::OutOfMemory`].
+    /// Returns what [`FieldPathSet::names_below`] returns, or [`ErrorKind::OutOfMemory`].
     pub fn try_names_below(&self, path: &FieldPath) -> Result<Option<Vec<String>>, Error> {
         let Some(paths) = found(|out| ffi::set_names_below(&self.slot, path.slot(), out))?.map(Paths::of) else {
             return Ok(None);
@@ -301,9 +353,9 @@ impl FieldPathSet {
         Ok(Some(names))
     }
 
-    /// Returns a copy, or [`Error::OutOfMemory`].
+    /// Returns a copy, or [`ErrorKind::OutOfMemory`].
     pub fn try_clone(&self) -> Result<FieldPathSet, Error> {
-        made(|out| ffi::set_copy(&self.slot, out)).map(|slot| FieldPathSet { slot })
+        made(|out| ffi::set_copy(&self.slot, out)).map(FieldPathSet::of)
     }
 }
 
@@ -319,12 +371,7 @@ impl Default for FieldPathSet {
 
 impl fmt::Debug for FieldPathSet {
     fn fmt(&self, f: &mut fmt::Formatter<'_>) -> fmt::Result {
-        let mut paths = self.try_iter().map_err(|_| fmt::Error)?;
-        let mut set = f.debug_set();
-        while let Some(path) = paths.try_next().map_err(|_| fmt::Error)? {
-            set.entry(&path);
-        }
-        set.finish()
+        f.debug_set().entries(self.try_iter().map_err(|_| fmt::Error)?).finish()
     }
 }
 
@@ -349,11 +396,11 @@ impl<P: Borrow<FieldPath>> Extend<P> for FieldPathSet {
 }
 
 /// All paths of the set, each once, in no promised order, as [`FieldPathSet::iter`].
-impl IntoIterator for &FieldPathSet {
-    type Item = FieldPath;
-    type IntoIter = Paths;
+impl<'a> IntoIterator for &'a FieldPathSet {
+    type Item = &'a FieldPath;
+    type IntoIter = slice::Iter<'a, FieldPath>;
 
-    fn into_iter(self) -> Paths {
+    fn into_iter(self) -> Self::IntoIter {
         self.iter()
     }
 }
@@ -361,7 +408,7 @@ impl IntoIterator for &FieldPathSet {
 /// Two sets are equal if the same paths are in both.
 impl PartialEq for FieldPathSet {
     fn eq(&self, other: &FieldPathSet) -> bool {
-        ptr::eq(self, other) || (self.len() == other.len() && self.is_subset(other))
+        ptr::eq(self, other) || holds(ffi::set_eq(&self.slot, &other.slot))
     }
 }
 
@@ -376,7 +423,15 @@ impl BitOr for &FieldPathSet {
     }
 }
 
-/// A list of paths that the library made, as an iterator.
+/// A list of paths that the library made, such as a cover, as an iterator that makes each path when it is asked for it.
+///
+/// ```
+/// use vortex_logical_types::{FieldPath, FieldPathSet, Paths};
+///
+/// let mut cover: Paths = FieldPathSet::parse(["a.b", "a"])?.into_cover();
+/// assert_eq!((cover.len(), cover.try_next()?, cover.next()), (1, Some(FieldPath::from_name("a")), None));
+/// # Ok::<(), vortex_logical_types::Error>(())
+/// ```
 pub struct Paths {
     list: Slot,
     next: usize,
@@ -389,17 +444,23 @@ impl Paths {
         Paths { list, next: 0, end }
     }
 
+    /// A copy of a path of the list.
     fn get(&self, index: usize) -> Result<FieldPath, Error> {
         made(|out| ffi::paths_get(&self.list, index, out)).and_then(FieldPath::of)
     }
 
-    /// Returns the next path, or `None` at the end. If memory runs out, the call returns [`Error::OutOfMemory`], and the
+    /// Takes a path out of the list. If memory runs out, the path stays in the list.
+    fn take(&mut self, index: usize) -> Result<FieldPath, Error> {
+        FieldPath::moved(|out| ffi::paths_take(&mut self.list, index, out))
+    }
+
+    /// Returns the next path, or `None` at the end. If memory runs out, the call returns [`ErrorKind::OutOfMemory`], and the
     /// next call returns the path that this one didn't.
     pub fn try_next(&mut self) -> Result<Option<FieldPath>, Error> {
         if self.next == self.end {
             return Ok(None);
         }
-        let path = self.get(self.next)?;
+        let path = self.take(self.next)?;
         self.next += 1;
         Ok(Some(path))
     }
@@ -422,7 +483,7 @@ impl DoubleEndedIterator for Paths {
         if self.next == self.end {
             return None;
         }
-        let path = or_abort(self.get(self.end - 1));
+        let path = or_abort(self.take(self.end - 1));
         self.end -= 1;
         Some(path)
     }

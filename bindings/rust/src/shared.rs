@@ -5,7 +5,6 @@
 use crate::error::Error;
 use std::alloc::{Layout, alloc};
 use std::marker::PhantomData;
-use std::mem::ManuallyDrop;
 use std::ops::Deref;
 use std::process;
 use std::ptr::NonNull;
@@ -37,26 +36,25 @@ impl<T> Shared<T> {
     pub(crate) fn try_new(value: T) -> Result<Shared<T>, Error> {
         // SAFETY: the layout isn't empty, since a count is in it.
         let at = unsafe { alloc(Layout::new::<Counted<T>>()) };
-        let at = NonNull::new(at.cast::<Counted<T>>()).ok_or(Error::OutOfMemory)?;
+        let at = NonNull::new(at.cast::<Counted<T>>()).ok_or_else(Error::memory)?;
         // SAFETY: the block is new, and of the right size and alignment.
         unsafe { at.write(Counted { owners: AtomicUsize::new(1), value }) }
         Ok(Shared { at, owns: PhantomData })
     }
 
     /// Whether both are owners of one value.
+    #[inline]
     pub(crate) fn is(&self, other: &Shared<T>) -> bool {
         self.at == other.at
     }
 
-    /// The value if this is its only owner, or else this owner.
-    pub(crate) fn into_inner(self) -> Result<T, Shared<T>> {
-        if self.counted().owners.compare_exchange(1, 0, Ordering::Acquire, Ordering::Relaxed).is_err() {
-            return Err(self);
+    /// The value, if this is its only owner.
+    pub(crate) fn get_mut(&mut self) -> Option<&mut T> {
+        if self.counted().owners.load(Ordering::Acquire) != 1 {
+            return None;
         }
-        let only = ManuallyDrop::new(self);
-        // SAFETY: there is no other owner, and this one isn't used any more. `Box` frees by the layout of `try_new`.
-        let counted = unsafe { Box::from_raw(only.at.as_ptr()) };
-        Ok(counted.value)
+        // SAFETY: there is no other owner, and this one is borrowed.
+        Some(unsafe { &mut self.at.as_mut().value })
     }
 
     fn counted(&self) -> &Counted<T> {
@@ -68,12 +66,14 @@ impl<T> Shared<T> {
 impl<T> Deref for Shared<T> {
     type Target = T;
 
+    #[inline]
     fn deref(&self) -> &T {
         &self.counted().value
     }
 }
 
 impl<T> Clone for Shared<T> {
+    #[inline]
     fn clone(&self) -> Shared<T> {
         // (Whoever has this owner has what happened to it before, so the count needs no order.)
         if self.counted().owners.fetch_add(1, Ordering::Relaxed) > MOST {
@@ -84,20 +84,28 @@ impl<T> Clone for Shared<T> {
 }
 
 impl<T> Drop for Shared<T> {
+    #[inline]
     fn drop(&mut self) {
         if self.counted().owners.fetch_sub(1, Ordering::Release) == 1 {
             fence(Ordering::Acquire);
-            // SAFETY: this was the last owner, and all that the others did has happened. As to the `Box`: see `into_inner`.
+            // SAFETY: this was the last owner, and all that the others did has happened. `Box` frees by the layout of `try_new`.
             drop(unsafe { Box::from_raw(self.at.as_ptr()) });
         }
     }
 }
 
 /// What is remembered in the cell, which is made if nothing is yet. If two threads make it, the first value stays.
+#[inline]
 pub(crate) fn remembered<T>(cell: &OnceLock<T>, make: impl FnOnce() -> Result<T, Error>) -> Result<&T, Error> {
-    if let Some(value) = cell.get() {
-        return Ok(value);
+    match cell.get() {
+        Some(value) => Ok(value),
+        None => made_first(cell, make),
     }
+}
+
+#[cold]
+#[inline(never)]
+fn made_first<T>(cell: &OnceLock<T>, make: impl FnOnce() -> Result<T, Error>) -> Result<&T, Error> {
     let made = make()?;
     Ok(cell.get_or_init(|| made))
 }
@@ -132,18 +140,26 @@ mod tests {
         let second = first.clone();
         assert!(first.is(&second) && !first.is(&Shared::try_new(Counting(&dropped)).unwrap()));
         assert_eq!(dropped.load(Ordering::Relaxed), 1);
-        let first = first.into_inner().err().expect("two owners");
-        drop(second);
-        let value = first.into_inner().ok().expect("one owner");
+        drop(first);
         assert_eq!(dropped.load(Ordering::Relaxed), 1);
-        drop(value);
+        drop(second);
         assert_eq!(dropped.load(Ordering::Relaxed), 2);
+    }
+
+    #[test]
+    fn only_the_only_owner_changes_the_value() {
+        let mut first = Shared::try_new(1).unwrap();
+        *first.get_mut().expect("one owner") = 2;
+        let mut second = first.clone();
+        assert!(first.get_mut().is_none() && second.get_mut().is_none());
+        drop(first);
+        assert_eq!(second.get_mut(), Some(&mut 2));
     }
 
     #[test]
     fn what_is_remembered_is_made_once() {
         let cell = OnceLock::new();
-        assert_eq!(remembered(&cell, || Err(Error::OutOfMemory)), Err(Error::OutOfMemory));
+        assert_eq!(remembered(&cell, || Err(Error::memory())), Err(Error::memory()));
         assert_eq!(remembered(&cell, || Ok(1)), Ok(&1));
         assert_eq!(remembered(&cell, || Ok(2)), Ok(&1));
     }

@@ -5,6 +5,8 @@
 use crate::calls::or_abort;
 use crate::dtype::DType;
 use crate::error::Error;
+#[cfg(doc)]
+use crate::error::ErrorKind;
 use crate::parts::{ExtDTypeRef, MapDType, StructFields, UnionVariants};
 use crate::scalars::{DecimalDType, Kind, Nullability, PType};
 
@@ -59,11 +61,13 @@ pub enum View<'a> {
 impl DType {
     /// Returns what the type is, with its parts by reference, so that one can match it.
     #[must_use]
+    #[inline]
     pub fn view(&self) -> View<'_> {
         or_abort(self.try_view())
     }
 
-    /// Returns what the type is, or [`Error::OutOfMemory`]. Only the view of a list allocates, and only the first time.
+    /// Returns what the type is, or [`ErrorKind::OutOfMemory`]. Only the view of a list allocates, and only the first time.
+    #[inline]
     pub fn try_view(&self) -> Result<View<'_>, Error> {
         let n = self.nullability();
         Ok(match self.kind() {
@@ -88,6 +92,7 @@ impl DType {
     }
 
     /// The element type of a list.
+    #[inline]
     fn element(&self) -> Result<&DType, Error> {
         let element = self.try_as_any_size_list_element_opt()?;
         Ok(element.unwrap_or_else(|| unreachable!("a list has an element type")))

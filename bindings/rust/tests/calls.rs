@@ -2,7 +2,7 @@
 // SPDX-FileCopyrightText: Copyright the Vortex contributors
 
 //! The calls of the package, each on a value or two: what they return, and what they leave.
-use std::cell::Cell;
+use std::borrow::Borrow;
 use std::collections::HashSet;
 use std::collections::hash_map::DefaultHasher;
 use std::error::Error as _;
@@ -23,17 +23,19 @@ fn set(paths: &[&str]) -> FieldPathSet {
     paths.iter().map(|it| path(it)).collect()
 }
 
-fn texts(paths: impl IntoIterator<Item = FieldPath>) -> Vec<String> {
-    let mut texts: Vec<_> = paths.into_iter().map(|it| it.to_source()).collect();
+fn texts(paths: impl IntoIterator<Item = impl Borrow<FieldPath>>) -> Vec<String> {
+    let mut texts: Vec<_> = paths.into_iter().map(|it| it.borrow().to_source()).collect();
     texts.sort();
     texts
 }
 
 fn number(error: Error) -> u8 {
-    match error {
-        Error::Library(error) => error.number(),
-        _ => panic!("{error:?} isn't the library's"),
-    }
+    error.number().unwrap_or_else(|| panic!("{error:?} isn't the library's"))
+}
+
+/// The kind of the error that a call returns.
+fn refusal<T: std::fmt::Debug>(result: Result<T, Error>) -> ErrorKind {
+    result.expect_err("an error").kind()
 }
 
 #[test]
@@ -70,8 +72,13 @@ fn constructors() {
 #[test]
 fn nesting_ends() {
     let deep = (0..128).fold(dtype("i8"), |element, _| DType::list(&element, NonNullable).unwrap());
-    assert_eq!(DType::list(&deep, NonNullable).unwrap_err(), Error::TooDeep);
-    assert_eq!(DType::struct_([("a", deep)], NonNullable).unwrap_err(), Error::TooDeep);
+    assert_eq!(refusal(DType::list(&deep, NonNullable)), ErrorKind::TooDeep);
+    assert_eq!(refusal(DType::struct_([("a", deep.clone())], NonNullable)), ErrorKind::TooDeep);
+    assert_eq!(deep, dtype(&deep.to_source()));
+    // (The type at byte 646 is inside 129 others.)
+    let error = format!("list({})", deep.to_source()).parse::<DType>().unwrap_err();
+    assert_eq!((error.kind(), error.position(), error.code()), (ErrorKind::TooDeep, Some(646), 6));
+    assert!(error.to_string() == "unreadable at byte 646: expected at most 128 levels", "{error}");
 }
 
 #[test]
@@ -268,12 +275,87 @@ fn nullability() {
     assert!(one.eq_ignore_nullability(&dtype("{a=i32?, b=utf8}?")) && !one.eq_ignore_nullability(&dtype("{a=i32}")));
     assert!(one.eq_with_nullability_subset(&dtype("{a=i32?, b=utf8?}")));
     assert!(one.eq_with_nullability_superset(&dtype("{a=i32, b=utf8}")));
-    assert_eq!(dtype("null").with_nullability(NonNullable), Err(Error::Precondition));
+    assert_eq!(refusal(dtype("null").with_nullability(NonNullable)), ErrorKind::Precondition);
+    assert_eq!(
+        (one.try_as_nullable(), one.try_union_nullability(Nullable)),
+        (Ok(one.as_nullable()), Ok(one.as_nullable()))
+    );
+    assert_eq!(one.try_intersect_nullability(&dtype("{a=i32}")), Ok(None));
     assert_eq!(one.as_nullable(), dtype("{a=i32, b=utf8?}?"));
     assert_eq!(one.as_nullable().as_nonnullable(), Ok(one.clone()));
     assert_eq!(one.union_nullability(NonNullable), one);
     assert!(!dtype("null").can_be_nonnullable());
     assert_eq!((NonNullable | Nullable, bool::from(Nullable), Nullability::from(false)), (Nullable, true, NonNullable));
+}
+
+#[test]
+fn columns_are_merged() {
+    let merged = |one: &str, other: &str| dtype(one).merge_columns(&dtype(other)).map(|it| it.to_source());
+    for (one, other, both) in [
+        ("{a=i32, b=utf8}", "{c=u8, a=i32?}", "{a=i32?, b=utf8?, c=u8?}"),
+        ("{a=i32}", "{a=i32?}?", "{a=i32?}?"),
+        ("{}", "{a=i8}", "{a=i8?}"),
+        ("{l=list({a=i8})}", "{l=list({b=i8})?}", "{l=list({a=i8?, b=i8?})?}"),
+        ("{x=a.b[0x01]({a=i8})}", "{x=a.b[0x01]({a=i8?})}", "{x=a.b[0x01]({a=i8?})}"),
+        (
+            "map(utf8, {a=i8}, keys_sorted=true)",
+            "map(utf8, {}, keys_sorted=true)",
+            "map(utf8, {a=i8?}, keys_sorted=true)",
+        ),
+        ("fixed_size_list(i8)[3]", "fixed_size_list(i8?)[3]", "fixed_size_list(i8?)[3]"),
+        ("{a=i8, a=u8}", "{a=i8?, a=u8}", "{a=i8?, a=u8}"),
+    ] {
+        assert_eq!(merged(one, other).as_deref(), Some(both));
+        assert_eq!(dtype(one).merge_conflict(&dtype(other)), None);
+    }
+    for (one, other, path, left, right) in [
+        ("{at=i64, customer={id=u64}}", "{customer={city=utf8, id=utf8}}", "customer.id", "u64", "utf8"),
+        ("i32", "i64?", ".", "i32", "i64?"),
+        ("{l=list({a=i8})}", "{l=list({a=i16})}", "l.[].a", "i8", "i16"),
+        (
+            "{a=fixed_size_list(i8)[3]}",
+            "{a=fixed_size_list(i8)[4]}",
+            "a",
+            "fixed_size_list(i8)[3]",
+            "fixed_size_list(i8)[4]",
+        ),
+        ("{a={b=i8, b=i8}}", "{a={b=i8, c=i8}}", "a", "{b=i8, b=i8}", "{b=i8, c=i8}"),
+        ("{a=union(x=i8)}", "{a=union(x=i8, y=i8)}", "a", "union(x=i8)", "union(x=i8, y=i8)"),
+        ("{a=x.y[0x](i8)}", "{a=x.y[0x00](i8)}", "a", "x.y[0x](i8)", "x.y[0x00](i8)"),
+    ] {
+        assert_eq!((merged(one, other), merged(other, one)), (None, None));
+        let (left, right) = (dtype(left), dtype(right));
+        let text = format!("{path} is {} in one type and {} in another", left.to_source(), right.to_source());
+        let conflict = MergeConflict { path: self::path(path), left, right, index: 1 };
+        assert_eq!(conflict.to_string(), text);
+        assert_eq!(dtype(one).merge_conflict(&dtype(other)), Some(conflict));
+    }
+    // (A type and itself, and a clone of it.)
+    let one = dtype("{a=list({b=i8})?, c=union(x=i8)}");
+    assert_eq!((one.merge_columns(&one), one.merge_columns(&one.clone())), (Some(one.clone()), Some(one.clone())));
+    assert_eq!(one.merge_conflict(&one.clone()), None);
+}
+
+#[test]
+fn all_schemas_are_merged() {
+    let files = ["{a=i32, b=utf8}", "{b=utf8, a=i32}", "{b=utf8, c=f64}"].map(dtype);
+    assert_eq!(DType::merge_all(&files), Ok(Some(dtype("{a=i32?, b=utf8, c=f64?}"))));
+    assert_eq!(DType::merge_all([] as [DType; 0]), Ok(None));
+    assert_eq!(DType::merge_all([&files[0]]), Ok(Some(files[0].clone())));
+    // (The order of the types decides the order of the columns alone.)
+    for order in [[0, 1, 2], [0, 2, 1], [1, 0, 2], [1, 2, 0], [2, 0, 1], [2, 1, 0]] {
+        let merged = DType::merge_all(order.map(|at| files[at].clone())).unwrap().unwrap();
+        let fields = merged.as_struct_fields_opt().unwrap();
+        assert_eq!(fields.project(["a", "b", "c"]), Ok(dtype("{a=i32?, b=utf8, c=f64?}")));
+    }
+    let mut taken = 0;
+    let types = ["{a=i8}", "{b=i8}", "{b=i16}", "{c=i8}"].iter().map(|it| {
+        taken += 1;
+        dtype(it)
+    });
+    let conflict = DType::merge_all(types).unwrap_err();
+    assert_eq!((taken, conflict.index, conflict.path), (3, 2, path("b")));
+    assert_eq!((conflict.left, conflict.right), (dtype("i8?"), dtype("i16")));
 }
 
 #[test]
@@ -305,12 +387,15 @@ fn paths() {
     assert_eq!(it.step_into(), Some(path("[].\"b c\"")));
     assert!(it.overlap(&path("a.[]")) && !it.overlap(&path("b")) && it.overlap(&it));
     assert_eq!(it.starts_with_name("a"), Ok(true));
-    assert_eq!(path("[]").starts_with_name("a"), Err(Error::Precondition));
+    assert_eq!(refusal(path("[]").starts_with_name("a")), ErrorKind::Precondition);
+    assert_eq!(steps.each_ref().map(Field::as_name), [Some("a"), None, Some("b c")]);
+    assert_eq!(steps.each_ref().map(Field::is_named), [true, false, true]);
     let whole = dtype("{a=list({\"b c\"=u32})?}");
     let found = it.resolve(&whole);
     drop(whole);
     assert_eq!(found, Some(dtype("u32")));
-    assert_eq!("a..b".parse::<FieldPath>(), Err(Error::Unreadable { position: 3 }));
+    let error = "a..b".parse::<FieldPath>().unwrap_err();
+    assert_eq!((error.kind(), error.position()), (ErrorKind::Unreadable, Some(3)));
 }
 
 #[test]
@@ -348,8 +433,15 @@ fn names_of_primitive_types_and_kinds() {
     let kinds = ["null", "i8", "list(i8)", "{}", "x.a[0x](i8)"].map(|it| dtype(it).kind().to_string());
     assert_eq!(kinds, ["null", "primitive", "list", "struct", "extension"]);
     for text in ["", "u", "u88", "U8", " u8", "lists"] {
-        assert_eq!((text.parse::<PType>().is_err(), text.parse::<Kind>().is_err()), (true, true), "{text}");
+        let errors = [text.parse::<PType>().unwrap_err(), text.parse::<Kind>().unwrap_err()];
+        for error in errors {
+            assert_eq!((error.kind(), error.position()), (ErrorKind::Unreadable, Some(1)));
+            assert!(error.to_string().ends_with(&format!(", not \"{text}\"")), "{error}");
+        }
     }
+    let widths = [1, 2, 4, 8, 1, 2, 4, 8, 2, 4, 8];
+    assert!(PType::ALL.iter().zip(widths).all(|(it, width)| (it.byte_width(), it.bit_width()) == (width, 8 * width)));
+    assert!(PType::I64.is_int() && !PType::F16.is_int() && Nullable.is_nullable() && !NonNullable.is_nullable());
     assert_eq!((format!("{:>4}", PType::U8), format!("{:5}", Kind::Map)), ("  u8".into(), "map  ".into()));
 }
 
@@ -360,7 +452,6 @@ fn masks_and_messages_are_keys() {
     assert_eq!(masks.collect::<HashSet<_>>().len(), 5);
     let messages = ["i32", "i32?", "{a=i32}", "i32"].map(|it| dtype(it).to_proto());
     assert_eq!(messages.iter().collect::<HashSet<_>>().len(), 3);
-    assert_eq!(Message::try_from("utf8 {}"), Ok(dtype("utf8").to_proto()));
 }
 
 #[test]
@@ -383,6 +474,11 @@ fn sets() {
     let mut paths = it.iter();
     let (first, last) = (paths.next(), paths.next_back());
     assert!(first.is_some() && last.is_some() && paths.len() == 4 && paths.count() == 4);
+    // (What is remembered of a set is forgotten when a path is inserted, and isn't a copy's.)
+    it.insert(path("w"));
+    assert_eq!((it.iter().count(), texts(&it).concat(), copy.iter().count()), (7, "aa.[].ca.bwxyz".to_owned(), 4));
+    it.insert(path("w"));
+    assert_eq!((it.iter().count(), it.iter().filter(|one| **one == path("w")).count()), (7, 1));
     let whole = dtype("{a=list({c=u32, d=i8})?, y=i64}");
     assert_eq!(whole.project_paths(&set(&["a.[].c"])), Some(dtype("{a=list({c=u32})?}")));
     assert_eq!(whole.project_paths(&FieldPathSet::new()), None);
@@ -403,9 +499,18 @@ fn sets_are_compared_like_sets_of_rust() {
         let mut both: Vec<_> = a.union(&b).map(|it| it.to_string()).collect();
         both.sort();
         assert_eq!((texts(&(&x | &y)), x.union(&y)), (both.clone(), FieldPathSet::parse(&both).unwrap()));
-        assert_eq!((x.len(), y.len()), (a.len(), b.len()));
+        assert_eq!((x.len(), y.len(), x.is_empty()), (a.len(), b.len(), a.is_empty()));
     }
-    assert_eq!(FieldPathSet::parse(["a", "b..c"]), Err(Error::Unreadable { position: 3 }));
+    // (A call that takes two sets may be given one set twice, which the library takes to be two.)
+    for one in [FieldPathSet::new(), set(&["a", "b"])] {
+        let is_empty = one.is_empty();
+        assert_eq!((one.is_subset(&one), one.is_superset(&one), one.is_disjoint(&one)), (true, true, is_empty));
+        let same = &one;
+        assert!(&one | same == one && one == *same && one == one.clone());
+    }
+    // (`a` and `a.b` select the same as `a`, but they are other paths.)
+    assert!(set(&["a", "a.b"]) != set(&["a"]) && set(&["a"]).is_disjoint(&set(&["a.b"])));
+    assert_eq!(FieldPathSet::parse(["a", "b..c"]).unwrap_err().position(), Some(3));
     assert_eq!(FieldPathSet::parse([""; 0]), Ok(FieldPathSet::new()));
 }
 
@@ -431,31 +536,91 @@ fn masks() {
     assert_eq!(number(FieldMask::exact(&FieldPath::root()).step_into().unwrap_err()), 20);
     assert_eq!(FieldMask::exact(&FieldPath::root()).starting_field(), Ok(None));
     assert!(mask == mask.clone() && mask != FieldMask::all() && FieldMask::all().matches_all());
+    let root = FieldMask::exact(&FieldPath::root());
+    assert_eq!((root.matches_root(), root.matches_all(), mask.matches_root()), (true, false, false));
+    assert!(FieldMask::all().matches_root() && FieldMask::prefix(&FieldPath::root()).matches_all());
+    assert_eq!((FieldMask::try_exact(&FieldPath::root()), mask.try_path()), (Ok(root), Ok(mask.path())));
     assert_eq!(format!("{:?} {:?}", FieldMask::all(), mask), "All Prefix(a.[])");
 }
 
-fn message(text: &str) -> Message {
-    text.parse().unwrap()
+/// A node of this kind, with nothing in it.
+fn node(kind: u32) -> Node {
+    Node { kind, ..Node::default() }
+}
+
+/// The node of a text.
+fn text(text: &str) -> Node {
+    Node { number: text.len() as u32, ..node(14) }
+}
+
+fn message(nodes: &[Node], texts: &str) -> Message {
+    Message::from_nodes(nodes, texts.as_bytes()).unwrap()
 }
 
 #[test]
 fn messages() {
-    let text = r#"struct { names: "a" dtypes { list { element_type { primitive { type: I32 } } nullable: true } } }"#;
-    let (it, whole) = (message(text), dtype("{a=list(i32)?}"));
-    assert_eq!((it.to_source().as_str(), whole.to_proto(), Message::from(&whole)), (text, it.clone(), it.clone()));
+    let fields = Node { names: 1, types: 1, ..node(10) };
+    let (list, i32) = (Node { nullable: 1, has_first: 1, ..node(7) }, Node { value: 6, ..node(3) });
+    let (it, whole) = (message(&[fields, text("a"), list, i32], "a"), dtype("{a=list(i32)?}"));
+    assert_eq!((whole.to_proto(), Message::from(&whole)), (it.clone(), it.clone()));
     assert_eq!(DType::from_proto(&it, UnknownIds::Refuse), Ok(whole));
-    assert_eq!((format!("{:?}", message("{}")), it == message("{}")), ("Message({})".into(), false));
-    assert_eq!("list { element }".parse::<Message>(), Err(Error::Unreadable { position: 8 }));
-    assert_eq!(number(DType::from_proto(&message("{}"), UnknownIds::Allow).unwrap_err()), 24);
-    let unknown = message(r#"extension { id: "x.tag" storage_dtype { utf8 {} } }"#);
-    assert_eq!(number(DType::from_proto(&unknown, UnknownIds::default()).unwrap_err()), 35);
-    assert_eq!(number(unknown.normal(UnknownIds::Refuse).unwrap_err()), 35);
+    let nothing = message(&[node(0)], "");
+    assert!(it != nothing && it == it.try_clone().unwrap());
+    let shown = format!("{:?} {:?}", nothing, message(&[fields, text("a\""), node(1)], "a\""));
+    assert!(shown.starts_with("Message { nodes: [Node { kind: 0, ") && shown.contains("}], texts: \"\" } Message {"));
+    assert!(shown.contains("Node { kind: 14, ") && shown.ends_with(" }], texts: \"a\\\"\" }"), "{shown}");
+    // (An extension without metadata describes the same type as one with metadata of no bytes.)
+    let unknown = message(&[Node { has_first: 1, ..node(13) }, text("x.tag"), node(5)], "x.tag");
     let kept = dtype("x.tag[0x](utf8)");
     assert_eq!(unknown.normal(UnknownIds::Allow), Ok(kept.to_proto()));
+    assert!(unknown != kept.to_proto());
     assert_eq!(DType::from_proto(&unknown, UnknownIds::Allow), Ok(kept));
+    assert_eq!(refusal(DType::from_proto(&unknown, UnknownIds::default())), ErrorKind::ExtensionUnregistered);
+    assert_eq!(refusal(unknown.normal(UnknownIds::Refuse)), ErrorKind::ExtensionUnregistered);
     assert_eq!(FieldPath::from_proto([Some("a"), Some("b c")]), Ok(path("a.\"b c\"")));
-    assert_eq!(number(FieldPath::from_proto([Some("a"), None]).unwrap_err()), 36);
-    assert_eq!(FieldPath::from_proto_source(r#"path { name: "a" }"#), Ok(path("a")));
+    assert_eq!(FieldPath::from_proto([None::<&str>; 0]), Ok(FieldPath::root()));
+}
+
+/// Each fault of a message, with its number and the text that vortex-array has for it.
+#[test]
+fn messages_have_faults() {
+    let fields = |kind, names, tags, types| Node { names, tags, types, ..node(kind) };
+    let (first, null, name) = (|kind| Node { has_first: 1, ..node(kind) }, node(1), text("a"));
+    let tag = |value| Node { value, ..node(15) };
+    let both = Node { has_first: 1, has_second: 1, ..node(9) };
+    for (nodes, texts, number, told) in [
+        (vec![Node { value: 0, number: 77, ..node(4) }], "", 2, "decimal precision 77 exceeds MAX_PRECISION 76"),
+        (vec![both, Node { nullable: 1, ..node(5) }, node(5)], "", 9, "map key dtype must be non-nullable"),
+        (vec![fields(11, 1, 0, 0), name], "a", 10, "union names and dtypes length mismatch"),
+        (vec![fields(11, 1, 0, 1), name, null], "a", 11, "union names and type_ids length mismatch"),
+        (vec![fields(11, 0, 0, 0)], "", 12, "union must have at least one variant"),
+        (vec![fields(11, 2, 2, 2), name, text("b"), tag(1), tag(1), null, null], "ab", 13, "type_ids must be distinct"),
+        (
+            vec![fields(11, 2, 2, 2), name, name, tag(1), tag(2), null, null],
+            "aa",
+            15,
+            "union variant names must be distinct",
+        ),
+        (vec![node(0)], "", 24, "Unrecognized DType"),
+        (vec![Node { value: 11, ..node(3) }], "", 25, "unknown primitive number"),
+        (vec![Node { number: 256, ..node(4) }], "", 26, "precision does not fit in u8"),
+        (vec![Node { number: 10, value: 128, ..node(4) }], "", 27, "scale does not fit in i8"),
+        (vec![node(7)], "", 28, "Invalid list element type"),
+        (vec![node(8)], "", 29, "Invalid fixed-size list element type"),
+        (vec![node(9)], "", 30, "Invalid map key type"),
+        (vec![first(9), node(5)], "", 31, "Invalid map value type"),
+        (vec![fields(10, 1, 0, 0), name], "a", 32, "struct names and dtypes length mismatch"),
+        (vec![fields(11, 1, 1, 1), name, tag(256), null], "a", 33, "type_id does not fit in u8"),
+        (vec![node(13), text("x.y")], "x.y", 34, "Extension DType missing storage proto"),
+    ] {
+        let it = message(&nodes, texts);
+        for error in [DType::from_proto(&it, UnknownIds::Allow).unwrap_err(), it.normal(UnknownIds::Allow).unwrap_err()]
+        {
+            assert_eq!((error.number(), error.to_string()), (Some(number), told.to_owned()), "{it:?}");
+        }
+    }
+    let error = FieldPath::from_proto([Some("a"), None]).unwrap_err();
+    assert_eq!((error.number(), error.to_string()), (Some(36), "FieldPath part missing type".to_owned()));
 }
 
 #[test]
@@ -478,49 +643,112 @@ fn flat_messages() {
         (&[bool], b"a"),
         (&[Node { value: 1, ..bool }], b""),
     ] {
-        assert_eq!(Message::from_nodes(nodes, texts), Err(Error::OutOfRange));
+        assert_eq!(refusal(Message::from_nodes(nodes, texts)), ErrorKind::OutOfRange);
     }
     let name = Node { kind: 14, number: 1, ..Node::default() };
     let fields = Node { kind: 10, names: 1, types: 1, ..Node::default() };
-    assert_eq!(Message::from_nodes(&[fields, name, bool], b"\xff"), Err(Error::NotUtf8));
+    assert_eq!(refusal(Message::from_nodes(&[fields, name, bool], b"\xff")), ErrorKind::NotUtf8);
     let deep = [vec![list; 129], vec![bool]].concat();
-    assert_eq!(Message::from_nodes(&deep, b""), Err(Error::TooDeep));
+    assert_eq!(refusal(Message::from_nodes(&deep, b"")), ErrorKind::TooDeep);
     assert_eq!(Message::from_nodes(&deep[1..], b"").map(|it| it.to_flat().unwrap().nodes.len()), Ok(129));
     let columns = (0..1000).map(|at| (format!("column_{at}"), dtype("i64?")));
     let wide = DType::struct_(columns, NonNullable).unwrap();
     assert_eq!(read(&wide.to_proto().to_flat().unwrap()), Ok(wide));
 }
 
+/// Each error of a call that isn't about a message, with its number and the text that vortex-array has for it.
 #[test]
-fn answers() {
-    assert_eq!(answer("find b {a=i32, b=u8}"), Ok(Some("1".into())));
-    assert_eq!(answer(b"find c {a=i32}"), Ok(Some("none".into())));
-    assert_eq!((answer(""), answer("exit")), (Ok(None), Ok(None)));
-    assert!(answer([0xff]).unwrap().is_some_and(|it| it.starts_with("unreadable")));
-    // (A line that is another one whenever it is asked for is asked for once.)
-    struct Growing(Cell<usize>, [String; 2]);
-    impl AsRef<[u8]> for Growing {
-        fn as_ref(&self) -> &[u8] {
-            let at = self.0.replace(1);
-            self.1[at].as_bytes()
-        }
+fn errors_have_numbers_and_texts() {
+    let (n, one) = (NonNullable, dtype("{a=i32, b=utf8, c=f64}"));
+    let fields = one.as_struct_fields_opt().unwrap();
+    let many = (0..257).map(|at| (format!("v{at}"), DType::null()));
+    let wide = dtype("fixed_size_list(fixed_size_list(i64)[4294967295])[4294967295]");
+    let (key, root) = (dtype("utf8?"), FieldMask::exact(&FieldPath::root()));
+    let errors = [
+        (1, "decimal precision must be between 1 and 76 (inclusive)", DType::decimal(0, 0, n).unwrap_err()),
+        (2, "decimal precision 77 exceeds MAX_PRECISION 76", DType::decimal(77, 0, n).unwrap_err()),
+        (3, "decimal scale 77 exceeds MAX_SCALE 76", DType::decimal(76, 77, n).unwrap_err()),
+        (4, "decimal scale 6 is greater than precision 5", DType::decimal(5, 6, n).unwrap_err()),
+        (4, "decimal scale 6 is greater than precision 5", "{a=decimal(5,6)}".parse::<DType>().unwrap_err()),
+        (9, "map key dtype must be non-nullable", DType::map(&key, &key, false, n).unwrap_err()),
+        (12, "union must have at least one variant", DType::union::<&str>([], n).unwrap_err()),
+        (13, "type_ids must be distinct", "union(a@1=i8, b@1=i8)".parse::<DType>().unwrap_err()),
+        (14, "union supports at most 256 consecutive variants", DType::union(many, n).unwrap_err()),
+        (15, "union variant names must be distinct", "union(a=i8, a=i8)".parse::<DType>().unwrap_err()),
+        (16, "field 1 of the projection not found: x", fields.project(["a", "x", "y"]).unwrap_err()),
+        (16, "field 0 of the projection not found: ", fields.project([""]).unwrap_err()),
+        (17, "index 3 out of bounds for struct with 3 fields", fields.without_field(3).unwrap_err()),
+        (18, "Can't merge struct fields with duplicate names", fields.disjoint_merge(&fields).unwrap_err()),
+        (19, "element size is bigger than usize", wide.element_size().unwrap_err()),
+        (20, "Cannot step into exact root field path", root.step_into().unwrap_err()),
+        (21, "Cannot get starting field from All mask", FieldMask::all().starting_field().unwrap_err()),
+    ];
+    for (number, text, error) in errors {
+        assert_eq!((error.number(), error.to_string().as_str()), (Some(number), text));
+        assert_eq!((error.kind().number(), error.code()), (Some(number), 100 + u32::from(number)));
+        assert_eq!((error.position(), format!("{error:?}")), (None, format!("{:?}({text})", error.kind())));
     }
-    let lines = [300, 3000].map(|length| format!("type {{{}=i8}}", "x".repeat(length)));
-    let first = lines[0].strip_prefix("type ").map(str::to_owned);
-    assert_eq!(answer(Growing(Cell::new(0), lines)), Ok(first));
-    let long = format!("{{{}=i8}}", "x".repeat(1000));
-    assert_eq!(answer(format!("type {long}")), Ok(Some(long)));
 }
 
 #[test]
-fn errors_have_texts_and_numbers() {
-    let error = "{a=i33}".parse::<DType>().unwrap_err();
+fn errors_say_what_was_expected() {
+    let error = "{a=i32, b=int32}".parse::<DType>().unwrap_err();
+    assert_eq!(error.to_string(), "unreadable at byte 11: expected a type, not \"int32\"; nearest: i32");
+    assert_eq!((error.kind(), error.number(), error.code()), (ErrorKind::Unreadable, None, 4));
+    // (At the end of a text the position is one more than its length.)
+    assert_eq!("{a=i8".parse::<DType>().unwrap_err().position(), Some(6));
     assert_eq!(
-        (error, error.code(), error.to_string()),
-        (Error::Unreadable { position: 4 }, 4, "unreadable at byte 4".into())
+        format!("{:?} {}", Error::from(ErrorKind::NotUtf8), ErrorKind::UnionEmpty),
+        "NotUtf8(a text isn't UTF-8) UnionEmpty"
     );
-    let error = "decimal(0,0)".parse::<DType>().unwrap_err();
-    assert_eq!((number(error), error.code()), (1, 101));
-    assert!(error.to_string() == "a decimal precision is 0" && error.source().is_none(), "{error}");
-    assert_eq!(Error::OutOfMemory.code(), 100);
+    let plain = dtype("null").as_nonnullable().unwrap_err();
+    assert_eq!((plain.clone(), plain.position(), plain.number()), (ErrorKind::Precondition.into(), None, None));
+    assert_eq!((plain.code(), Error::from(ErrorKind::OutOfMemory).code()), (5, 100));
+}
+
+/// An error is a value of its own: it outlives what it is about, and two of the same text are equal.
+#[test]
+fn errors_are_values() {
+    let of = |name: &str| dtype("{a=i32}").as_struct_fields_opt().unwrap().project([name]).unwrap_err();
+    let (one, other) = (of("x"), of("y"));
+    assert!(one == of("x") && one != other && one.kind() == other.kind() && one.source().is_none());
+    let errors: HashSet<Error> = [one.clone(), other, of("x"), "i".parse::<DType>().unwrap_err()].into_iter().collect();
+    assert_eq!(errors.len(), 3);
+    let sent = std::thread::spawn(move || (one.clone() == one, one.to_string())).join().unwrap();
+    assert_eq!(sent, (true, "field 0 of the projection not found: x".to_owned()));
+    fn main() -> Result<(), Box<dyn std::error::Error + Send + Sync>> {
+        "decimal(0,0)".parse::<DType>()?;
+        Ok(())
+    }
+    let error = main().unwrap_err().downcast::<Error>().unwrap();
+    assert_eq!(error.kind(), ErrorKind::PrecisionZero);
+}
+
+/// The second forms of calls, and the calls that no other test makes.
+#[test]
+fn second_forms() {
+    let whole = dtype("{a=i32, b=utf8?}");
+    let fields = whole.as_struct_fields_opt().unwrap();
+    assert_eq!((fields.indented(), fields.try_indented()), ("{\n  a=i32,\n  b=utf8?\n}".into(), Ok(fields.indented())));
+    for (text, is) in [
+        ("bool", DType::is_boolean as fn(&DType) -> bool),
+        ("u8", DType::is_primitive),
+        ("decimal(1,0)", DType::is_decimal),
+        ("utf8", DType::is_utf8),
+        ("binary", DType::is_binary),
+        ("variant", DType::is_variant),
+    ] {
+        assert!(is(&dtype(text)) && !is(&whole), "{text}");
+    }
+    assert!(dtype("i8").is_int() && dtype("u64").is_int() && !dtype("f32").is_int());
+    let made = [DType::try_bool(Nullable), DType::try_utf8(NonNullable), DType::try_binary(Nullable)];
+    assert_eq!(made, ["bool?", "utf8", "binary?"].map(|it| Ok(dtype(it))));
+    assert_eq!((DType::try_variant(NonNullable), FieldPath::try_root()), (Ok(dtype("variant")), Ok(path("."))));
+    assert_eq!(whole.try_view().unwrap(), whole.view());
+    let union = dtype("union(a=i8, b=utf8)");
+    assert_eq!(union.as_union_variants_opt().unwrap().try_variant("b"), Ok(Some(&dtype("utf8"))));
+    let mut paths = FieldPathSet::try_new().unwrap();
+    assert_eq!((paths.try_extend([path("a.x"), path("c")]), paths.len()), (Ok(()), 2));
+    assert_eq!(paths.try_names_below(&path("a")), Ok(Some(vec!["x".to_owned()])));
+    assert_eq!(texts(paths.try_unresolved(&whole).unwrap()), ["a.x", "c"]);
 }

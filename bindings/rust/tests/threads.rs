@@ -78,7 +78,7 @@ impl Shared {
             own.insert(one.clone().push("own"));
             found.push(format!("{} {}", own.contains(one), self.paths.iter().filter(|it| it.overlap(one)).count()));
         }
-        found.extend(sorted(own.iter()));
+        found.extend(sorted(own.iter().cloned()));
         found.extend(sorted(self.set.cover()));
         found.push(format!("{:?} {:?}", self.mask.clone(), self.mask.step_into()));
         found.push(format!("{:?}", DType::from_proto(&self.message.clone(), UnknownIds::Allow)));

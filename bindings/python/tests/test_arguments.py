@@ -4,6 +4,7 @@
 """Wrong arguments. The functions and their parameters are found by introspection, so that a new one can't be left out."""
 import collections.abc
 import contextlib
+import ctypes
 import enum
 import inspect
 import subprocess
@@ -12,8 +13,10 @@ import typing
 import unittest
 
 import vortex_logical_types
-from vortex_logical_types import (ELEMENT, Below, DType, Element, FieldMask, FieldPath, FieldPathSet, FlatMessage, LibraryError,
-                                  Message, Node, OutOfMemory, PType, Unreadable, VortexError, View)
+from vortex_logical_types import (ELEMENT, Below, DType, Element, ErrorKind, FieldMask, FieldPath, FieldPathSet, FlatMessage,
+                                  Message, Node, PType, TimeUnit, VortexError, View)
+from vortex_logical_types._native import native
+from vortex_logical_types._table import ArrowSchema
 
 STRUCT, UNION, MAP = DType("{a=i32, b=utf8?}"), DType("union(a@5=i32, b@9=utf8)"), DType("map(utf8, i32?, keys_sorted=false)")
 NODES = [Node(kind=10, names=1, types=1), Node(kind=14, number=2), Node(kind=3, value=3)]
@@ -23,14 +26,19 @@ SAMPLES = {
     str: "a", bytes: b"a", bool: True, int: 0, object: 5, DType: STRUCT, FieldPath: FieldPath("a"), PType: PType.I32,
     FieldPathSet: FieldPathSet(["a"]), FieldMask: FieldMask.prefix("a"), Message: STRUCT.to_proto(), Element: ELEMENT, Node: NODES[0],
     FlatMessage: STRUCT.to_proto().to_flat(), type(None): None, tuple[str, DType]: ("a", STRUCT),
+    ErrorKind: ErrorKind.FIELD_NOT_FOUND, TimeUnit: TimeUnit.MILLISECONDS,
 }
+# A schema that is never released.
+SCHEMA = ArrowSchema()
+assert native.vlt_dtype_to_arrow(STRUCT._slot, SCHEMA) == 0
 # Arguments that fit together, for functions that refuse most others.
 FITTING = {
-    "DType": {"source": "i8"}, "DType.decimal": {"precision": 10, "scale": 2}, "Message": {"source": "{}"},
+    "DType": {"source": "i8"}, "DType.decimal": {"precision": 10, "scale": 2}, "Message": {"nodes": NODES, "texts": b"id"},
     "DType.map_": {"key": DType("utf8")}, "DType.union": {"variants": [("a", STRUCT)], "tags": b"\5"},
     "FieldMask": {"kind": "prefix", "path": "a"}, "FieldPath.from_proto": {"parts": ["a"]}, "Message.from_nodes": {"nodes": NODES, "texts": b"id"},
-    "FieldPath.from_proto_source": {"source": 'path { name: "a" }'}, "DType.disjoint_merge": {"other": DType("{c=i8}")},
-    "DType.from_proto": {"allow_unknown": True},
+    "DType.disjoint_merge": {"other": DType("{c=i8}")},
+    "DType.from_proto": {"allow_unknown": True}, "DType.from_arrow": {"source": STRUCT},
+    "DType.from_arrow_address": {"address": ctypes.addressof(SCHEMA)},
 }
 # The object whose methods are called, for each class.
 OBJECTS = {DType: STRUCT, FieldPath: FieldPath("a.[].b"), FieldPathSet: FieldPathSet(["a", "b.c"]),
@@ -110,7 +118,7 @@ class Arguments(unittest.TestCase):
         with self.subTest(function=what, parameter=name, value=value):
             if accepts(hint, value):
                 # (What fits its own parameter may not fit the other arguments, as no path for a mask with a path.)
-                expected = (VortexError, ValueError, IndexError, *[TypeError] * (what == "FieldMask"))
+                expected = (VortexError, ValueError, IndexError, *[TypeError] * (what in ("FieldMask", "DType.from_arrow")))
                 with contextlib.suppress(*expected):
                     call(**{**given, name: value})
                 return
@@ -123,9 +131,8 @@ class Arguments(unittest.TestCase):
         for what, function, call, own in functions():
             asked = [*parameters(function)]
             given = {name: sample(hint) for name, hint in asked} | FITTING.get(what, {})
-            if own is not None or what not in ("VortexError", "OutOfMemory", "Unreadable", "LibraryError"):
-                with self.subTest(function=what):
-                    call(**given)
+            with self.subTest(function=what):
+                call(**given)
             for name, hint in asked:
                 seen.append(f"{what}({name})")
                 for value in (None, 5, b"", [], "", "ab", Other(), own, [None], [5], [Other()], [("a", 5)], *OBJECTS.values()):
@@ -182,7 +189,7 @@ class Arguments(unittest.TestCase):
         self.assertEqual(DType(Text("i8")), DType("i8"))
         self.assertEqual(DType.extension(Text("x"), Bytes(b"ab"), DType("i8")).metadata, b"ab")
         self.assertEqual(DType.extension("x", memoryview(b"abcd").cast("I"), DType("i8")).metadata, b"abcd")
-        self.assertEqual(Message.from_nodes([Node(kind=1)], Bytes()), Message("null {}"))
+        self.assertEqual(Message.from_nodes([Node(kind=1)], Bytes()), DType.null().to_proto())
 
     def test_numbers_fit_their_fields(self):
         self.assertEqual((Node(kind=3).kind, Node(value=-1).value, repr(Node(kind=3, value=-1))), (3, -1, "Node(kind=3, value=-1)"))
@@ -199,11 +206,6 @@ class Arguments(unittest.TestCase):
                                  text=True, check=False)
             self.assertEqual(ran.returncode, 1, line)
             self.assertIn("\nTypeError: ", ran.stderr)
-
-    def test_errors_are_made_of_what_they_show(self):
-        self.assertEqual((str(LibraryError(101, "why")), LibraryError(101, "why").number), ("why", 101))
-        self.assertEqual(Unreadable(4, "why", 7).position, 7)
-        self.assertIsInstance(OutOfMemory(100, "out of memory"), MemoryError)
 
 
 if __name__ == "__main__":

@@ -11,8 +11,9 @@ import pickletools
 import unittest
 
 import vortex_logical_types
-from vortex_logical_types import (ELEMENT, Below, DType, FieldMask, FieldPath, FieldPathSet, FlatMessage, Kind, LibraryError,
-                                  Message, Node, OutOfMemory, PType, Unreadable, VortexError, View)
+from vortex_logical_types import (ELEMENT, Below, DType, ErrorKind, FieldMask, FieldNotFound, FieldPath, FieldPathSet,
+                                  FlatMessage, IndexOutOfBounds, Kind, LibraryError, Message, Node, OutOfMemory, PType,
+                                  Unreadable, VortexError, View)
 
 # Makes an object of each class, each time anew.
 MAKERS = {
@@ -26,10 +27,13 @@ MAKERS = {
     Below: lambda: Below(True, False, 2),
     Kind: lambda: Kind.LIST,
     PType: lambda: PType.U8,
+    ErrorKind: lambda: ErrorKind.TOO_DEEP,
+    vortex_logical_types.TimeUnit: lambda: vortex_logical_types.TimeUnit.DAYS,
     vortex_logical_types.Element: lambda: ELEMENT,
 }
-ERRORS = (VortexError(7, "why"), OutOfMemory(100, "out of memory"), Unreadable(4, "unreadable at byte 4", 4),
-          LibraryError(116, "no such field"))
+ERRORS = (VortexError(ErrorKind.OUT_OF_RANGE, "why"), OutOfMemory(ErrorKind.OUT_OF_MEMORY, "out of memory"),
+          Unreadable(ErrorKind.TOO_DEEP, "unreadable at byte 4: why", 4), LibraryError(ErrorKind.DUPLICATE_NAMES, "two names"),
+          FieldNotFound(ErrorKind.FIELD_NOT_FOUND, "no such field"), IndexOutOfBounds(ErrorKind.INDEX_OUT_OF_BOUNDS, "no index"))
 
 
 def shown(it):
@@ -160,7 +164,7 @@ class Copies(unittest.TestCase):
             DType("{a=i33}")
         except Unreadable as error:
             made = pickle.loads(pickle.dumps(error))
-            self.assertEqual((str(made), made.number, made.position), (str(error), 4, error.position))
+            self.assertEqual((str(made), made.kind, made.position), (str(error), ErrorKind.UNREADABLE, 4))
 
     def test_exceptions_come_out_of_a_pool_of_processes(self):
         context = multiprocessing.get_context("fork")

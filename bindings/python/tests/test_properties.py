@@ -80,7 +80,7 @@ class Properties(unittest.TestCase):
     def test_types(self, it):
         message = it.to_proto()
         self.assertEqual((*copies(it), DType(it.to_source()), DType(it), made_of(it.view())), (it,) * 7)
-        self.assertEqual((*copies(message), Message(message.to_source())), (message,) * 5)
+        self.assertEqual((*copies(message), Message.from_flat(message.to_flat())), (message,) * 5)
         self.assertEqual(pickle.dumps(it), pickle.dumps(DType(it)))
         self.assertTrue(it.eq_with_nullability_subset(it) and it.merge_nullability(it) == it)
 

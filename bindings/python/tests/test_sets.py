@@ -115,6 +115,19 @@ class Sets(unittest.TestCase):
             for asked in ("issubset", "issuperset", "isdisjoint"):
                 self.assertIs(getattr(mine, asked)([it.to_source() for it in other]), getattr(s, asked)(t), asked)
             self.assertEqual(mine == yours, pickle.dumps(mine) == pickle.dumps(yours))
+            self.assertEqual((steps_of(mine.union(yours, [FieldPath("z")], mine)), len(mine)), (s | t | {("z",)}, len(s)))
+
+    def test_a_set_and_itself(self):
+        """A call that takes two sets may be given one set twice, which the library takes to be two."""
+        for sources in ([], ["a", "a.b"]):
+            paths = FieldPathSet(sources)
+            self.assertTrue(paths == paths and paths <= paths and paths >= paths and not paths < paths and not paths > paths)
+            self.assertTrue(paths.issubset(paths) and paths.issuperset(paths))
+            self.assertIs(paths.isdisjoint(paths), not sources)
+            for both in (paths | paths, paths.union(paths), paths.union(), paths.union(paths, paths)):
+                self.assertEqual(both, FieldPathSet(sources))
+                both.add("c")
+                self.assertEqual(len(paths), len(sources))
 
     def test_operators_take_sets_of_paths_alone(self):
         a, b = FieldPath("a"), FieldPath("b")

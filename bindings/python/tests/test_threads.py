@@ -57,7 +57,7 @@ class Threads(unittest.TestCase):
                 self.assertEqual((whole.names, [*path][0], hash(whole)), (["a", "d"], "a", hash(whole.copy())))
                 self.assertEqual(mask.path, FieldPath("a"))
                 self.assertEqual(DType.from_proto(message), whole)
-                self.assertEqual(Message(message.to_source()), message)
+                self.assertEqual(Message.from_flat(message.to_flat()), message)
                 self.assertRaises(Unreadable, DType, "{a=")
 
         self.on_threads(work)

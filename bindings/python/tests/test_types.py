@@ -2,14 +2,17 @@
 # SPDX-FileCopyrightText: Copyright the Vortex contributors
 
 """Types as collections of their fields, their views, and what is asked of a type of another kind."""
+import contextlib
 import copy
 import pickle
 import sys
 import typing
 import unittest
+from collections import Counter
+from unittest import mock
 
 import vortex_logical_types
-from vortex_logical_types import DType, Kind, LibraryError, PType, View
+from vortex_logical_types import DType, ErrorKind, Kind, LibraryError, PType, View
 
 # A type of each kind.
 TYPES = {
@@ -36,12 +39,31 @@ OF = {
     "fields": Kind.STRUCT, "nvariants": Kind.UNION, "variants": Kind.UNION, "tags": Kind.UNION, "is_consecutive": Kind.UNION,
 }
 OF_ALL = {"kind", "is_nullable", "can_be_nonnullable", "element_size"}
+# The properties that only some extension types have.
+OF_TIMES = {"time_unit", "time_zone"}
 METHODS = {
     Kind.STRUCT: (("field_name", 0), ("field_by_index", 0), ("find", "a"), ("field", "a"), ("project", ["a"]),
                   ("without_field", 0), ("disjoint_merge", DType("{}")), ("indented",)),
     Kind.UNION: (("variant_name", 0), ("variant_by_index", 0), ("find_variant", "a"), ("variant_of", "a"),
                  ("child_index_to_tag", 0), ("tag_to_child_index", 5), ("tag_to_child_index", 256)),
 }
+
+
+@contextlib.contextmanager
+def counted():
+    """Counts the calls of the library, by their names."""
+    calls = Counter()
+
+    def counting(name, function):
+        def call(*arguments):
+            calls[name] += 1
+            return function(*arguments)
+
+        return call
+
+    native = vars(vortex_logical_types._native.native)
+    with mock.patch.dict(native, {name: counting(name, function) for name, function in native.items()}):
+        yield calls
 
 
 class Types(unittest.TestCase):
@@ -64,16 +86,17 @@ class Types(unittest.TestCase):
 
     def test_another_kind_has_one_rule(self):
         properties = {name for name, it in vars(DType).items() if isinstance(it, property)}
-        self.assertEqual(properties, OF.keys() | OF_ALL)
+        self.assertEqual(properties, OF.keys() | OF_ALL | OF_TIMES)
         for kind, dtype in TYPES.items():
             for name, of in OF.items():
                 with self.subTest(kind=kind, property=name):
                     self.assertIs(getattr(dtype, name) is None, kind not in (of if isinstance(of, tuple) else (of,)))
+            self.assertEqual([getattr(dtype, it) for it in OF_TIMES], [None, None])
             for of, methods in METHODS.items():
                 for name, *given in methods if kind is not of else ():
                     with self.subTest(kind=kind, method=name), self.assertRaises(LibraryError) as caught:
                         getattr(dtype, name)(*given)
-                    self.assertEqual(caught.exception.number, 5)
+                    self.assertIs(caught.exception.kind, ErrorKind.PRECONDITION)
             if kind is not Kind.STRUCT:
                 for ask in (len, iter, list, lambda it: "a" in it, lambda it: it["a"]):
                     self.assertRaisesRegex(TypeError, f"^a type of the kind {kind.name.lower()} has no fields$", ask, dtype)
@@ -129,6 +152,31 @@ def leaves(dtype):
         whole = DType("{a=list({b=fixed_size_list(u8?)[2], c=i8}), d=union(x=x.tag[0x61](utf8))}")
         self.assertEqual(names["leaves"](whole), ["u8?", "i8", "x.tag", b"a", "utf8"])
 
+    def test_all_names_come_in_one_call_and_all_types_in_another(self):
+        names = [f"column {it} \u00e9" if it % 9 else "n" * it for it in range(1000)]
+        types = [DType.decimal(1 + it % 76, 0) for it in range(1000)]
+        struct = DType.struct(zip(names, types))
+        with counted() as calls:
+            self.assertEqual(len(struct.fields), 1000)
+        self.assertEqual(calls, {"vlt_dtype_kind": 1, "vlt_struct_nfields": 1, "vlt_struct_names": 2, "vlt_struct_types": 1})
+        with counted() as calls:
+            self.assertEqual((len(struct), struct.names, [*struct]), (1000, names, struct.fields))
+        self.assertEqual(calls, {})
+        self.assertEqual(struct.fields, [*zip(names, types)])
+        union = DType.union(zip(names[1:4], types))
+        with counted() as calls:
+            self.assertEqual(len(union.variants), 3)
+        self.assertEqual(calls, {"vlt_dtype_kind": 1, "vlt_union_len": 1, "vlt_union_names": 1, "vlt_union_types": 1})
+        with counted() as calls:
+            self.assertIs(union.variants[2][1], union.variants[2][1])
+        self.assertEqual(calls, {})
+        self.assertEqual(union.variants, [*zip(names[1:4], types)])
+        self.assertEqual((DType("{}").fields, DType("{}").names), ([], []))
+
+    def test_a_type_outlives_the_struct_and_the_other_types(self):
+        kept = DType("{a=i8, b={c=utf8?}, d=i16}").fields[1][1]
+        self.assertEqual((kept, kept.fields), (DType("{c=utf8?}"), [("c", DType("utf8?"))]))
+
     def test_asking_again_makes_no_call(self):
         whole = DType("{a=list(i8), b=utf8}")
         self.assertIs(whole.fields[0][1], whole.fields[0][1])
@@ -136,6 +184,22 @@ def leaves(dtype):
         names = whole.names
         names.append("c")
         self.assertEqual((whole.names, len(whole)), (["a", "b"], 2))
+
+    def test_a_long_text_is_made_once(self):
+        native, whole = vortex_logical_types._native.native, DType.struct({"n" * 3000: DType("i8")})
+        made, make = [], native.vlt_dtype_to_text
+
+        def counted(*arguments):
+            made.append(arguments)
+            return make(*arguments)
+
+        with mock.patch.object(native, "vlt_dtype_to_text", counted):
+            # (The first one may find no room, which the others then have. No text is there for one that is longer still.)
+            texts = [whole.to_source() for _ in range(3)]
+            self.assertLessEqual(len(made), 4)
+        self.assertEqual(texts, [f"{{{'n' * 3000}=i8}}"] * 3)
+        longest = DType.struct({"n" * 2**21: DType("i8")})
+        self.assertEqual((len(longest.to_source()), whole.to_source()), (2**21 + 5, texts[0]))
 
 
 if __name__ == "__main__":

@@ -9,8 +9,8 @@ import copy
 import pickle
 from typing import AbstractSet, Optional, Sequence, Union
 
-from vortex_logical_types import (ELEMENT, Below, DType, Element, FieldMask, FieldPath, FieldPathSet, FlatMessage, Kind, Message,
-                                  Node, PType, Unreadable, View, VortexError, answer)
+from vortex_logical_types import (ELEMENT, Below, DType, Element, ErrorKind, FieldMask, FieldNotFound, FieldPath, FieldPathSet,
+                                  FlatMessage, Kind, MergeConflict, Message, Node, PType, TimeUnit, Unreadable, View, VortexError)
 
 Step = Union[str, Element]
 
@@ -26,6 +26,8 @@ def of_types() -> None:
     found: tuple[Optional[int], Optional[DType]] = (orders.find("id"), orders.field("id"))
     parts: tuple[Optional[tuple[int, int]], Optional[bool]] = (orders.decimal_parts, orders.keys_sorted)
     merged: Optional[DType] = orders.merge_nullability(DType(orders))
+    columns: tuple[Optional[DType], Optional[DType]] = (orders.merge_columns(orders), DType.merge_all([orders]))
+    conflict: Optional[MergeConflict] = orders.merge_conflict(orders)
     of_bytes: tuple[Optional[bytes], Optional[bytes]] = (orders.metadata, orders.tags)
     for name, dtype in orders:
         length: int = len(name) + dtype.hash_ignore_nullability()
@@ -42,7 +44,20 @@ def of_types() -> None:
     orders.project(5)  # type: ignore[arg-type]
     orders["id"] + 1  # type: ignore[operator]
     orders.no_such_method()  # type: ignore[attr-defined]
-    print(kind, names, fields, ptype, sizes, found, parts, merged, of_bytes, sent)
+    print(kind, names, fields, ptype, sizes, found, parts, merged, columns, conflict, of_bytes, sent)
+
+
+def of_arrow() -> None:
+    """Reads types from Arrow and writes them, and makes dates and timestamps."""
+    capsule: object = DType("i8").__arrow_c_schema__()
+    dtype: DType = DType.from_arrow(capsule)
+    other: DType = DType.from_arrow_address(8)
+    paid: DType = DType.timestamp(TimeUnit.SECONDS, "UTC", nullable=True)
+    times: tuple[DType, DType] = (DType.date(TimeUnit.DAYS), DType.time(TimeUnit.SECONDS, nullable=True))
+    parts: tuple[Optional[TimeUnit], Optional[str]] = (paid.time_unit, paid.time_zone)
+    DType.from_arrow_address("8")  # type: ignore[arg-type]
+    DType.timestamp("s")  # type: ignore[arg-type]
+    print(dtype, other, times, parts)
 
 
 def of_paths() -> None:
@@ -77,15 +92,20 @@ def of_messages() -> None:
     again: Message = Message.from_flat(flat)
     nodes: Message = Message.from_nodes([Node(kind=1)], b"")
     dtype: DType = DType.from_proto(again, allow_unknown=True)
-    line: Optional[str] = answer("find b {a=i32, b=u8}")
+    made: Message = Message([Node(kind=1)], b"")
     try:
         DType("{a=")
     except Unreadable as error:
         position: int = error.position
         print(position)
     except VortexError as error:
-        number: int = error.number
-        print(number)
+        number: Optional[int] = error.number
+        kind: ErrorKind = error.kind
+        print(number, kind)
+    try:
+        DType("{a=i8}").project(["b"])
+    except KeyError as error:
+        print(isinstance(error, FieldNotFound))
     Message.from_nodes([1], b"")  # type: ignore[list-item]
     DType.from_proto(message, "yes")  # type: ignore[arg-type]
-    print(nodes, dtype, line)
+    print(nodes, dtype, made)

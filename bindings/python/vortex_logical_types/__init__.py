@@ -12,13 +12,38 @@ DType('{id=u64, lines=list({sku=utf8})}')
 >>> sorted(path.to_source() for path in wanted.cover())
 ['id', 'lines.[]']
 
-A type or a path is made from its text in the form of the library's console. `to_source` returns this form, `repr` shows
-it in quotes, and it is read back as the same value. `str` returns the text that the proved library prints, which may
-not be read back. For example, `str` shows a name that contains a comma without quotes.
+A type or a path is made from its text in the *form of the console*, a program of this library. `to_source` returns the text
+in this form, and `repr` shows it in quotes, so `DType(dtype.to_source()) == dtype`. Where a docstring speaks of the text of
+a type or path, it means this one. `str` returns the text that the proved library prints, which may not be read back. For
+example, `str` shows a name that contains a comma without quotes.
 
-A call that the library refuses raises a `VortexError`. Its `number` is 100 + n for the error n of the library, which
-docs/GUIDE.md lists, and below 100 for an error of the interface. For example, it is 116 if `project` is passed a name
-that no field has, 5 if a precondition isn't met, and 9 if an argument is out of its range.
+In the form of the console, a type is written in one of these ways. A `?` behind a type makes it nullable. `null`, which is
+always nullable, and extensions, which have the nullability of their storage type, never have one.
+
+    null, bool, utf8, binary, variant, u8 to u64, i8 to i64, f16, f32, f64
+    decimal(10,-2)                      a decimal with its precision and scale
+    list(i32?)?                         a list
+    fixed_size_list(u8)[20]             a fixed-size list with its size
+    map(utf8, i32, keys_sorted=true)    a map
+    {a=i32, "b c"=utf8?}                a struct
+    union(a=i32, b=utf8)                a union with the tags 0, 1 and so on
+    union(a@5=i32, b@9=utf8)            a union with other tags
+    x.tag[0x6162](utf8)                 an extension with its id, its metadata and its storage type
+
+Blanks, ends of lines and comments, which go from `#` to the end of the line, may stand between the parts of a type.
+
+A path is steps with a `.` between them, each a name or `[]` for the element of a list, such as `lines.[].sku`. The root is
+`.` alone. A name that consists of letters, digits, `_` and characters beyond ASCII is written without quotes, and any other
+in double quotes. So is a name with a typographic quote, or with one of the characters beyond ASCII that a list of the
+library calls special, such as a no-break space. In quotes a backslash begins an escape: one of two quotes, a tab, a newline,
+a carriage return or a backslash, as in Python, or `x` with the two hexadecimal digits of a byte.
+
+A call that the library refuses raises a `VortexError`, whose text is the library's own. The docstring of `VortexError` says
+which class of exceptions comes when, and that of `ErrorKind` lists the kinds with the library's numbers.
+
+>>> orders.project(["id", "note"])
+Traceback (most recent call last):
+vortex_logical_types.FieldNotFound: field 1 of the projection not found: note
 
 An argument of the wrong type raises a `TypeError` that names the parameter.
 
@@ -32,16 +57,15 @@ True
 
 from __future__ import annotations
 
-from typing import Optional, Union
-
-from ._arguments import bytes_given, text_given
 from ._types import DType, Kind, PType  # (the first, because the others need it)
 from ._masks import FieldMask
+from ._merging import MergeConflict
 from ._messages import FlatMessage, Message
-from ._native import LibraryError, OutOfMemory, Unreadable, VortexError, native, text_found
+from ._errors import ErrorKind, FieldNotFound, IndexOutOfBounds, LibraryError, OutOfMemory, Unreadable, VortexError
 from ._paths import ELEMENT, Element, FieldPath
 from ._sets import Below, FieldPathSet
 from ._table import Node
+from ._time import TimeUnit
 from ._views import AnyView, View
 
 __version__ = "0.2.0"
@@ -51,38 +75,26 @@ __all__ = [
     "DType",
     "ELEMENT",
     "Element",
+    "ErrorKind",
     "FieldMask",
+    "FieldNotFound",
     "FieldPath",
     "FieldPathSet",
     "Below",
     "FlatMessage",
+    "IndexOutOfBounds",
     "Kind",
     "LibraryError",
+    "MergeConflict",
     "Message",
     "Node",
     "OutOfMemory",
     "PType",
+    "TimeUnit",
     "Unreadable",
     "View",
     "VortexError",
-    "answer",
 ]
-
-
-def answer(line: Union[str, bytes]) -> Optional[str]:
-    """Returns what the library's console answers to a line, which is a command with its arguments. Returns None for a
-    line that has no answer: a blank line, a comment, or a command that ends the console. At the beginning of each call
-    there is no named set and no named session. If the library refuses the arguments of the command, the answer says
-    so, and no exception is raised.
-
-    >>> answer("resolve a.[] {a=list(i32?)}")
-    'i32?'
-    """
-    if isinstance(line, str):
-        given = text_given(line, "line")
-    else:
-        given = bytes_given(line, "line")
-    return text_found(native.vlt_answer, given, len(given))
 
 
 def _make_public() -> None:

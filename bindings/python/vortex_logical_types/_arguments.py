@@ -58,7 +58,7 @@ def number_given(it: object, name: Name) -> int:
 
 
 def position_given(it: object, name: Name) -> int:
-    """Returns a position, or the greatest number of 64 bits if that is less. Raises IndexError if it is negative."""
+    """Returns an index, cut to 2**64 - 1, which is as good for one that is greater. Raises IndexError if it is negative."""
     index = number_given(it, name)
     if index < 0:
         raise IndexError(f"{shown(name)} must be at least 0, not {index}")

@@ -69,8 +69,8 @@ class FieldMask(Object):
         return found(FieldPath, native.vlt_mask_path, self._slot)
 
     def step_into(self) -> FieldMask:
-        """Returns the mask of what is selected below the first step of the mask's path. Raises `LibraryError` 120 for the
-        mask that selects only the root.
+        """Returns the mask of what is selected below the first step of the mask's path. Raises `LibraryError`
+        (`EXACT_ROOT`) for the mask that selects only the root.
 
         >>> FieldMask.exact("a.b").step_into()
         FieldMask.exact('b')
@@ -78,8 +78,8 @@ class FieldMask(Object):
         return made(FieldMask, native.vlt_mask_step_into, self._slot)
 
     def starting_field(self) -> Optional[Step]:
-        """Returns the first step of the mask's path, or None if that path is the root. Raises `LibraryError` 121 for
-        the mask of all paths.
+        """Returns the first step of the mask's path, or None if that path is the root. Raises `LibraryError`
+        (`ALL_MASK`) for the mask of all paths.
 
         >>> FieldMask.prefix("a.b").starting_field()
         'a'

@@ -9,8 +9,8 @@ import ctypes
 from typing import Callable, Iterable, NamedTuple
 
 from . import _table
-from ._arguments import Name, bytes_given, flag_given, instance_given, items_given, text_given
-from ._native import Object, T, error_of, is_done, made, native, read, text
+from ._arguments import Name, bytes_given, flag_given, instance_given, items_given
+from ._native import Object, T, error_of, is_done, made, native
 from ._table import Node
 
 
@@ -29,26 +29,32 @@ class FlatMessage(NamedTuple):
 
 
 class Message(Object):
-    """The message of a type. `Message("list { element_type { utf8 {} } }")` reads protobuf's text format."""
+    """The message of a type. `to_proto` of a type returns one, and `Message(nodes, texts)` makes one of its nodes and of the
+    bytes of their texts. Use it in a program that has decoded the bytes of a message by itself. For example, this is the
+    message of a struct with one name, a text of two bytes, and one type, the primitive type 3:
+
+    >>> nodes = [Node(kind=10, names=1, types=1), Node(kind=14, number=2), Node(kind=3, value=3)]
+    >>> message = Message(nodes, b"id")
+    >>> DType.from_proto(message), message == DType("{id=u64}").to_proto()
+    (DType('{id=u64}'), True)
+
+    It raises `LibraryError`: `OUT_OF_RANGE` if the nodes and texts aren't those of one message, `TOO_DEEP` if a message is
+    nested in more than 128 others, and `NOT_UTF8` if a name or an id isn't UTF-8.
+    """
 
     __slots__ = ()
     _copy = native.vlt_message_copy
 
-    def __new__(cls: type[T], source: str) -> T:
-        return read(cls, native.vlt_message_from_text, text_given(source, "source"))
+    def __new__(cls: type[T], nodes: Iterable[Node], texts: bytes) -> T:
+        given = items_given(nodes, "nodes", "Node", _node_given)
+        return _of_nodes(cls, (Node * len(given))(*given), bytes_given(texts, "texts"))
 
     @classmethod
     def from_nodes(cls: type[T], nodes: Iterable[Node], texts: bytes) -> T:
-        """Returns the message with these nodes and with the bytes of their texts. Use it in a program that has decoded
-        the bytes of a message by itself. Raises `LibraryError` 9 if the nodes and texts aren't those of one message, 6
-        if a message is nested in more than 128 others, and 3 if a name or an id isn't UTF-8.
-
-        >>> message = Message.from_nodes([Node(kind=10, names=1, types=1), Node(kind=14, number=2), Node(kind=3, value=3)], b"id")
-        >>> DType.from_proto(message)
-        DType('{id=u64}')
-        """
-        given = items_given(nodes, "nodes", "Node", _node_given)
-        return _of_nodes(cls, (Node * len(given))(*given), bytes_given(texts, "texts"))
+        """Returns the message with these nodes and with the bytes of their texts, as `Message(nodes, texts)` does."""
+        # (The parameters of the class of such an object are those of `Message`.)
+        make: Callable[..., T] = cls
+        return make(nodes, texts)
 
     @classmethod
     def from_flat(cls: type[T], flat: FlatMessage) -> T:
@@ -61,7 +67,7 @@ class Message(Object):
         return _of_nodes(cls, (Node * count).from_buffer_copy(nodes), texts)
 
     def to_flat(self) -> FlatMessage:
-        """Returns the flat form of the message."""
+        """Returns the flat form of the message. `Message.from_flat` makes the same message of it."""
         nodes, texts = (Node * 0)(), ctypes.create_string_buffer(0)
         count, length = ctypes.c_size_t(), ctypes.c_size_t()
         while True:
@@ -77,9 +83,11 @@ class Message(Object):
         """Returns the message that `to_proto` writes for the type that this message describes. It has every child,
         flag and number, and the metadata of each extension. Raises the same errors as `DType.from_proto`.
 
-        >>> message = Message('extension { id: "x.tag" storage_dtype { utf8 {} } }')
-        >>> message.normal(allow_unknown=True) == Message('extension { id: "x.tag" storage_dtype { utf8 {} } metadata: "" }')
-        True
+        For example, this extension has no metadata, and its normal form has metadata of no bytes:
+
+        >>> message = Message([Node(kind=13, has_first=1), Node(kind=14, number=5), Node(kind=5)], b"x.tag")
+        >>> message.normal(allow_unknown=True)
+        Message([Node(kind=13, has_first=1, has_second=1), Node(kind=14, number=5), Node(kind=14), Node(kind=5)], b'x.tag')
         """
         return made(Message, native.vlt_message_normal, self._slot, flag_given(allow_unknown, "allow_unknown"))
 
@@ -91,12 +99,10 @@ class Message(Object):
     def __hash__(self) -> int:
         return hash(self.to_flat())
 
-    def to_source(self) -> str:
-        """Returns the message in protobuf's text format. `Message` reads it as the same message."""
-        return text(native.vlt_message_to_text, self._slot)
-
     def __repr__(self) -> str:
-        return f"Message({self.to_source()!r})"
+        flat = self.to_flat()
+        nodes = (Node * (len(flat.nodes) // ctypes.sizeof(Node))).from_buffer_copy(flat.nodes)
+        return f"Message({[*nodes]!r}, {flat.texts!r})"
 
     def _made_by(self) -> tuple[Callable[[FlatMessage], Message], tuple[FlatMessage]]:
         return type(self).from_flat, (self.to_flat(),)

@@ -8,6 +8,7 @@ from __future__ import annotations
 import copy
 import ctypes
 import functools
+import itertools
 import os
 import sys
 import threading
@@ -15,7 +16,7 @@ from types import SimpleNamespace
 from typing import Any, Callable, Optional, Sequence, TypeVar
 
 from . import _table
-from ._arguments import number_given, text_given
+from ._errors import CLASSES, ErrorKind, LibraryError, OutOfMemory, Unreadable, VortexError
 from ._table import Slot
 
 LIBRARY = "libvortex_logical_types.so"
@@ -24,44 +25,6 @@ LOCK_SETTING = "VORTEX_LOGICAL_TYPES_LOCK"
 
 T = TypeVar("T", bound="Object")
 R = TypeVar("R")
-
-
-class VortexError(Exception):
-    """A call failed. The text of the exception says why, and `number` is the number that the C interface returned."""
-
-    number: int
-
-    def __init__(self, number: int, text: str) -> None:
-        number_given(number, "number")
-        text_given(text, "text")
-        # (An exception is copied and unpickled by calling its class with `args`, so these are the parameters.)
-        super().__init__(number, text)
-        self.number = number
-
-    def __str__(self) -> str:
-        return str(self.args[1])
-
-
-class OutOfMemory(VortexError, MemoryError):
-    """An allocation failed."""
-
-
-class Unreadable(VortexError, ValueError):
-    """A text can't be read. `position` is the byte at which reading failed: the bytes of the text in UTF-8 are
-    counted from 1."""
-
-    position: int
-
-    def __init__(self, number: int, text: str, position: int) -> None:
-        number_given(position, "position")
-        super().__init__(number, text)
-        self.args = (number, text, position)
-        self.position = position
-
-
-class LibraryError(VortexError, ValueError):
-    """The library, or the interface to it, refuses the arguments. The number is 100 + n for the error n of the
-    library, and below 100 for an error of the interface."""
 
 
 class Lock:
@@ -138,20 +101,35 @@ def _load() -> SimpleNamespace:
     except OSError as error:
         raise ImportError(f"{NEEDS}: {error}") from error
     functions = {}
-    for name, (result, arguments) in _table.FUNCTIONS.items():
+    table: dict[str, Any] = {**_table.FUNCTIONS, **_table.ARROW_FUNCTIONS}
+    for name, (result, arguments) in table.items():
         function = getattr(library, name)
         function.restype, function.argtypes = result, arguments
         functions[name] = function if lock is None else lock.around(function)
+    for name in (*_table.WITH_ERRORS, *_table.ARROW_WITH_ERRORS):
+        functions[name] = explained(functions[name])
     version = library.vlt_abi_version()
-    if version != ABI_VERSION:
-        raise ImportError(f"{path} has version {version} of the interface, not {ABI_VERSION}")
+    if version != _table.ABI_VERSION:
+        raise ImportError(f"{path} has version {version} of the interface, not {_table.ABI_VERSION}")
     return SimpleNamespace(**functions)
+
+
+def explained(function: Callable[..., int]) -> Callable[..., int]:
+    """Returns the function without its last parameter, the slot for its error. If there is an error in it, it is raised."""
+
+    def call(*arguments: Any) -> int:
+        error = Slot()
+        code = function(*arguments, error)
+        if error.at is not None:
+            raise error_told(code, error)
+        return code
+
+    return call
 
 
 # What the library was built for, and the flags of such a processor.
 NEEDS = "the library needs Linux with the GNU C library, on a processor with x86-64-v2"
 FLAGS = ("cx16", "lahf_lm", "popcnt", "sse4_1", "sse4_2", "ssse3")
-ABI_VERSION = 1
 lock = Lock() if needs_lock() else None
 native = _load()
 
@@ -206,17 +184,37 @@ class Object:
         return (*self._made_by(), getattr(self, "__dict__", None) or None)
 
 
-def error_of(code: int, position: int = 0) -> VortexError:
-    if code == _table.LIBRARY:
-        return OutOfMemory(code, "out of memory")
-    if code == _table.UNREADABLE:
-        return Unreadable(code, f"unreadable at byte {position}", position)
-    return LibraryError(code, text_of_error(code))
+# The kinds of errors, by what a call returns.
+KINDS = {
+    _table.UTF8: ErrorKind.NOT_UTF8,
+    _table.UNREADABLE: ErrorKind.UNREADABLE,
+    _table.CONDITION: ErrorKind.PRECONDITION,
+    _table.DEEP: ErrorKind.TOO_DEEP,
+    _table.RANGE: ErrorKind.OUT_OF_RANGE,
+    _table.ARROW: ErrorKind.ARROW,
+    **{_table.LIBRARY + it.number: it for it in ErrorKind if it.number is not None},
+}
 
 
-def text_of_error(code: int) -> str:
-    text = bytes_found(native.vlt_error_text, code)
-    return f"error {code}" if text is None else text.decode()
+def error_of(code: int) -> VortexError:
+    """Returns the error of what a call returned, without data."""
+    assert code in KINDS, f"the library returned {code}"
+    kind = KINDS[code]
+    if kind is ErrorKind.OUT_OF_MEMORY:
+        return OutOfMemory(kind, "out of memory")
+    return CLASSES.get(kind, LibraryError)(kind, text(native.vlt_error_text, code))
+
+
+def error_told(code: int, slot: Slot) -> VortexError:
+    """Returns the error of what a call returned, with the library's text of it, which is in the slot. Empties the slot."""
+    try:
+        kind, message = KINDS[code], text(native.vlt_error_message, slot)
+        position = number(ctypes.c_size_t, native.vlt_error_position, slot)
+    finally:
+        native.vlt_free(slot)
+    if position is not None:
+        return Unreadable(kind, f"unreadable at byte {position}: {message}", position)
+    return CLASSES.get(kind, LibraryError)(kind, message)
 
 
 def is_done(code: int) -> bool:
@@ -264,10 +262,10 @@ def made(cls: type[T], call: Callable[..., int], *arguments: Any) -> T:
 
 def read(cls: type[T], call: Callable[..., int], given: bytes) -> T:
     """Returns the object that a call reads from a text."""
-    out, position = Slot(), ctypes.c_size_t()
-    code = call(given, len(given), out, position)
+    out = Slot()
+    code = call(given, len(given), out)
     if code:
-        raise error_of(code, position.value)
+        raise error_of(code)
     return holding(cls, out)
 
 
@@ -277,21 +275,29 @@ def number(kind: Any, call: Callable[..., int], *arguments: Any) -> Optional[int
     return int(it.value) if is_done(call(*arguments, it)) else None
 
 
-# Room for most texts, so that a call is made once for them.
-Buffer = ctypes.c_char * 256
+# Buffers that no call uses at the moment. A call takes the last of them, or a new one, so another call may begin while it
+# uses it (on another thread, or by a finalizer). A buffer that was too small gives way to one that isn't, so that a program
+# which asks for long texts has each of them made once; but none of more than MOST_ROOM bytes is kept.
+SPARE: list[Any] = []
+ROOM, MOST_ROOM = 1 << 10, 1 << 20
 
 
 def bytes_and_length(call: Callable[..., int], *arguments: Any) -> Optional[tuple[bytes, int]]:
     """Returns what a call writes into a buffer, with the length that the call writes, or None."""
-    buffer, length = Buffer(), ctypes.c_size_t()
+    try:
+        buffer = SPARE.pop()
+    except IndexError:
+        buffer = (ctypes.c_char * ROOM)()
+    length = ctypes.c_size_t()
     code = call(*arguments, buffer, len(buffer), length)
     while code == _table.SMALL:
-        buffer = (ctypes.c_char * length.value)()
+        buffer = (ctypes.c_char * (1 << (length.value - 1).bit_length()))()
         code = call(*arguments, buffer, len(buffer), length)
-    if not is_done(code):
-        return None
     # (The length is above that of the buffer where it stands for the step into an element. A slice of `c_char` is bytes.)
-    return buffer[: length.value], length.value  # type: ignore[return-value]
+    written = buffer[: length.value] if length.value <= len(buffer) else b""
+    if len(buffer) <= MOST_ROOM:
+        SPARE.append(buffer)
+    return (written, length.value) if is_done(code) else None
 
 
 def bytes_found(call: Callable[..., int], *arguments: Any) -> Optional[bytes]:
@@ -306,6 +312,34 @@ def text_found(call: Callable[..., int], *arguments: Any) -> Optional[str]:
 
 def text(call: Callable[..., int], *arguments: Any) -> str:
     return text_found(call, *arguments) or ""
+
+
+# So many bytes of a name are expected, so that most names are read in one call.
+NAME = 16
+
+
+def names_written(call: Callable[..., int], slot: Slot, count: int) -> tuple[str, ...]:
+    """Returns the names that a call writes, of which there are so many."""
+    lengths, written, length = (ctypes.c_size_t * count)(), ctypes.c_size_t(), ctypes.c_size_t()
+    buffer = (ctypes.c_char * (NAME * count))()
+    code = call(slot, buffer, len(buffer), length, lengths, count, written)
+    while code == _table.SMALL:
+        buffer = (ctypes.c_char * length.value)()
+        code = call(slot, buffer, len(buffer), length, lengths, count, written)
+    if not is_done(code) or written.value != count:
+        raise error_of(_table.RANGE)
+    together = ctypes.string_at(buffer, length.value)
+    ends = [0, *itertools.accumulate(lengths)]
+    return tuple(together[begin:end].decode() for begin, end in zip(ends, ends[1:]))
+
+
+def objects_stored(cls: type[T], call: Callable[..., int], slot: Slot, count: int) -> tuple[T, ...]:
+    """Returns the objects that a call stores in slots, of which there are so many. Each owns the object in its slot, and
+    keeps the array of all slots."""
+    slots, written = (Slot * count)(), ctypes.c_size_t()
+    if not is_done(call(slot, slots, count, written)) or written.value != count:
+        raise error_of(_table.RANGE)
+    return tuple(holding(cls, it) for it in slots)
 
 
 def joined_names(encoded: Sequence[Optional[bytes]]) -> tuple[bytes, int, Any, int]:

@@ -83,19 +83,13 @@ class FieldPath(Object, Sequence[Step]):
     @staticmethod
     def from_proto(parts: Iterable[Optional[str]]) -> FieldPath:
         """Returns the path that a path message describes. `parts` has the name in each part of the message, or None
-        for a part without a kind. For such a part it raises `LibraryError` 136.
+        for a part without a kind. For such a part it raises `LibraryError` (`PATH_PART_MISSING`).
 
         >>> FieldPath.from_proto(["a", "b"])
         FieldPath('a.b')
         """
         given = items_given(parts, "parts", "str and None", text_or_none_given, (Object,))
         return made(FieldPath, native.vlt_path_from_message, *joined_names(given))
-
-    @staticmethod
-    def from_proto_source(source: str) -> FieldPath:
-        """Returns the path that a path message in protobuf's text format describes. For example, the message
-        `path { name: "a" } path { name: "b" }` describes the path `a.b`."""
-        return read(FieldPath, native.vlt_path_from_message_text, text_given(source, "source"))
 
     @remembered
     def __len__(self) -> int:
@@ -119,7 +113,7 @@ class FieldPath(Object, Sequence[Step]):
     def __getitem__(self, index: slice) -> FieldPath: ...
 
     def __getitem__(self, index: Union[int, slice]) -> Union[Step, FieldPath]:
-        """Returns the step at this position, which is counted from the end if it is negative. Returns a path for a slice.
+        """Returns the step with this index, which is counted from the end if it is negative. Returns a path for a slice.
         Raises `IndexError` if the path has no such step."""
         if isinstance(index, slice):
             return FieldPath.from_steps(self._steps()[index])
@@ -186,7 +180,8 @@ class FieldPath(Object, Sequence[Step]):
         return found(FieldPath, native.vlt_path_step_into, self._slot)
 
     def starts_with_name(self, name: str) -> bool:
-        """Returns whether the first step is this name. Raises `LibraryError` 5 if that step goes into an element."""
+        """Returns whether the first step is this name. Raises `LibraryError` (`PRECONDITION`) if that step goes into
+        an element."""
         given = text_given(name, "name")
         return is_done(native.vlt_path_starts_with_name(self._slot, given, len(given)))
 
@@ -258,8 +253,9 @@ class Paths(Object):
     __slots__ = ()
 
     def all(self) -> list[FieldPath]:
+        """Takes the paths out of the list, which has roots in their places afterwards."""
         count = number(ctypes.c_size_t, native.vlt_paths_len, self._slot) or 0
-        return [made(FieldPath, native.vlt_paths_get, self._slot, it) for it in range(count)]
+        return [made(FieldPath, native.vlt_paths_take, self._slot, it) for it in range(count)]
 
 
 def _step_given(it: Step, name: Name) -> Optional[bytes]:

@@ -5,6 +5,7 @@
 
 from __future__ import annotations
 
+import array
 import ctypes
 import functools
 from collections.abc import Set as AbstractSet
@@ -13,7 +14,12 @@ from typing import Callable, Iterable, Iterator, NamedTuple, Optional, Union
 from ._arguments import instance_given
 from ._native import Object, R, found, is_done, made, native, number
 from ._paths import FieldPath, Paths, path_given, paths_given
+from ._table import Slot
 from ._types import DType
+
+
+# How many paths are inserted in one call. (A call of many compares their objects with each other, which takes longer.)
+AT_ONCE = 1000
 
 
 class Below(NamedTuple):
@@ -87,8 +93,13 @@ class FieldPathSet(Object, AbstractSet[FieldPath]):
             members = made(Paths, native.vlt_set_members, paths._slot)
             is_done(native.vlt_set_extend_from_list(self._slot, members._slot))
             return
-        for it in paths_given(paths, "paths"):
-            is_done(native.vlt_set_insert(self._slot, it._slot))
+        given = paths_given(paths, "paths")
+        # (The slots of all paths, side by side. A call doesn't take one object twice.)
+        objects = array.array("Q", dict.fromkeys(it._slot.at for it in given))
+        for begin in range(0, len(objects), AT_ONCE):
+            part = objects[begin : begin + AT_ONCE]
+            slots = (Slot * len(part)).from_buffer(part)
+            is_done(native.vlt_set_extend(self._slot, slots, len(part), ctypes.c_size_t()))
 
     def update(self, *paths: Iterable[Union[FieldPath, str]]) -> None:
         """Inserts the paths of each of these iterables. All are taken from them before the first is inserted."""
@@ -110,25 +121,25 @@ class FieldPathSet(Object, AbstractSet[FieldPath]):
 
     @_of_sets
     def __eq__(self, other: FieldPathSet) -> bool:
-        return self is other or (len(self) == len(other) and self._is_within(other))
+        return self is other or is_done(native.vlt_set_eq(self._slot, other._slot))
 
     __hash__ = None  # type: ignore[assignment]
 
     @_of_sets
     def __le__(self, other: FieldPathSet) -> bool:  # type: ignore[has-type]  # (of the opposite, which comes below)
-        return len(self) <= len(other) and self._is_within(other)
+        return self._is_within(other)
 
     @_of_sets
     def __lt__(self, other: FieldPathSet) -> bool:  # type: ignore[has-type]  # (of the opposite, which comes below)
-        return len(self) < len(other) and self._is_within(other)
+        return self._is_within(other) and not other._is_within(self)
 
     @_of_sets
     def __ge__(self, other: FieldPathSet) -> bool:
-        return len(other) <= len(self) and other._is_within(self)
+        return other._is_within(self)
 
     @_of_sets
     def __gt__(self, other: FieldPathSet) -> bool:
-        return len(other) < len(self) and other._is_within(self)
+        return other._is_within(self) and not self._is_within(other)
 
     @_of_sets
     def __or__(self, other: FieldPathSet) -> FieldPathSet:
@@ -162,9 +173,11 @@ class FieldPathSet(Object, AbstractSet[FieldPath]):
     def union(self, *others: Iterable[Union[FieldPath, str]]) -> FieldPathSet:
         """Returns the set of the paths that are in this set or in one of the others."""
         given = [_set_given(it, "others") for it in others]
-        united = made(FieldPathSet, native.vlt_set_copy, self._slot)
-        united.update(*given)
-        return united
+        united = self
+        for it in given:
+            if it is not united:
+                united = made(FieldPathSet, native.vlt_set_union, united._slot, it._slot)
+        return made(FieldPathSet, native.vlt_set_copy, self._slot) if united is self else united
 
     def intersection(self, *others: Iterable[Union[FieldPath, str]]) -> FieldPathSet:
         """Returns the set of those paths of this set that are in each of the others."""
@@ -191,12 +204,12 @@ class FieldPathSet(Object, AbstractSet[FieldPath]):
 
     def isdisjoint(self, other: Iterable[Union[FieldPath, str]]) -> bool:
         """Returns whether no path is in both sets."""
-        few, many = sorted((self, _set_given(other, "other")), key=len)
-        return not any(path in many for path in few)
+        it = _set_given(other, "other")
+        return len(self) == 0 if self is it else is_done(native.vlt_set_is_disjoint(self._slot, it._slot))
 
     def _is_within(self, other: FieldPathSet) -> bool:
         """Returns whether each path of this set is in the other."""
-        return all(path in other for path in self)
+        return self is other or is_done(native.vlt_set_is_subset(self._slot, other._slot))
 
     def members(self) -> list[FieldPath]:
         """Returns the paths of the set, each once, in no promised order."""

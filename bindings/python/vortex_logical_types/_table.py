@@ -44,27 +44,32 @@ class Numbers(ctypes.Structure):
 
 
 # begin of what tools/bindings writes
-# The call has succeeded, or the answer is true.
+# The version of the interface.
+ABI_VERSION = 2
+# The call has succeeded, or the answer is yes.
 DONE = 0
-# There is no result, or the answer is false.
+# There is no result, or the answer is no.
 NONE = 1
-# A slot is empty, or its object isn't of the kind that the call takes.
+# A slot is empty or contains an object of another kind than the call takes.
 KIND = 2
 # A text isn't UTF-8.
 UTF8 = 3
-# A text can't be read. `*position` is the byte at which reading failed, counted from 1.
+# A text can't be read.
 UNREADABLE = 4
 # The call has a precondition, and the arguments don't meet it.
 CONDITION = 5
-# A type would be nested more than 128 levels deep.
+# A type or a message would be nested more than 128 levels deep.
 DEEP = 6
-# A buffer is too small. The length that the call writes is the size that is needed.
+# A buffer is too small.
 SMALL = 7
-# Two slots of the call are the same slot.
+# Two slots of one call are the same slot, or have the same object. No proved function returns this number, but the
+# code that calls these functions does, for example the layer of C.
 SAME_SLOT = 8
 # An argument is out of its range.
 RANGE = 9
-# Memory ran out, which is the library's error 0. The library's error n, up to 36, is this number plus n.
+# A schema of Arrow has no type of this library, or a type no schema.
+ARROW = 10
+# An allocation failed. This is also the number to which the number of an error of the library is added.
 LIBRARY = 100
 
 
@@ -123,355 +128,198 @@ class Node(Numbers):
         )
 
 
+SLOT_AT = ctypes.POINTER(Slot)
+TEXT = ctypes.c_char_p
+BUFFER = ctypes.c_void_p
+SIZE = ctypes.c_size_t
+SIZE_AT = ctypes.POINTER(ctypes.c_size_t)
+BOOL = ctypes.c_bool
+BOOL_AT = ctypes.POINTER(ctypes.c_bool)
+U8 = ctypes.c_uint8
+U8_AT = ctypes.POINTER(ctypes.c_uint8)
+U32 = ctypes.c_uint32
+U32_AT = ctypes.POINTER(ctypes.c_uint32)
+U64_AT = ctypes.POINTER(ctypes.c_uint64)
+I8 = ctypes.c_int8
+I8_AT = ctypes.POINTER(ctypes.c_int8)
+NODE_AT = ctypes.POINTER(Node)
+
 FUNCTIONS = {
-    "vlt_answer": (ctypes.c_uint32, [
-        ctypes.c_char_p,
-        ctypes.c_size_t,
-        ctypes.c_void_p,
-        ctypes.c_size_t,
-        ctypes.POINTER(ctypes.c_size_t),
-    ]),
-    "vlt_error_text": (ctypes.c_uint32, [
-        ctypes.c_uint32,
-        ctypes.c_void_p,
-        ctypes.c_size_t,
-        ctypes.POINTER(ctypes.c_size_t),
-    ]),
-    "vlt_abi_version": (ctypes.c_uint32, []),
-    "vlt_free": (None, [ctypes.POINTER(Slot)]),
-    "vlt_kind": (ctypes.c_uint32, [ctypes.POINTER(Slot)]),
-    "vlt_dtype_null": (ctypes.c_uint32, [ctypes.POINTER(Slot)]),
-    "vlt_dtype_bool": (ctypes.c_uint32, [ctypes.c_bool, ctypes.POINTER(Slot)]),
-    "vlt_dtype_utf8": (ctypes.c_uint32, [ctypes.c_bool, ctypes.POINTER(Slot)]),
-    "vlt_dtype_binary": (ctypes.c_uint32, [ctypes.c_bool, ctypes.POINTER(Slot)]),
-    "vlt_dtype_variant": (ctypes.c_uint32, [ctypes.c_bool, ctypes.POINTER(Slot)]),
-    "vlt_dtype_primitive": (ctypes.c_uint32, [ctypes.c_uint32, ctypes.c_bool, ctypes.POINTER(Slot)]),
-    "vlt_dtype_decimal": (ctypes.c_uint32, [ctypes.c_uint8, ctypes.c_int8, ctypes.c_bool, ctypes.POINTER(Slot)]),
-    "vlt_dtype_list": (ctypes.c_uint32, [ctypes.POINTER(Slot), ctypes.c_bool, ctypes.POINTER(Slot)]),
-    "vlt_dtype_fixed_size_list": (ctypes.c_uint32, [
-        ctypes.POINTER(Slot),
-        ctypes.c_uint32,
-        ctypes.c_bool,
-        ctypes.POINTER(Slot),
-    ]),
-    "vlt_dtype_struct": (ctypes.c_uint32, [
-        ctypes.c_char_p,
-        ctypes.c_size_t,
-        ctypes.POINTER(ctypes.c_size_t),
-        ctypes.c_size_t,
-        ctypes.POINTER(Slot),
-        ctypes.c_size_t,
-        ctypes.c_bool,
-        ctypes.POINTER(Slot),
-    ]),
-    "vlt_dtype_union": (ctypes.c_uint32, [
-        ctypes.c_char_p,
-        ctypes.c_size_t,
-        ctypes.POINTER(ctypes.c_size_t),
-        ctypes.c_size_t,
-        ctypes.POINTER(Slot),
-        ctypes.c_size_t,
-        ctypes.c_char_p,
-        ctypes.c_size_t,
-        ctypes.c_bool,
-        ctypes.POINTER(Slot),
-    ]),
-    "vlt_dtype_union_consecutive": (ctypes.c_uint32, [
-        ctypes.c_char_p,
-        ctypes.c_size_t,
-        ctypes.POINTER(ctypes.c_size_t),
-        ctypes.c_size_t,
-        ctypes.POINTER(Slot),
-        ctypes.c_size_t,
-        ctypes.c_bool,
-        ctypes.POINTER(Slot),
-    ]),
-    "vlt_dtype_to_message": (ctypes.c_uint32, [ctypes.POINTER(Slot), ctypes.POINTER(Slot)]),
-    "vlt_dtype_with_nullability": (ctypes.c_uint32, [ctypes.POINTER(Slot), ctypes.c_bool, ctypes.POINTER(Slot)]),
-    "vlt_dtype_union_nullability": (ctypes.c_uint32, [ctypes.POINTER(Slot), ctypes.c_bool, ctypes.POINTER(Slot)]),
-    "vlt_dtype_hash": (ctypes.c_uint32, [ctypes.POINTER(Slot), ctypes.POINTER(ctypes.c_uint64)]),
-    "vlt_dtype_hash_ignore_nullability": (ctypes.c_uint32, [ctypes.POINTER(Slot), ctypes.POINTER(ctypes.c_uint64)]),
-    "vlt_dtype_element": (ctypes.c_uint32, [ctypes.POINTER(Slot), ctypes.POINTER(Slot)]),
-    "vlt_dtype_key": (ctypes.c_uint32, [ctypes.POINTER(Slot), ctypes.POINTER(Slot)]),
-    "vlt_dtype_value": (ctypes.c_uint32, [ctypes.POINTER(Slot), ctypes.POINTER(Slot)]),
-    "vlt_dtype_storage": (ctypes.c_uint32, [ctypes.POINTER(Slot), ctypes.POINTER(Slot)]),
-    "vlt_dtype_ptype": (ctypes.c_uint32, [ctypes.POINTER(Slot), ctypes.POINTER(ctypes.c_uint32)]),
-    "vlt_dtype_id": (ctypes.c_uint32, [
-        ctypes.POINTER(Slot),
-        ctypes.c_void_p,
-        ctypes.c_size_t,
-        ctypes.POINTER(ctypes.c_size_t),
-    ]),
-    "vlt_dtype_metadata": (ctypes.c_uint32, [
-        ctypes.POINTER(Slot),
-        ctypes.c_void_p,
-        ctypes.c_size_t,
-        ctypes.POINTER(ctypes.c_size_t),
-    ]),
-    "vlt_dtype_fixed_size": (ctypes.c_uint32, [ctypes.POINTER(Slot), ctypes.POINTER(ctypes.c_uint32)]),
-    "vlt_dtype_decimal_parts": (ctypes.c_uint32, [
-        ctypes.POINTER(Slot),
-        ctypes.POINTER(ctypes.c_uint8),
-        ctypes.POINTER(ctypes.c_int8),
-    ]),
-    "vlt_dtype_keys_sorted": (ctypes.c_uint32, [ctypes.POINTER(Slot)]),
-    "vlt_dtype_from_text": (ctypes.c_uint32, [
-        ctypes.c_char_p,
-        ctypes.c_size_t,
-        ctypes.POINTER(Slot),
-        ctypes.POINTER(ctypes.c_size_t),
-    ]),
-    "vlt_dtype_to_text": (ctypes.c_uint32, [
-        ctypes.POINTER(Slot),
-        ctypes.c_void_p,
-        ctypes.c_size_t,
-        ctypes.POINTER(ctypes.c_size_t),
-    ]),
-    "vlt_dtype_display": (ctypes.c_uint32, [
-        ctypes.POINTER(Slot),
-        ctypes.c_void_p,
-        ctypes.c_size_t,
-        ctypes.POINTER(ctypes.c_size_t),
-    ]),
-    "vlt_dtype_copy": (ctypes.c_uint32, [ctypes.POINTER(Slot), ctypes.POINTER(Slot)]),
-    "vlt_dtype_eq": (ctypes.c_uint32, [ctypes.POINTER(Slot), ctypes.POINTER(Slot)]),
-    "vlt_dtype_eq_ignore_nullability": (ctypes.c_uint32, [ctypes.POINTER(Slot), ctypes.POINTER(Slot)]),
-    "vlt_dtype_nullability_subset": (ctypes.c_uint32, [ctypes.POINTER(Slot), ctypes.POINTER(Slot)]),
-    "vlt_dtype_nullability_superset": (ctypes.c_uint32, [ctypes.POINTER(Slot), ctypes.POINTER(Slot)]),
-    "vlt_dtype_merge_nullability": (ctypes.c_uint32, [
-        ctypes.POINTER(Slot),
-        ctypes.POINTER(Slot),
-        ctypes.POINTER(Slot),
-    ]),
-    "vlt_dtype_intersect_nullability": (ctypes.c_uint32, [
-        ctypes.POINTER(Slot),
-        ctypes.POINTER(Slot),
-        ctypes.POINTER(Slot),
-    ]),
-    "vlt_dtype_kind": (ctypes.c_uint32, [ctypes.POINTER(Slot), ctypes.POINTER(ctypes.c_uint32)]),
-    "vlt_dtype_is_nullable": (ctypes.c_uint32, [ctypes.POINTER(Slot)]),
-    "vlt_dtype_can_be_nonnullable": (ctypes.c_uint32, [ctypes.POINTER(Slot)]),
-    "vlt_dtype_element_size": (ctypes.c_uint32, [ctypes.POINTER(Slot), ctypes.POINTER(ctypes.c_size_t)]),
-    "vlt_dtype_entries": (ctypes.c_uint32, [ctypes.POINTER(Slot), ctypes.POINTER(Slot)]),
-    "vlt_dtype_map": (ctypes.c_uint32, [
-        ctypes.POINTER(Slot),
-        ctypes.POINTER(Slot),
-        ctypes.c_bool,
-        ctypes.c_bool,
-        ctypes.POINTER(Slot),
-    ]),
-    "vlt_dtype_extension": (ctypes.c_uint32, [
-        ctypes.c_char_p,
-        ctypes.c_size_t,
-        ctypes.c_char_p,
-        ctypes.c_size_t,
-        ctypes.POINTER(Slot),
-        ctypes.POINTER(Slot),
-    ]),
-    "vlt_struct_without_field": (ctypes.c_uint32, [ctypes.POINTER(Slot), ctypes.c_size_t, ctypes.POINTER(Slot)]),
-    "vlt_struct_disjoint_merge": (ctypes.c_uint32, [ctypes.POINTER(Slot), ctypes.POINTER(Slot), ctypes.POINTER(Slot)]),
-    "vlt_struct_project": (ctypes.c_uint32, [
-        ctypes.POINTER(Slot),
-        ctypes.c_char_p,
-        ctypes.c_size_t,
-        ctypes.POINTER(ctypes.c_size_t),
-        ctypes.c_size_t,
-        ctypes.POINTER(Slot),
-    ]),
-    "vlt_struct_nfields": (ctypes.c_uint32, [ctypes.POINTER(Slot), ctypes.POINTER(ctypes.c_size_t)]),
-    "vlt_struct_field_by_index": (ctypes.c_uint32, [ctypes.POINTER(Slot), ctypes.c_size_t, ctypes.POINTER(Slot)]),
-    "vlt_struct_find": (ctypes.c_uint32, [
-        ctypes.POINTER(Slot),
-        ctypes.c_char_p,
-        ctypes.c_size_t,
-        ctypes.POINTER(ctypes.c_size_t),
-    ]),
-    "vlt_struct_field": (ctypes.c_uint32, [
-        ctypes.POINTER(Slot),
-        ctypes.c_char_p,
-        ctypes.c_size_t,
-        ctypes.POINTER(Slot),
-    ]),
-    "vlt_struct_field_name": (ctypes.c_uint32, [
-        ctypes.POINTER(Slot),
-        ctypes.c_size_t,
-        ctypes.c_void_p,
-        ctypes.c_size_t,
-        ctypes.POINTER(ctypes.c_size_t),
-    ]),
-    "vlt_struct_indented": (ctypes.c_uint32, [
-        ctypes.POINTER(Slot),
-        ctypes.c_void_p,
-        ctypes.c_size_t,
-        ctypes.POINTER(ctypes.c_size_t),
-    ]),
-    "vlt_union_len": (ctypes.c_uint32, [ctypes.POINTER(Slot), ctypes.POINTER(ctypes.c_size_t)]),
-    "vlt_union_variant_by_index": (ctypes.c_uint32, [ctypes.POINTER(Slot), ctypes.c_size_t, ctypes.POINTER(Slot)]),
-    "vlt_union_find": (ctypes.c_uint32, [
-        ctypes.POINTER(Slot),
-        ctypes.c_char_p,
-        ctypes.c_size_t,
-        ctypes.POINTER(ctypes.c_size_t),
-    ]),
-    "vlt_union_variant": (ctypes.c_uint32, [
-        ctypes.POINTER(Slot),
-        ctypes.c_char_p,
-        ctypes.c_size_t,
-        ctypes.POINTER(Slot),
-    ]),
-    "vlt_union_tag_to_child_index": (ctypes.c_uint32, [
-        ctypes.POINTER(Slot),
-        ctypes.c_uint8,
-        ctypes.POINTER(ctypes.c_size_t),
-    ]),
-    "vlt_union_child_index_to_tag": (ctypes.c_uint32, [
-        ctypes.POINTER(Slot),
-        ctypes.c_size_t,
-        ctypes.POINTER(ctypes.c_uint8),
-    ]),
-    "vlt_union_variant_name": (ctypes.c_uint32, [
-        ctypes.POINTER(Slot),
-        ctypes.c_size_t,
-        ctypes.c_void_p,
-        ctypes.c_size_t,
-        ctypes.POINTER(ctypes.c_size_t),
-    ]),
-    "vlt_union_is_consecutive": (ctypes.c_uint32, [ctypes.POINTER(Slot)]),
-    "vlt_path_from_message": (ctypes.c_uint32, [
-        ctypes.c_char_p,
-        ctypes.c_size_t,
-        ctypes.POINTER(ctypes.c_size_t),
-        ctypes.c_size_t,
-        ctypes.POINTER(Slot),
-    ]),
-    "vlt_path_from_message_text": (ctypes.c_uint32, [
-        ctypes.c_char_p,
-        ctypes.c_size_t,
-        ctypes.POINTER(Slot),
-        ctypes.POINTER(ctypes.c_size_t),
-    ]),
-    "vlt_path_from_text": (ctypes.c_uint32, [
-        ctypes.c_char_p,
-        ctypes.c_size_t,
-        ctypes.POINTER(Slot),
-        ctypes.POINTER(ctypes.c_size_t),
-    ]),
-    "vlt_path_to_text": (ctypes.c_uint32, [
-        ctypes.POINTER(Slot),
-        ctypes.c_void_p,
-        ctypes.c_size_t,
-        ctypes.POINTER(ctypes.c_size_t),
-    ]),
-    "vlt_path_root": (ctypes.c_uint32, [ctypes.POINTER(Slot)]),
-    "vlt_path_len": (ctypes.c_uint32, [ctypes.POINTER(Slot), ctypes.POINTER(ctypes.c_size_t)]),
-    "vlt_path_step": (ctypes.c_uint32, [
-        ctypes.POINTER(Slot),
-        ctypes.c_size_t,
-        ctypes.c_void_p,
-        ctypes.c_size_t,
-        ctypes.POINTER(ctypes.c_size_t),
-    ]),
-    "vlt_path_push_name": (ctypes.c_uint32, [
-        ctypes.POINTER(Slot),
-        ctypes.c_char_p,
-        ctypes.c_size_t,
-        ctypes.POINTER(Slot),
-    ]),
-    "vlt_path_push_element": (ctypes.c_uint32, [ctypes.POINTER(Slot), ctypes.POINTER(Slot)]),
-    "vlt_path_step_into": (ctypes.c_uint32, [ctypes.POINTER(Slot), ctypes.POINTER(Slot)]),
-    "vlt_path_copy": (ctypes.c_uint32, [ctypes.POINTER(Slot), ctypes.POINTER(Slot)]),
-    "vlt_path_eq": (ctypes.c_uint32, [ctypes.POINTER(Slot), ctypes.POINTER(Slot)]),
-    "vlt_path_overlap": (ctypes.c_uint32, [ctypes.POINTER(Slot), ctypes.POINTER(Slot)]),
-    "vlt_path_resolve": (ctypes.c_uint32, [ctypes.POINTER(Slot), ctypes.POINTER(Slot), ctypes.POINTER(Slot)]),
-    "vlt_path_exists_in": (ctypes.c_uint32, [ctypes.POINTER(Slot), ctypes.POINTER(Slot)]),
-    "vlt_path_display": (ctypes.c_uint32, [
-        ctypes.POINTER(Slot),
-        ctypes.c_void_p,
-        ctypes.c_size_t,
-        ctypes.POINTER(ctypes.c_size_t),
-    ]),
-    "vlt_path_starts_with_name": (ctypes.c_uint32, [ctypes.POINTER(Slot), ctypes.c_char_p, ctypes.c_size_t]),
-    "vlt_path_hash": (ctypes.c_uint32, [ctypes.POINTER(Slot), ctypes.POINTER(ctypes.c_uint64)]),
-    "vlt_path_from_steps": (ctypes.c_uint32, [
-        ctypes.c_char_p,
-        ctypes.c_size_t,
-        ctypes.POINTER(ctypes.c_size_t),
-        ctypes.c_size_t,
-        ctypes.POINTER(Slot),
-    ]),
-    "vlt_set_below": (ctypes.c_uint32, [
-        ctypes.POINTER(Slot),
-        ctypes.POINTER(Slot),
-        ctypes.POINTER(ctypes.c_bool),
-        ctypes.POINTER(ctypes.c_bool),
-        ctypes.POINTER(ctypes.c_size_t),
-    ]),
-    "vlt_set_names_below": (ctypes.c_uint32, [ctypes.POINTER(Slot), ctypes.POINTER(Slot), ctypes.POINTER(Slot)]),
-    "vlt_set_new": (ctypes.c_uint32, [ctypes.POINTER(Slot)]),
-    "vlt_set_insert": (ctypes.c_uint32, [ctypes.POINTER(Slot), ctypes.POINTER(Slot)]),
-    "vlt_set_contains": (ctypes.c_uint32, [ctypes.POINTER(Slot), ctypes.POINTER(Slot)]),
-    "vlt_set_copy": (ctypes.c_uint32, [ctypes.POINTER(Slot), ctypes.POINTER(Slot)]),
-    "vlt_set_cover": (ctypes.c_uint32, [ctypes.POINTER(Slot), ctypes.POINTER(Slot)]),
-    "vlt_set_members": (ctypes.c_uint32, [ctypes.POINTER(Slot), ctypes.POINTER(Slot)]),
-    "vlt_set_unresolved": (ctypes.c_uint32, [ctypes.POINTER(Slot), ctypes.POINTER(Slot), ctypes.POINTER(Slot)]),
-    "vlt_set_len": (ctypes.c_uint32, [ctypes.POINTER(Slot), ctypes.POINTER(ctypes.c_size_t)]),
-    "vlt_set_extend": (ctypes.c_uint32, [
-        ctypes.POINTER(Slot),
-        ctypes.POINTER(Slot),
-        ctypes.c_size_t,
-        ctypes.POINTER(ctypes.c_size_t),
-    ]),
-    "vlt_set_extend_from_list": (ctypes.c_uint32, [ctypes.POINTER(Slot), ctypes.POINTER(Slot)]),
-    "vlt_paths_len": (ctypes.c_uint32, [ctypes.POINTER(Slot), ctypes.POINTER(ctypes.c_size_t)]),
-    "vlt_paths_get": (ctypes.c_uint32, [ctypes.POINTER(Slot), ctypes.c_size_t, ctypes.POINTER(Slot)]),
-    "vlt_project_paths": (ctypes.c_uint32, [ctypes.POINTER(Slot), ctypes.POINTER(Slot), ctypes.POINTER(Slot)]),
-    "vlt_mask_all": (ctypes.c_uint32, [ctypes.POINTER(Slot)]),
-    "vlt_mask_prefix": (ctypes.c_uint32, [ctypes.POINTER(Slot), ctypes.POINTER(Slot)]),
-    "vlt_mask_exact": (ctypes.c_uint32, [ctypes.POINTER(Slot), ctypes.POINTER(Slot)]),
-    "vlt_mask_kind": (ctypes.c_uint32, [ctypes.POINTER(Slot), ctypes.POINTER(ctypes.c_uint32)]),
-    "vlt_mask_path": (ctypes.c_uint32, [ctypes.POINTER(Slot), ctypes.POINTER(Slot)]),
-    "vlt_mask_copy": (ctypes.c_uint32, [ctypes.POINTER(Slot), ctypes.POINTER(Slot)]),
-    "vlt_mask_step_into": (ctypes.c_uint32, [ctypes.POINTER(Slot), ctypes.POINTER(Slot)]),
-    "vlt_mask_starting_field": (ctypes.c_uint32, [
-        ctypes.POINTER(Slot),
-        ctypes.c_void_p,
-        ctypes.c_size_t,
-        ctypes.POINTER(ctypes.c_size_t),
-    ]),
-    "vlt_mask_matches_all": (ctypes.c_uint32, [ctypes.POINTER(Slot)]),
-    "vlt_mask_matches_root": (ctypes.c_uint32, [ctypes.POINTER(Slot)]),
-    "vlt_mask_eq": (ctypes.c_uint32, [ctypes.POINTER(Slot), ctypes.POINTER(Slot)]),
-    "vlt_message_from_text": (ctypes.c_uint32, [
-        ctypes.c_char_p,
-        ctypes.c_size_t,
-        ctypes.POINTER(Slot),
-        ctypes.POINTER(ctypes.c_size_t),
-    ]),
-    "vlt_message_to_text": (ctypes.c_uint32, [
-        ctypes.POINTER(Slot),
-        ctypes.c_void_p,
-        ctypes.c_size_t,
-        ctypes.POINTER(ctypes.c_size_t),
-    ]),
-    "vlt_message_copy": (ctypes.c_uint32, [ctypes.POINTER(Slot), ctypes.POINTER(Slot)]),
-    "vlt_message_eq": (ctypes.c_uint32, [ctypes.POINTER(Slot), ctypes.POINTER(Slot)]),
-    "vlt_message_to_dtype": (ctypes.c_uint32, [ctypes.POINTER(Slot), ctypes.c_bool, ctypes.POINTER(Slot)]),
-    "vlt_message_normal": (ctypes.c_uint32, [ctypes.POINTER(Slot), ctypes.c_bool, ctypes.POINTER(Slot)]),
-    "vlt_message_from_nodes": (ctypes.c_uint32, [
-        ctypes.POINTER(Node),
-        ctypes.c_size_t,
-        ctypes.c_char_p,
-        ctypes.c_size_t,
-        ctypes.POINTER(Slot),
-    ]),
-    "vlt_message_to_nodes": (ctypes.c_uint32, [
-        ctypes.POINTER(Slot),
-        ctypes.POINTER(Node),
-        ctypes.c_size_t,
-        ctypes.POINTER(ctypes.c_size_t),
-        ctypes.c_void_p,
-        ctypes.c_size_t,
-        ctypes.POINTER(ctypes.c_size_t),
-    ]),
+    "vlt_abi_version": (U32, []),
+    "vlt_free": (None, [SLOT_AT]),
+    "vlt_kind": (U32, [SLOT_AT]),
+    "vlt_dtype_null": (U32, [SLOT_AT]),
+    "vlt_dtype_bool": (U32, [BOOL, SLOT_AT]),
+    "vlt_dtype_utf8": (U32, [BOOL, SLOT_AT]),
+    "vlt_dtype_binary": (U32, [BOOL, SLOT_AT]),
+    "vlt_dtype_variant": (U32, [BOOL, SLOT_AT]),
+    "vlt_dtype_primitive": (U32, [U32, BOOL, SLOT_AT]),
+    "vlt_dtype_decimal": (U32, [U8, I8, BOOL, SLOT_AT, SLOT_AT]),
+    "vlt_dtype_list": (U32, [SLOT_AT, BOOL, SLOT_AT]),
+    "vlt_dtype_fixed_size_list": (U32, [SLOT_AT, U32, BOOL, SLOT_AT]),
+    "vlt_dtype_struct": (U32, [SLOT_AT, BOOL, SLOT_AT]),
+    "vlt_dtype_union": (U32, [SLOT_AT, TEXT, SIZE, BOOL, SLOT_AT, SLOT_AT]),
+    "vlt_dtype_union_consecutive": (U32, [SLOT_AT, BOOL, SLOT_AT, SLOT_AT]),
+    "vlt_dtype_merge_columns": (U32, [SLOT_AT, SLOT_AT, SLOT_AT]),
+    "vlt_dtype_merge_conflict": (U32, [SLOT_AT, SLOT_AT, SLOT_AT, SLOT_AT, SLOT_AT]),
+    "vlt_dtype_to_message": (U32, [SLOT_AT, SLOT_AT]),
+    "vlt_dtype_with_nullability": (U32, [SLOT_AT, BOOL, SLOT_AT]),
+    "vlt_dtype_union_nullability": (U32, [SLOT_AT, BOOL, SLOT_AT]),
+    "vlt_dtype_hash": (U32, [SLOT_AT, U64_AT]),
+    "vlt_dtype_hash_ignore_nullability": (U32, [SLOT_AT, U64_AT]),
+    "vlt_dtype_element": (U32, [SLOT_AT, SLOT_AT]),
+    "vlt_dtype_key": (U32, [SLOT_AT, SLOT_AT]),
+    "vlt_dtype_value": (U32, [SLOT_AT, SLOT_AT]),
+    "vlt_dtype_storage": (U32, [SLOT_AT, SLOT_AT]),
+    "vlt_dtype_ptype": (U32, [SLOT_AT, U32_AT]),
+    "vlt_dtype_id": (U32, [SLOT_AT, BUFFER, SIZE, SIZE_AT]),
+    "vlt_dtype_metadata": (U32, [SLOT_AT, BUFFER, SIZE, SIZE_AT]),
+    "vlt_dtype_fixed_size": (U32, [SLOT_AT, U32_AT]),
+    "vlt_dtype_decimal_parts": (U32, [SLOT_AT, U8_AT, I8_AT]),
+    "vlt_dtype_keys_sorted": (U32, [SLOT_AT]),
+    "vlt_dtype_from_text": (U32, [TEXT, SIZE, SLOT_AT, SLOT_AT]),
+    "vlt_dtype_to_text": (U32, [SLOT_AT, BUFFER, SIZE, SIZE_AT]),
+    "vlt_dtype_display": (U32, [SLOT_AT, BUFFER, SIZE, SIZE_AT]),
+    "vlt_dtype_copy": (U32, [SLOT_AT, SLOT_AT]),
+    "vlt_dtype_eq": (U32, [SLOT_AT, SLOT_AT]),
+    "vlt_dtype_eq_ignore_nullability": (U32, [SLOT_AT, SLOT_AT]),
+    "vlt_dtype_nullability_subset": (U32, [SLOT_AT, SLOT_AT]),
+    "vlt_dtype_nullability_superset": (U32, [SLOT_AT, SLOT_AT]),
+    "vlt_dtype_merge_nullability": (U32, [SLOT_AT, SLOT_AT, SLOT_AT]),
+    "vlt_dtype_intersect_nullability": (U32, [SLOT_AT, SLOT_AT, SLOT_AT]),
+    "vlt_dtype_kind": (U32, [SLOT_AT, U32_AT]),
+    "vlt_dtype_is_nullable": (U32, [SLOT_AT]),
+    "vlt_dtype_can_be_nonnullable": (U32, [SLOT_AT]),
+    "vlt_dtype_element_size": (U32, [SLOT_AT, SIZE_AT, SLOT_AT]),
+    "vlt_dtype_entries": (U32, [SLOT_AT, SLOT_AT]),
+    "vlt_dtype_map": (U32, [SLOT_AT, SLOT_AT, BOOL, BOOL, SLOT_AT, SLOT_AT]),
+    "vlt_dtype_extension": (U32, [TEXT, SIZE, TEXT, SIZE, SLOT_AT, SLOT_AT]),
+    "vlt_struct_names": (U32, [SLOT_AT, BUFFER, SIZE, SIZE_AT, SIZE_AT, SIZE, SIZE_AT]),
+    "vlt_struct_types": (U32, [SLOT_AT, SLOT_AT, SIZE, SIZE_AT]),
+    "vlt_struct_without_field": (U32, [SLOT_AT, SIZE, SLOT_AT, SLOT_AT]),
+    "vlt_struct_disjoint_merge": (U32, [SLOT_AT, SLOT_AT, SLOT_AT, SLOT_AT]),
+    "vlt_struct_project": (U32, [SLOT_AT, TEXT, SIZE, SIZE_AT, SIZE, SLOT_AT, SLOT_AT]),
+    "vlt_struct_nfields": (U32, [SLOT_AT, SIZE_AT]),
+    "vlt_struct_field_by_index": (U32, [SLOT_AT, SIZE, SLOT_AT]),
+    "vlt_struct_find": (U32, [SLOT_AT, TEXT, SIZE, SIZE_AT]),
+    "vlt_struct_field": (U32, [SLOT_AT, TEXT, SIZE, SLOT_AT]),
+    "vlt_struct_field_name": (U32, [SLOT_AT, SIZE, BUFFER, SIZE, SIZE_AT]),
+    "vlt_struct_indented": (U32, [SLOT_AT, BUFFER, SIZE, SIZE_AT]),
+    "vlt_union_names": (U32, [SLOT_AT, BUFFER, SIZE, SIZE_AT, SIZE_AT, SIZE, SIZE_AT]),
+    "vlt_union_types": (U32, [SLOT_AT, SLOT_AT, SIZE, SIZE_AT]),
+    "vlt_union_len": (U32, [SLOT_AT, SIZE_AT]),
+    "vlt_union_variant_by_index": (U32, [SLOT_AT, SIZE, SLOT_AT]),
+    "vlt_union_find": (U32, [SLOT_AT, TEXT, SIZE, SIZE_AT]),
+    "vlt_union_variant": (U32, [SLOT_AT, TEXT, SIZE, SLOT_AT]),
+    "vlt_union_tag_to_child_index": (U32, [SLOT_AT, U8, SIZE_AT]),
+    "vlt_union_child_index_to_tag": (U32, [SLOT_AT, SIZE, U8_AT]),
+    "vlt_union_variant_name": (U32, [SLOT_AT, SIZE, BUFFER, SIZE, SIZE_AT]),
+    "vlt_union_is_consecutive": (U32, [SLOT_AT]),
+    "vlt_fields_new": (U32, [SLOT_AT]),
+    "vlt_fields_push": (U32, [SLOT_AT, TEXT, SIZE, SLOT_AT]),
+    "vlt_path_from_message": (U32, [TEXT, SIZE, SIZE_AT, SIZE, SLOT_AT, SLOT_AT]),
+    "vlt_path_from_text": (U32, [TEXT, SIZE, SLOT_AT, SLOT_AT]),
+    "vlt_path_to_text": (U32, [SLOT_AT, BUFFER, SIZE, SIZE_AT]),
+    "vlt_path_root": (U32, [SLOT_AT]),
+    "vlt_path_len": (U32, [SLOT_AT, SIZE_AT]),
+    "vlt_path_step": (U32, [SLOT_AT, SIZE, BUFFER, SIZE, SIZE_AT]),
+    "vlt_path_push_name": (U32, [SLOT_AT, TEXT, SIZE, SLOT_AT]),
+    "vlt_path_push_element": (U32, [SLOT_AT, SLOT_AT]),
+    "vlt_path_step_into": (U32, [SLOT_AT, SLOT_AT]),
+    "vlt_path_copy": (U32, [SLOT_AT, SLOT_AT]),
+    "vlt_path_eq": (U32, [SLOT_AT, SLOT_AT]),
+    "vlt_path_overlap": (U32, [SLOT_AT, SLOT_AT]),
+    "vlt_path_resolve": (U32, [SLOT_AT, SLOT_AT, SLOT_AT]),
+    "vlt_path_exists_in": (U32, [SLOT_AT, SLOT_AT]),
+    "vlt_path_display": (U32, [SLOT_AT, BUFFER, SIZE, SIZE_AT]),
+    "vlt_path_starts_with_name": (U32, [SLOT_AT, TEXT, SIZE]),
+    "vlt_path_hash": (U32, [SLOT_AT, U64_AT]),
+    "vlt_path_from_steps": (U32, [TEXT, SIZE, SIZE_AT, SIZE, SLOT_AT]),
+    "vlt_set_below": (U32, [SLOT_AT, SLOT_AT, BOOL_AT, BOOL_AT, SIZE_AT]),
+    "vlt_set_names_below": (U32, [SLOT_AT, SLOT_AT, SLOT_AT]),
+    "vlt_set_eq": (U32, [SLOT_AT, SLOT_AT]),
+    "vlt_set_is_subset": (U32, [SLOT_AT, SLOT_AT]),
+    "vlt_set_is_disjoint": (U32, [SLOT_AT, SLOT_AT]),
+    "vlt_set_union": (U32, [SLOT_AT, SLOT_AT, SLOT_AT]),
+    "vlt_set_new": (U32, [SLOT_AT]),
+    "vlt_set_insert": (U32, [SLOT_AT, SLOT_AT]),
+    "vlt_set_contains": (U32, [SLOT_AT, SLOT_AT]),
+    "vlt_set_copy": (U32, [SLOT_AT, SLOT_AT]),
+    "vlt_set_cover": (U32, [SLOT_AT, SLOT_AT]),
+    "vlt_set_members": (U32, [SLOT_AT, SLOT_AT]),
+    "vlt_set_unresolved": (U32, [SLOT_AT, SLOT_AT, SLOT_AT]),
+    "vlt_set_len": (U32, [SLOT_AT, SIZE_AT]),
+    "vlt_set_extend": (U32, [SLOT_AT, SLOT_AT, SIZE, SIZE_AT]),
+    "vlt_set_extend_from_list": (U32, [SLOT_AT, SLOT_AT]),
+    "vlt_paths_take": (U32, [SLOT_AT, SIZE, SLOT_AT]),
+    "vlt_paths_len": (U32, [SLOT_AT, SIZE_AT]),
+    "vlt_paths_get": (U32, [SLOT_AT, SIZE, SLOT_AT]),
+    "vlt_project_paths": (U32, [SLOT_AT, SLOT_AT, SLOT_AT]),
+    "vlt_mask_all": (U32, [SLOT_AT]),
+    "vlt_mask_prefix": (U32, [SLOT_AT, SLOT_AT]),
+    "vlt_mask_exact": (U32, [SLOT_AT, SLOT_AT]),
+    "vlt_mask_kind": (U32, [SLOT_AT, U32_AT]),
+    "vlt_mask_path": (U32, [SLOT_AT, SLOT_AT]),
+    "vlt_mask_copy": (U32, [SLOT_AT, SLOT_AT]),
+    "vlt_mask_step_into": (U32, [SLOT_AT, SLOT_AT, SLOT_AT]),
+    "vlt_mask_starting_field": (U32, [SLOT_AT, BUFFER, SIZE, SIZE_AT, SLOT_AT]),
+    "vlt_mask_matches_all": (U32, [SLOT_AT]),
+    "vlt_mask_matches_root": (U32, [SLOT_AT]),
+    "vlt_mask_eq": (U32, [SLOT_AT, SLOT_AT]),
+    "vlt_message_copy": (U32, [SLOT_AT, SLOT_AT]),
+    "vlt_message_eq": (U32, [SLOT_AT, SLOT_AT]),
+    "vlt_message_to_dtype": (U32, [SLOT_AT, BOOL, SLOT_AT, SLOT_AT]),
+    "vlt_message_normal": (U32, [SLOT_AT, BOOL, SLOT_AT, SLOT_AT]),
+    "vlt_message_from_nodes": (U32, [NODE_AT, SIZE, TEXT, SIZE, SLOT_AT]),
+    "vlt_message_to_nodes": (U32, [SLOT_AT, NODE_AT, SIZE, SIZE_AT, BUFFER, SIZE, SIZE_AT]),
+    "vlt_error_text": (U32, [U32, BUFFER, SIZE, SIZE_AT]),
+    "vlt_error_number": (U32, [SLOT_AT, U32_AT]),
+    "vlt_error_position": (U32, [SLOT_AT, SIZE_AT]),
+    "vlt_error_message": (U32, [SLOT_AT, BUFFER, SIZE, SIZE_AT]),
 }
+
+# The functions whose last parameter is a slot for the error of a call that fails.
+WITH_ERRORS = (
+    "vlt_dtype_decimal",
+    "vlt_dtype_union",
+    "vlt_dtype_union_consecutive",
+    "vlt_dtype_from_text",
+    "vlt_dtype_element_size",
+    "vlt_dtype_map",
+    "vlt_struct_without_field",
+    "vlt_struct_disjoint_merge",
+    "vlt_struct_project",
+    "vlt_path_from_message",
+    "vlt_path_from_text",
+    "vlt_mask_step_into",
+    "vlt_mask_starting_field",
+    "vlt_message_to_dtype",
+    "vlt_message_normal",
+)
 # end of what tools/bindings writes
+
+
+class ArrowSchema(ctypes.Structure):
+    """A field of Arrow, as its C data interface passes it."""
+
+
+ArrowSchema._fields_ = [
+    ("format", ctypes.c_char_p),
+    ("name", ctypes.c_char_p),
+    ("metadata", ctypes.c_void_p),
+    ("flags", ctypes.c_int64),
+    ("n_children", ctypes.c_int64),
+    ("children", ctypes.POINTER(ctypes.POINTER(ArrowSchema))),
+    ("dictionary", ctypes.POINTER(ArrowSchema)),
+    ("release", ctypes.CFUNCTYPE(None, ctypes.POINTER(ArrowSchema))),
+    ("private_data", ctypes.c_void_p),
+]
+ARROW_SCHEMA_AT = ctypes.POINTER(ArrowSchema)
+
+# The functions of bindings/c/arrow.c.
+ARROW_FUNCTIONS = {
+    "vlt_dtype_from_arrow": (U32, [ARROW_SCHEMA_AT, SLOT_AT, SLOT_AT]),
+    "vlt_dtype_to_arrow": (U32, [SLOT_AT, ARROW_SCHEMA_AT, SLOT_AT]),
+    "vlt_arrow_capsule": (ctypes.py_object, [ARROW_SCHEMA_AT]),
+}
+ARROW_WITH_ERRORS = ("vlt_dtype_from_arrow", "vlt_dtype_to_arrow")

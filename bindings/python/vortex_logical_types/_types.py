@@ -9,14 +9,16 @@ import ctypes
 import enum
 from typing import Any, Callable, Iterable, Iterator, Mapping, Optional, Union
 
-from . import _table
+from . import _arrow, _table, _time
 from ._arguments import (
     Name, bytes_given, flag_given, instance_given, items_given, number_given, position_given, text_given, wrong,
 )
+from ._errors import FieldNotFound
 from ._native import (
-    Object, T, bytes_found, error_of, found, is_done, joined_names, made, native, number, read, remembered, text,
-    text_found,
+    Object, T, bytes_found, error_of, found, is_done, joined_names, made, names_written, native, number, objects_stored,
+    read, remembered, text, text_found,
 )
+from ._time import TimeUnit
 
 
 class PType(enum.Enum):
@@ -30,13 +32,13 @@ class PType(enum.Enum):
 
 
 class Kind(enum.Enum):
-    """The kind of a `DType`. Its text is its name in small letters.
+    """The kind of a `DType`. Its text is its name in small letters. Its value is the number that a `Node` has for it.
 
     >>> DType("list(u8)").kind is Kind.LIST, str(Kind.LIST)
     (True, 'list')
     """
 
-    NULL, BOOL, PRIMITIVE, DECIMAL, UTF8, BINARY, LIST, FIXED_SIZE_LIST, MAP, STRUCT, UNION, VARIANT, EXTENSION = range(13)
+    NULL, BOOL, PRIMITIVE, DECIMAL, UTF8, BINARY, LIST, FIXED_SIZE_LIST, MAP, STRUCT, UNION, VARIANT, EXTENSION = range(1, 14)
 
     def __str__(self) -> str:
         return self.name.lower()
@@ -56,8 +58,9 @@ class DType(Object):
 
     What is asked of a type of another kind has one rule. A property that only types of one kind have, such as `names` or
     `element`, is None. A method that only types of one kind have, such as `field` or `find_variant`, raises `LibraryError`
-    5. `len`, `in`, `[]` and iteration raise `TypeError` for a type that is no struct. For example, `DType("i32").names` is
-    None, and `len(DType("i32"))` raises `TypeError`. A type is always true in an `if`, also a struct without fields.
+    (`PRECONDITION`). `len`, `in`, `[]` and iteration raise `TypeError` for a type that is no struct. For example,
+    `DType("i32").names` is None, and `len(DType("i32"))` raises `TypeError`. A type is always true in an `if`, also a struct
+    without fields.
 
     `view` returns the parts of a type of any kind as an object for `match`.
     """
@@ -79,7 +82,7 @@ class DType(Object):
 
     @staticmethod
     def bool_(nullable: bool = False) -> DType:
-        """Returns the type of truth values."""
+        """Returns the type of booleans."""
         return made(DType, native.vlt_dtype_bool, flag_given(nullable, "nullable"))
 
     @staticmethod
@@ -90,9 +93,10 @@ class DType(Object):
 
     @staticmethod
     def decimal(precision: int, scale: int, nullable: bool = False) -> DType:
-        """Returns the decimal type with this precision and scale. Raises `LibraryError` 101 to 104 if the precision
-        isn't from 1 to 76, or if the scale is above 76 or above the precision, and 9 if the precision isn't from 0
-        to 255 or the scale isn't from -128 to 127.
+        """Returns the decimal type with this precision and scale. Raises `LibraryError` (`PRECISION_ZERO`,
+        `PRECISION_TOO_LARGE`, `SCALE_TOO_LARGE` or `SCALE_ABOVE_PRECISION`) if the precision isn't from 1 to 76, or if the
+        scale is above 76 or above the precision, and `OUT_OF_RANGE` if the precision isn't from 0 to 255 or the scale
+        isn't from -128 to 127.
 
         >>> DType.decimal(10, 2)
         DType('decimal(10,2)')
@@ -105,7 +109,7 @@ class DType(Object):
 
     @staticmethod
     def utf8(nullable: bool = False) -> DType:
-        """Returns the type of texts."""
+        """Returns the type of UTF-8 strings."""
         return made(DType, native.vlt_dtype_utf8, flag_given(nullable, "nullable"))
 
     @staticmethod
@@ -120,14 +124,15 @@ class DType(Object):
 
     @staticmethod
     def list_(element: DType, nullable: bool = False) -> DType:
-        """Returns the list type with this element type. Raises `LibraryError` 6 if the element type has 128 levels."""
+        """Returns the list type with this element type. Raises `LibraryError` (`TOO_DEEP`) if the element type
+        has 128 levels."""
         given = instance_given(element, DType, "element")
         return made(DType, native.vlt_dtype_list, given._slot, flag_given(nullable, "nullable"))
 
     @staticmethod
     def fixed_size_list(element: DType, size: int, nullable: bool = False) -> DType:
-        """Returns the fixed-size list type with this element type and size. Raises `LibraryError` 9 if the size
-        isn't from 0 to 2**32 - 1, and 6 if the element type has 128 levels.
+        """Returns the fixed-size list type with this element type and size. Raises `LibraryError` (`OUT_OF_RANGE`)
+        if the size isn't from 0 to 2**32 - 1, and `TOO_DEEP` if the element type has 128 levels.
 
         >>> DType.fixed_size_list(DType("f32"), 3)
         DType('fixed_size_list(f32)[3]')
@@ -140,8 +145,8 @@ class DType(Object):
 
     @staticmethod
     def map_(key: DType, value: DType, keys_sorted: bool = False, nullable: bool = False) -> DType:
-        """Returns the map type with these key and value types. Raises `LibraryError` 109 if the key type is
-        nullable, and 6 if one of the two types has 128 levels.
+        """Returns the map type with these key and value types. Raises `LibraryError` (`MAP_KEY_NULLABLE`) if the key
+        type is nullable, and `TOO_DEEP` if one of the two types has 128 levels.
 
         >>> DType.map_(DType("utf8"), DType("i32?"))
         DType('map(utf8, i32?, keys_sorted=false)')
@@ -154,7 +159,7 @@ class DType(Object):
     @staticmethod
     def struct(fields: Parts, nullable: bool = False) -> DType:
         """Returns the struct type with these fields, which are a mapping of names to types, or pairs of a name and a
-        type. Raises `LibraryError` 6 if the type of a field has 128 levels.
+        type. Raises `LibraryError` (`TOO_DEEP`) if the type of a field has 128 levels.
 
         >>> DType.struct({"a": DType("i8")}) == DType.struct([("a", DType("i8"))])
         True
@@ -166,8 +171,10 @@ class DType(Object):
     def union(variants: Parts, nullable: bool = False, tags: Optional[bytes] = None) -> DType:
         """Returns the union type with these variants, which are a mapping of names to types, or pairs of a name and a
         type, and with these tags, one byte for each variant, for example `bytes([5, 9])`. Without `tags` the tags are 0,
-        1, 2 and so on. Raises `LibraryError` 111 to 115 if the variants and tags don't make a union, for example 113 if a
-        tag repeats, and 6 if the type of a variant has 128 levels.
+        1, 2 and so on. Raises `LibraryError` if the variants and tags don't make a union: `UNION_TAGS_LENGTH` if there are
+        more or fewer tags than variants, `UNION_EMPTY` if there is no variant, `UNION_TAGS_REPEAT`, `UNION_TOO_MANY` if
+        there are more than 256 variants without tags, and `UNION_NAMES_REPEAT`; and `TOO_DEEP` if the type of a variant
+        has 128 levels.
 
         >>> DType.union({"a": DType("i8"), "b": DType("utf8")}, tags=bytes([5, 9]))
         DType('union(a@5=i8, b@9=utf8)')
@@ -180,8 +187,8 @@ class DType(Object):
 
     @staticmethod
     def extension(id: str, metadata: bytes, storage: DType) -> DType:
-        """Returns the extension type with this id, this metadata and this storage type. Raises `LibraryError` 6 if
-        the storage type has 128 levels.
+        """Returns the extension type with this id, this metadata and this storage type. Raises `LibraryError`
+        (`TOO_DEEP`) if the storage type has 128 levels.
 
         >>> DType.extension("app.color", b"rgb", DType("u32"))
         DType('app.color[0x726762](u32)')
@@ -191,15 +198,45 @@ class DType(Object):
         return made(DType, native.vlt_dtype_extension, given, len(given), about, len(about), kept._slot)
 
     @staticmethod
+    def date(unit: TimeUnit, nullable: bool = False) -> DType:
+        """Returns the type of dates: the extension `vortex.date` over `i32` for days, or over `i64` for milliseconds. Raises
+        `LibraryError` (`OUT_OF_RANGE`) for another unit.
+
+        >>> DType.date(TimeUnit.DAYS, nullable=True)
+        DType('vortex.date[0x04](i32?)')
+        """
+        return DType._of_time(_time.DATE, unit, nullable)
+
+    @staticmethod
+    def time(unit: TimeUnit, nullable: bool = False) -> DType:
+        """Returns the type of times of a day: the extension `vortex.time` over `i32` for seconds and milliseconds, or over `i64`
+        for microseconds and nanoseconds. Raises `LibraryError` (`OUT_OF_RANGE`) for days."""
+        return DType._of_time(_time.TIME, unit, nullable)
+
+    @staticmethod
+    def timestamp(unit: TimeUnit, zone: str = "", nullable: bool = False) -> DType:
+        """Returns the type of timestamps, the extension `vortex.timestamp` over `i64`, with a time zone such as
+        `Europe/Berlin` or `+01:00`. The empty text stands for no time zone. Raises `LibraryError` (`OUT_OF_RANGE`) for
+        days, and for a time zone of more than 65,535 bytes.
+
+        >>> paid = DType.timestamp(TimeUnit.MICROSECONDS, "UTC")
+        >>> paid.time_unit, paid.time_zone
+        (<TimeUnit.MICROSECONDS: 1>, 'UTC')
+        """
+        return DType._of_time(_time.TIMESTAMP, unit, nullable, text_given(zone, "zone"))
+
+    @staticmethod
+    def _of_time(id: str, unit: TimeUnit, nullable: bool, zone: Optional[bytes] = None) -> DType:
+        given, is_nullable = instance_given(unit, TimeUnit, "unit"), flag_given(nullable, "nullable")
+        storage = DType(_time.storage_of(id, given, is_nullable))
+        return DType.extension(id, _time.metadata_of(given, zone), storage)
+
+    @staticmethod
     def _of_parts(call: Callable[..., int], parts: list[tuple[bytes, DType]], *rest: Any) -> DType:
-        dtypes = (_table.Slot * len(parts))()
-        try:
-            for copy, (_, dtype) in zip(dtypes, parts):
-                is_done(native.vlt_dtype_copy(dtype._slot, copy))
-            return made(DType, call, *joined_names([name for name, _ in parts]), dtypes, len(parts), *rest)
-        finally:
-            for copy in dtypes:
-                native.vlt_free(copy)
+        fields = made(Object, native.vlt_fields_new)
+        for name, dtype in parts:
+            is_done(native.vlt_fields_push(fields._slot, name, len(name), dtype._slot))
+        return made(DType, call, fields._slot, *rest)
 
     def _other_than(self, other: DType) -> DType:
         """Returns this type, or a copy if it is the same object as `other`, because the slots of a call must differ."""
@@ -239,7 +276,8 @@ class DType(Object):
         return is_done(native.vlt_dtype_can_be_nonnullable(self._slot))
 
     def with_nullability(self, nullable: bool) -> DType:
-        """Returns the type, made nullable or non-nullable. Raises `LibraryError` 5 if it can't be made non-nullable."""
+        """Returns the type, made nullable or non-nullable. Raises `LibraryError` (`PRECONDITION`) if it can't be made
+        non-nullable."""
         return made(DType, native.vlt_dtype_with_nullability, self._slot, flag_given(nullable, "nullable"))
 
     def as_nullable(self) -> DType:
@@ -247,7 +285,7 @@ class DType(Object):
         return self.with_nullability(True)
 
     def as_nonnullable(self) -> DType:
-        """Returns the type, made non-nullable. Raises `LibraryError` 5 if it can't be."""
+        """Returns the type, made non-nullable. Raises `LibraryError` (`PRECONDITION`) if it can't be."""
         return self.with_nullability(False)
 
     def union_nullability(self, nullable: bool) -> DType:
@@ -325,9 +363,24 @@ class DType(Object):
         return bytes_found(native.vlt_dtype_metadata, self._slot)
 
     @property
+    def time_unit(self) -> Optional[TimeUnit]:
+        """The unit of a date, a time or a timestamp. It is None for every type that `date`, `time` and `timestamp` don't
+        return, for example for one of these extensions with metadata of another form."""
+        it = _time.parts_of(self)
+        return None if it is None else it[0]
+
+    @property
+    def time_zone(self) -> Optional[str]:
+        """The time zone of a timestamp, which is the empty text if it has none. It is None for every type that `timestamp`
+        doesn't return."""
+        it = _time.parts_of(self)
+        return None if it is None else it[1]
+
+    @property
     def element_size(self) -> Optional[int]:
         """The number of bytes that each value takes, or None if a part of the type is of variable width, such as a
-        text. Raises `LibraryError` 119 if the type or a part of it is wider than a number of 64 bits can say.
+        text. Raises `LibraryError` (`WIDTH_OVERFLOW`) if the type or a part of it is wider than a number of 64 bits can
+        say.
 
         >>> DType("fixed_size_list(i32)[3]").element_size, DType("utf8").element_size
         (12, None)
@@ -355,15 +408,15 @@ class DType(Object):
 
     @remembered
     def _names(self) -> tuple[str, ...]:
-        return tuple(text(native.vlt_struct_field_name, self._slot, it) for it in range(self.nfields or 0))
+        return names_written(native.vlt_struct_names, self._slot, self.nfields or 0)
 
     @remembered
     def _fields(self) -> tuple[tuple[str, DType], ...]:
         """The fields. Raises `TypeError` if the type is no struct."""
         if self.kind is not Kind.STRUCT:
             raise TypeError(f"a type of the kind {self.kind} has no fields")
-        return tuple((name, made(DType, native.vlt_struct_field_by_index, self._slot, it))
-                     for it, name in enumerate(self._names()))
+        names = self._names()
+        return tuple(zip(names, objects_stored(DType, native.vlt_struct_types, self._slot, len(names))))
 
     def __len__(self) -> int:
         return len(self._fields())
@@ -388,40 +441,49 @@ class DType(Object):
         return it
 
     def field_name(self, index: int) -> Optional[str]:
-        """Returns the name of the field at this position, or None if no field is there. Raises `LibraryError` 5 if the
-        type is no struct."""
+        """Returns the name of the field with this index, which is counted from 0, or None if there is none. Raises
+        `LibraryError` (`PRECONDITION`) if the type is no struct."""
         return text_found(native.vlt_struct_field_name, self._slot, position_given(index, "index"))
 
     def field_by_index(self, index: int) -> Optional[DType]:
-        """Returns the type of the field at this position, or None if no field is there. Raises `LibraryError` 5 if the
-        type is no struct."""
+        """Returns the type of the field with this index, which is counted from 0, or None if there is none. Raises
+        `LibraryError` (`PRECONDITION`) if the type is no struct."""
         return found(DType, native.vlt_struct_field_by_index, self._slot, position_given(index, "index"))
 
     def find(self, name: str) -> Optional[int]:
-        """Returns the position of the first field with this name, or None. Raises `LibraryError` 5 if the type is no
-        struct."""
+        """Returns the index of the first field with this name, or None. Raises `LibraryError` (`PRECONDITION`) if the
+        type is no struct."""
         given = text_given(name, "name")
         return number(ctypes.c_size_t, native.vlt_struct_find, self._slot, given, len(given))
 
     def field(self, name: str) -> Optional[DType]:
-        """Returns the type of the first field with this name, or None. Raises `LibraryError` 5 if the type is no
-        struct."""
+        """Returns the type of the first field with this name, or None. Raises `LibraryError` (`PRECONDITION`) if the
+        type is no struct."""
         given = text_given(name, "name")
         return found(DType, native.vlt_struct_field, self._slot, given, len(given))
 
     def project(self, names: Iterable[str]) -> DType:
-        """Returns the struct of the fields with these names, in the order of the names. Raises `LibraryError` 116 if
-        a name isn't the name of a field, and 5 if the type is no struct.
+        """Returns the struct of the fields with these names, in the order of the names. Raises `FieldNotFound`, which
+        is a `KeyError` too, if a name isn't the name of a field, and `LibraryError` (`PRECONDITION`) if the type is no
+        struct.
 
         >>> DType("{a=i8, b=i16, c=i32}").project(["c", "a"])
         DType('{c=i32, a=i8}')
         """
         given = items_given(names, "names", "str", text_given, (Object,))
-        return made(DType, native.vlt_struct_project, self._slot, *joined_names(given))
+        try:
+            return made(DType, native.vlt_struct_project, self._slot, *joined_names(given))
+        except FieldNotFound as error:
+            missing = next(it for it in given if not self._has(it)).decode()
+            raise FieldNotFound(error.kind, f"{error}: {missing}") from None
+
+    def _has(self, name: bytes) -> bool:
+        """Returns whether a field has this name."""
+        return number(ctypes.c_size_t, native.vlt_struct_find, self._slot, name, len(name)) is not None
 
     def without_field(self, index: int) -> DType:
-        """Returns the struct without the field at this position. Raises `LibraryError` 117 if no field is there, and 5
-        if the type is no struct.
+        """Returns the struct without the field with this index. Raises `IndexOutOfBounds`, which is an `IndexError`
+        too, if no field is there, and `LibraryError` (`PRECONDITION`) if the type is no struct.
 
         >>> DType("{a=i8, b=i16}").without_field(0)
         DType('{b=i16}')
@@ -429,8 +491,8 @@ class DType(Object):
         return made(DType, native.vlt_struct_without_field, self._slot, position_given(index, "index"))
 
     def disjoint_merge(self, other: DType) -> DType:
-        """Returns the struct of the fields of both. Raises `LibraryError` 118 if a name occurs twice among them, and 5 if
-        one of the two types is no struct.
+        """Returns the struct of the fields of both. Raises `LibraryError` (`DUPLICATE_NAMES`) if a name occurs twice
+        among them, and `PRECONDITION` if one of the two types is no struct.
 
         >>> DType("{a=i8}").disjoint_merge(DType("{b=i16}"))
         DType('{a=i8, b=i16}')
@@ -439,7 +501,8 @@ class DType(Object):
         return made(DType, native.vlt_struct_disjoint_merge, self._slot, it._slot)
 
     def indented(self) -> str:
-        """Returns the text of the fields with a line for each field. Raises `LibraryError` 5 if the type is no struct."""
+        """Returns the text of the fields with a line for each field. Raises `LibraryError` (`PRECONDITION`) if the
+        type is no struct."""
         return text(native.vlt_struct_indented, self._slot)
 
     # Variants of a union.
@@ -452,9 +515,13 @@ class DType(Object):
     @property
     def variants(self) -> Optional[list[tuple[str, DType]]]:
         """The variants of a union, in order, each a pair of a name and a type, or None for another type."""
-        return None if self.nvariants is None else [
-            (self.variant_name(it) or "", made(DType, native.vlt_union_variant_by_index, self._slot, it))
-            for it in range(self.nvariants)]
+        return [*self._variants()] if self.kind is Kind.UNION else None
+
+    @remembered
+    def _variants(self) -> tuple[tuple[str, DType], ...]:
+        count = self.nvariants or 0
+        names = names_written(native.vlt_union_names, self._slot, count)
+        return tuple(zip(names, objects_stored(DType, native.vlt_union_types, self._slot, count)))
 
     @property
     def tags(self) -> Optional[bytes]:
@@ -462,33 +529,35 @@ class DType(Object):
         return None if self.nvariants is None else bytes(self.child_index_to_tag(it) or 0 for it in range(self.nvariants))
 
     def variant_name(self, index: int) -> Optional[str]:
-        """Returns the name of the variant at this position, or None if no variant is there. Raises `LibraryError` 5 if
-        the type is no union."""
+        """Returns the name of the variant with this index, which is counted from 0, or None if there is none. Raises
+        `LibraryError` (`PRECONDITION`) if the type is no union."""
         return text_found(native.vlt_union_variant_name, self._slot, position_given(index, "index"))
 
     def variant_by_index(self, index: int) -> Optional[DType]:
-        """Returns the type of the variant at this position, or None if no variant is there. Raises `LibraryError` 5 if
-        the type is no union."""
+        """Returns the type of the variant with this index, which is counted from 0, or None if there is none. Raises
+        `LibraryError` (`PRECONDITION`) if the type is no union."""
         return found(DType, native.vlt_union_variant_by_index, self._slot, position_given(index, "index"))
 
     def find_variant(self, name: str) -> Optional[int]:
-        """Returns the position of the variant with this name, or None. Raises `LibraryError` 5 if the type is no
-        union."""
+        """Returns the index of the variant with this name, or None. Raises `LibraryError` (`PRECONDITION`) if the type
+        is no union."""
         given = text_given(name, "name")
         return number(ctypes.c_size_t, native.vlt_union_find, self._slot, given, len(given))
 
     def variant_of(self, name: str) -> Optional[DType]:
-        """Returns the type of the variant with this name, or None. Raises `LibraryError` 5 if the type is no union."""
+        """Returns the type of the variant with this name, or None. Raises `LibraryError` (`PRECONDITION`) if the type
+        is no union."""
         given = text_given(name, "name")
         return found(DType, native.vlt_union_variant, self._slot, given, len(given))
 
     def child_index_to_tag(self, index: int) -> Optional[int]:
-        """Returns the tag of the variant at this position, or None if no variant is there. Raises `LibraryError` 5 if
-        the type is no union."""
+        """Returns the tag of the variant with this index, which is counted from 0, or None if there is none. Raises
+        `LibraryError` (`PRECONDITION`) if the type is no union."""
         return number(ctypes.c_uint8, native.vlt_union_child_index_to_tag, self._slot, position_given(index, "index"))
 
     def tag_to_child_index(self, tag: int) -> Optional[int]:
-        """Returns the position of the variant with this tag, or None. Raises `LibraryError` 5 if the type is no union.
+        """Returns the index of the variant with this tag, or None. Raises `LibraryError` (`PRECONDITION`) if the
+        type is no union.
 
         >>> DType("union(a@5=i8, b@9=utf8)").tag_to_child_index(9)
         1
@@ -547,6 +616,8 @@ class DType(Object):
 
         >>> DType("{a=i8, b=i8?}").merge_nullability(DType("{a=i8?, b=i8}"))
         DType('{a=i8?, b=i8?}')
+
+        `merge_columns` also merges structs with different columns.
         """
         it = instance_given(other, DType, "other")._other_than(self)
         return found(DType, native.vlt_dtype_merge_nullability, self._slot, it._slot)
@@ -560,6 +631,43 @@ class DType(Object):
         it = instance_given(other, DType, "other")._other_than(self)
         return found(DType, native.vlt_dtype_intersect_nullability, self._slot, it._slot)
 
+    def merge_columns(self, other: DType) -> Optional[DType]:
+        """Returns the least type as which both types can be read, or None if there is none. A program that reads several
+        files as one table needs this type if the files have different columns. `merge_all` merges more than two types.
+
+        A struct has the fields of this type in their order, and then those of `other` that this type lacks. A field that
+        both have is merged in the same way, and a field that one of the two lacks is nullable. Lists, fixed-size lists of
+        the same size, maps with the same flag, and extensions with the same id and the same metadata are merged by their
+        parts, except maps whose merged key type would be nullable. All other types are merged as `merge_nullability`
+        merges them, also structs in which a name repeats. A type that isn't an extension is nullable if one of the two is.
+
+        >>> DType("{a=i32, b=utf8}").merge_columns(DType("{c=u8, a=i32?}"))
+        DType('{a=i32?, b=utf8?, c=u8?}')
+        """
+        return _merging.merged_columns(self, instance_given(other, DType, "other"))
+
+    def merge_conflict(self, other: DType) -> Optional[MergeConflict]:
+        """Returns why `merge_columns` returns None for these types, or None if it returns a type. The place is the first
+        one, in the order of the fields of this type, at which the two types have no common type.
+
+        >>> conflict = DType("{customer={id=u64}}").merge_conflict(DType("{customer={id=utf8, city=utf8}}"))
+        >>> conflict.path, conflict.left, conflict.right
+        (FieldPath('customer.id'), DType('u64'), DType('utf8'))
+        """
+        return _merging.conflict_of(self, instance_given(other, DType, "other"), 1)
+
+    @staticmethod
+    def merge_all(types: Iterable[DType]) -> Optional[DType]:
+        """Returns the least type as which all of these types can be read, such as the schemas of several files: the first,
+        merged with each other by `merge_columns`. Returns None if there is no type. The order of the types decides only
+        the order of the columns. All types are taken from `types` before the first two are merged. Raises `MergeConflict`
+        if a type can't be merged with those before it.
+
+        >>> DType.merge_all(DType(it) for it in ("{id=u64}", "{note=utf8, id=u64}", "{id=u64?}"))
+        DType('{id=u64?, note=utf8?}')
+        """
+        return _merging.merged_all(types)
+
     def project_paths(self, paths: FieldPathSet) -> Optional[DType]:
         """Returns the part of the type that a reader of these paths opens, or None if none of them exists in the
         type.
@@ -571,12 +679,48 @@ class DType(Object):
         return found(DType, native.vlt_project_paths, self._slot, given._slot)
 
     @staticmethod
-    def from_proto(message: Message, allow_unknown: bool = False) -> DType:
-        """Returns the type that a message describes. For a message that describes no type it raises `LibraryError`
-        with 100 plus the number of the message's first fault, for example 124 for a message without a kind. An
-        extension raises 135, unless `allow_unknown` is true: then it is kept with its metadata.
+    def from_arrow(source: object) -> DType:
+        """Returns the type of an Arrow schema, field or type, of a table or a data frame, or of anything else that has the
+        method `__arrow_c_schema__` or `__arrow_c_stream__`, such as those of pyarrow, polars, DuckDB and nanoarrow. It also
+        takes a capsule that such a method returned. What is read stays as it is.
 
-        >>> DType.from_proto(Message("list { element_type { utf8 {} } }"))
+        The type of a table or a data frame is a struct of its columns. Arrow marks most types as nullable, so they are
+        nullable here too: for example, `pyarrow.int32()` is read as `i32?`.
+
+        >>> DType.from_arrow(DType("{id=u64, city=utf8?}"))
+        DType('{id=u64, city=utf8?}')
+
+        Views, large types, dictionaries and run-end encoded types are read as plain types, and dates, times and timestamps
+        as those of `date`, `time` and `timestamp`. Raises `LibraryError` (`ARROW`) if a field has no type here, such as a
+        duration, with the path of the field and its format in the text of the error, and other `LibraryError`s for a type
+        that this library refuses, such as a decimal with 77 digits.
+        """
+        return _arrow.read(DType, source)
+
+    @staticmethod
+    def from_arrow_address(address: int) -> DType:
+        """Returns the type of the `struct ArrowSchema` at this address, for libraries that export it by its address: GDAL
+        through `ctypes`, and pyarrow by `_export_to_c`. Who made the struct releases it afterwards. Raises the errors of
+        `from_arrow`, and `OUT_OF_RANGE` for an address at which no struct can be.
+
+        If something else is at the address, the interpreter may crash, which no call can test.
+        """
+        return _arrow.read_address(DType, address)
+
+    def __arrow_c_schema__(self) -> object:
+        """Returns the type as an Arrow field, in a capsule that pyarrow, polars and others read. For example,
+        `pyarrow.schema(dtype)` reads a struct as a schema, and `pyarrow.field(dtype)` any type as a field. Raises
+        `LibraryError` (`ARROW`) if a part of the type can't be written, such as `variant`, with the path of the part in
+        the text of the error."""
+        return _arrow.write(self._slot)
+
+    @staticmethod
+    def from_proto(message: Message, allow_unknown: bool = False) -> DType:
+        """Returns the type that a message describes. For a message that describes no type it raises `LibraryError` of the
+        message's first fault, for example `TYPE_MISSING` for a message without a kind. An extension raises
+        `EXTENSION_UNREGISTERED`, unless `allow_unknown` is true: then it is kept with its metadata.
+
+        >>> DType.from_proto(Message([Node(kind=7, has_first=1), Node(kind=5)], b""))
         DType('list(utf8)')
         """
         given = instance_given(message, Message, "message")
@@ -585,8 +729,8 @@ class DType(Object):
     def to_proto(self) -> Message:
         """Returns the message that describes the type.
 
-        >>> DType("utf8?").to_proto() == Message("utf8 { nullable: true }")
-        True
+        >>> DType("utf8?").to_proto()
+        Message([Node(kind=5, nullable=1)], b'')
         """
         return made(Message, native.vlt_dtype_to_message, self._slot)
 
@@ -624,6 +768,8 @@ def _part_given(it: tuple[str, DType], name: Name) -> tuple[bytes, DType]:
 
 
 # (These modules need the class above.)
+from . import _merging
+from ._merging import MergeConflict
 from ._messages import Message
 from ._sets import FieldPathSet
 from ._views import VIEWS, AnyView

@@ -8,6 +8,7 @@ from itertools import zip_longest
 
 import forms
 import invariants
+import laws
 import rulesets
 from repository import text_of
 
@@ -15,7 +16,7 @@ from repository import text_of
 FIRST, LATER, PAIRS = 12, 14, 10
 # The rulesets for a loop over two structs side by side, and for one that goes down a type, of which no definition tells
 # that they fit.
-ZIPPED, SMALLER = (f"vortex_dtype::proofs::parts::{it}" for it in ("zipped", "smaller_parts"))
+ZIPPED, SMALLER = (f"vortex_dtype::proofs::rulesets::{it}" for it in ("zipped", "smaller_parts"))
 
 # A change of a function: the text with a form in it, the rulesets of the line above it (None: as it is), its invariant.
 Try = namedtuple("Try", "form rulesets invariant")
@@ -34,8 +35,10 @@ class Subject:
         self.line = own_line(self.above)
         whole = re.search(r"(?m)^#!\[tactic\(([^\n]*)\)\]$", text)
         self.own = tuple(re.findall(r"[\w:]+::\w+", self.line or (whole[1] if whole else "")))
+        self.of_file = bool(not self.line and self.own)
         every = forms.forms_of(self.text)
-        self.forms = [it for it in every if not it.loop]
+        self.goals, self.verdict = said.goals.get(path, {}), said.verdicts.get(path, "")
+        self.forms = [*laws.calls_of(self.text, " ".join(self.goals.values())), *(it for it in every if not it.loop)]
         crate = re.search(r"crates/(\w+)/src/", function.file)[1]
         self.loops = [(it, guess) for it in every if it.loop
                       for guess in invariants.guesses_of_form(it, text, crate, path)[:2]]
@@ -43,8 +46,8 @@ class Subject:
         for word, fitting in ((".zip(", ZIPPED), ("while ", SMALLER)):
             if word in self.text and fitting in self.ranked:
                 self.ranked.sort(key=lambda it: it != fitting)
+        self.unfolded = unfolded(function, text)
         self.tried = {AS_WRITTEN: said.open_goals(path)}
-        self.goals, self.verdict = said.goals.get(path, {}), said.verdicts.get(path, "")
         # (of a loop that has an invariant the skeleton is what a check says without it)
         self.has_own = path in asked.skeletons
         self.skeleton = asked.skeletons.get(path) or said.skeletons.get(path)
@@ -82,7 +85,8 @@ class Subject:
     def size(self, it):
         known = rulesets.rulesets()
         names = self.own if it.rulesets is None else it.rulesets
-        return len(frozenset().union(*(known[name].lemmas for name in names if name in known)))
+        lemmas = frozenset().union(*(known[name].lemmas for name in names if name in known))
+        return len(lemmas) + sum(is_definition(name) for name in names)
 
     def is_done(self):
         return any(not (it.form and it.form.warning) for it in self.proved())
@@ -94,12 +98,24 @@ class Subject:
             own = [Try(None, line, None) for line in [*lines, *self.more_lines(self.ranked[:3])] if self.has_own]
             guesses = [Try(None, line, it) for line in [None, *lines] for it in self.invariants[:4]]
             others = [Try(form, line, it) for line in [None, *lines[:1]] for form, it in self.other_loops[:6]]
-            return [it for each in zip_longest(guesses, own, others) for it in each if it]
+            return self.chains() + self.alone() + [it for each in zip_longest(guesses, own, others) for it in each if it]
         found = [Try(None, (), None)] if self.own else []
         alone = [Try(None, (it,), None) for it in self.ranked[:FIRST] if (it,) != self.own]
         changed = [it for form in self.forms for it in [Try(form, None, None)] + [Try(form, (), None)] * bool(self.own)]
         changed += [Try(form, line, guess) for form, guess in self.loops for line in self.lines_of_loop()]
+        if self.unfolded:
+            lines = dict.fromkeys([self.own, (), *[(it,) for it in self.ranked[:3]]])
+            found += [Try(None, (*line, *self.unfolded), None) for line in lines]
         return found + [it for pair in zip_longest(alone, changed) for it in pair if it]
+
+    def alone(self):
+        """The rulesets that fit best, for a loop that may need no invariant."""
+        return [] if self.has_own else [Try(None, line, None) for line in [(), *[(it,) for it in self.ranked[:FIRST]]] if line != self.own]
+
+    def chains(self):
+        """A chain that needs no invariant, in place of the loop: as it is, and with the rulesets that fit best."""
+        lines = dict.fromkeys([None, *[()] * bool(self.own), *[(it,) for it in self.ranked[:2]]])
+        return [Try(form, line, None) for form in self.forms if form.name.startswith(forms.CHAIN) for line in lines]
 
     def lines_of_loop(self):
         """The lines above a loop that is tried in place of a chain."""
@@ -147,7 +163,7 @@ class Subject:
     def third(self):
         """The rulesets that fit less, and the first pairs of those that fit best."""
         if self.has_loop:
-            return []
+            return [] if self.has_own else [Try(None, (it,), None) for it in self.ranked[FIRST:FIRST + LATER]]
         best = self.ranked[:5]
         found = [Try(None, (it,), None) for it in self.ranked[FIRST:FIRST + LATER]]
         found += [Try(None, (one, other), None) for n, one in enumerate(best) for other in best[:n]]
@@ -157,6 +173,8 @@ class Subject:
     def text_with(self, it, name):
         """The function under another name, with a form and a line of its own."""
         text = it.form.text if it.form else self.text
+        # (a form may add a function, whose name begins with that of this one)
+        text = text.replace(f"{self.name}_plugin", f"{name}_plugin")
         text = re.sub(rf"(?<![\w.:]){self.name}(?=[<(])|(?<=Self::){self.name}(?=\()", name, text)
         return f"{self.above_with(it)}{text}"
 
@@ -181,5 +199,24 @@ def own_line(above):
     return found and found[1]
 
 
+def is_definition(name):
+    """Whether a name in the line above a function is that of a definition to unfold."""
+    return "::specs::" in name
+
+
+def unfolded(function, text):
+    """The definitions in the premises of a function that the line above it can unfold, as its file imports them. (What a
+    session means is said by the clauses of calls, and not by its fields.)"""
+    said = [it.text for it in function.clauses if it.kind == "requires"]
+    said += [it.text.rpartition(" → ")[0] for it in function.clauses if it.kind == "ensures"]
+    words = (set(re.findall(r"[^\W\d][\w'-]*", " ".join(said))) & rulesets.unfoldable()) - {"meaning"}
+    return tuple(f"{module.removeprefix('Rattle.').replace('.', '::')}::{word}"
+                 for module, listing in re.findall(r"ghost use (Rattle\.[\w.]+)\.\{([^}]*)\};", text)
+                 for word in map(str.strip, listing.split(",")) if word in words)
+
+
 def line_of(names):
-    return f"#[tactic(auto, using({', '.join(names)}))]" if names else "#[tactic(auto)]"
+    """The line above a function with these rulesets, and with these definitions to unfold."""
+    listed = {"using": [it for it in names if not is_definition(it)], "unfolding": [it for it in names if is_definition(it)]}
+    said = "".join(f", {word}({', '.join(some)})" for word, some in listed.items() if some)
+    return f"#[tactic(auto{said})]"

@@ -208,6 +208,40 @@ def with_whole(body, change):
     return body[:last[0]] + new + body[last[1]:] if new else None
 
 
+# What the name of the form with a boxed plugin begins with.
+BOXED = "the boxed plugin made by a function of its own"
+
+
+def boxed_plugins(parts, _):
+    """The plugin that a function makes and registers, made by a function of its own, whose contract says what the plugin is. At
+    a goal about the session a search doesn't see that, and it does where the box is what is returned."""
+    shape = shape_of(code_of(parts.body))
+    found = list(re.finditer(r"\.register\((?=Box::new\((\w+), )", shape))
+    name = re.search(r"\bfn (\w+)", parts.head)[1]
+    text = " ".join(it.text for it in parts.clauses if it.kind == "ensures")
+    said = re.search(r"(?<![\w.])register_in ", text) or re.search(r"\.registered (?=\(codes )", text)
+    if len(found) != 1 or not said:
+        return
+    begin, behind = found[0].end(), end_of(shape, found[0].end() - 1) - 1
+    box = parts.body[begin:behind]
+    if not box.endswith("?"):
+        return
+    end = atom_at(text, said.end())
+    ensured = [f"ensures id {{ IfOk result (λ b. id_text b ≡ {unbracketed(text[said.end():end])}) }}"]
+    if said[0].startswith("register_in") and end < len(text):
+        rewrites = text[end + 1:atom_at(text, end + 1)]
+        ensured.append(f"ensures bytes {{ IfOk result (λ b. rewrites b ≡ {unbracketed(rewrites)}) }}")
+    alloc = found[0][1]
+    made = (f"\n\nfn {name}_plugin({alloc}: Global) -> VortexResult<Box<dyn ExtDTypePlugin>>\n    " + "\n    ".join(ensured)
+            + f"\n{{\n    Ok({box})\n}}")
+    body = f"{parts.body[:begin]}{name}_plugin({alloc})?{parts.body[behind:]}{made}"
+    yield Form(BOXED, parts._replace(body=body), ("IfOk", "◌≡◌"), "")
+
+
+def unbracketed(text):
+    return text[1:-1] if text.startswith("(") and end_of(text, 0) == len(text) else text
+
+
 def named_bindings(parts, _):
     shape = shape_of(code_of(parts.body))
     found = list(re.finditer(r"\b(Ok|Some|Err)\(_\)(?=[^;{}]*(?:=>|=))", shape))
@@ -338,6 +372,45 @@ def zipped_loops(parts, _):
         known = (f"{found['items'].split(',')[0]}-iterator", *re.findall(r"(\w+): ", parts.head.partition("(")[2]))
         yield Form("a `for` loop in place of a chain", by_recursion.text if by_recursion else changed,
                    by_recursion.imports if by_recursion else (), "", known)
+
+
+EARLY = re.compile(r"for (?P<item>\w+|\([^()]*\)) in (?P<over>[^{}]*?) \{\s*if (?P<test>(?!let\b)[^{}?]*?) \{\s*return (?P<found>[\w()]+);\s*\}"
+                   r"\s*\}\s*(?P<end>[\w()]+)\s*\}\s*\Z", re.S)
+# What the name of such a form begins with.
+CHAIN = "a chain that ends in"
+
+
+def chains(parts, _):
+    """`any` or `all` in place of a loop at the end that does nothing but look for one element. A chain needs no invariant."""
+    found = EARLY.search(parts.body)
+    if not found:
+        return
+    method = {("true", "false"): "any", ("false", "true"): "all"}
+    ends = tuple(re.sub(r"^Ok\((\w+)\)$", r"\1", found[it]) for it in ("found", "end"))
+    if ends not in method or found["found"].startswith("Ok(") != found["end"].startswith("Ok("):
+        return
+    over = found["over"].strip()
+    is_own = re.fullmatch(r"&?\w+", over)
+    over = f"{over.lstrip('&')}.iter()" if is_own else over
+    test = " ".join(found["test"].split())
+    chain = f"{over}.{method[ends]}(|{found['item']}| {test if method[ends] == 'any' else negated(test)})"
+    chain = f"Ok({chain})" if found["end"].startswith("Ok(") else chain
+    changed = parts._replace(body=f"{parts.body[:found.start()]}{chain}\n}}")
+    name = f"{CHAIN} `{method[ends]}` in place of the loop, which needs no invariant"
+    yield Form(name, changed, (), "")
+    for it in of_each(changed, _):
+        yield Form(f"{name}, and {it.name}", it.text, it.imports, "")
+
+
+def negated(test):
+    """The negation of a condition, as one writes it."""
+    if re.search(r"&&|\|\|", test):
+        return f"!({test})"
+    if compared := re.fullmatch(r"([^=!<>]*) ([!=])= ([^=!<>]*)", test):
+        return f"{compared[1]} {'=' if compared[2] == '!' else '!'}= {compared[3]}"
+    if re.search(r" [<>]=? ", test):
+        return f"!({test})"
+    return test[1:] if test.startswith("!") else f"!{test}"
 
 
 def is_slice(head, over):
@@ -543,10 +616,12 @@ def outside(text):
     return "".join(kept)
 
 
+OF_ITS_OWN = (boxed_plugins,)
 CODE = (tail_calls, split_options, named_bindings, matched_closures, positions, compared_values, branches)
 # (which undo some of those)
 PLAIN = (plain_calls, ok_ors)
 LOOPS = (loops, zipped_loops)
+CHAINS = (chains,)
 CLAUSES = (meanings, of_none, of_each, trees_of_each, first_places, below_a_path, negations, conjunctions, premises)
 
 
@@ -558,7 +633,7 @@ def forms_of(text):
     """The forms of a function, each a single edit, and then all edits of its code, and these with those of its clauses
     that ask no more of a caller and promise no less, and at last these with a premise that each caller has to show."""
     parts = parts_of(text)
-    single = [form for make in CODE + PLAIN + LOOPS + CLAUSES for form in make(parts, returned_by(parts))]
+    single = [form for make in OF_ITS_OWN + CODE + PLAIN + LOOPS + CHAINS + CLAUSES for form in make(parts, returned_by(parts))]
     as_it_is = Form("", parts, (), "")
     together = [all_of(as_it_is, CODE), all_of(as_it_is, CODE + CLAUSES), all_of(as_it_is, PLAIN + CLAUSES)]
     together += [all_of(it, makers) for it in premises(parts, returned_by(parts)) for makers in (CODE, CODE + CLAUSES)]

@@ -19,7 +19,7 @@ Loop = namedtuple("Loop", "variable all whole done rest")
 # What a loop over a value of the function itself goes over, in no clause.
 NOWHERE = "\0"
 EXTRA = {"take": COMMON, "drop": COMMON, "map": COMMON, "length": COMMON, "◌++◌": COMMON, "◌+◌": COMMON, "◌<◌": COMMON,
-         "◌^◌": COMMON, "◌≡◌": COMMON, "◌↔◌": COMMON, "into_iter_items": "Rattle.std.specs.Vec.Iter",
+         "◌^◌": COMMON, "All": "Rattle.std.specs.List", "◌≡◌": COMMON, "◌↔◌": COMMON, "into_iter_items": "Rattle.std.specs.Vec.Iter",
          "zip_first": "Rattle.std.specs.Iterator.Adapters", "zip_second": "Rattle.std.specs.Iterator.Adapters",
          "Field": "Rattle.vortex_dtype.specs.Types.Field", "field_tree": "Rattle.vortex_dtype.specs.FieldTypes",
          "weight": "Rattle.dtype_types.proofs.lemmas.TypesBelow"}
@@ -135,6 +135,7 @@ def statements(text, known):
         found = copied(ensured, variable, loop) + found
     for clause in ensured:
         found += found_early(clause, loop, known) + walks(clause, loop, parts, known) + changed_in_place(clause, loop, known)
+        found += none_so_far(clause, loop, known)
     found += of_what_is_made(parts, ensured, loop, known)
     return list(dict.fromkeys(found))
 
@@ -256,6 +257,17 @@ def found_early(clause, loop, known):
     return found
 
 
+def none_so_far(clause, loop, known):
+    """Of a loop that returns as soon as it finds a path of a set: what a clause then says of each path of the set is true of
+    each path so far."""
+    found = re.search(r"\((\w+) : List Field\) → IsTrue \(set\.contains \S+ \1\) → ", clause)
+    if not found or loop.done != "l.yielded":
+        return []
+    said = in_invariant(clause[found.end():forms.rest_of_bracket(clause, found.end())], known)
+    said = re.sub(rf"(?<![\w.]){found[1]}(?![\w.])", "x.now", said)
+    return [f"All (λ x. {said}) l.yielded"]
+
+
 def imports(statement, text, skeleton):
     """The imports of a statement that the skeleton lacks: as the source has them, and those of this file's own words."""
     has = {it.strip() for listing in re.findall(r"\{([^}]*)\}", skeleton) for it in listing.split(",")}
@@ -326,10 +338,14 @@ def guesses_of_form(form, file_text, crate, path):
     return guesses(form.text, file_text, text, {name: "| l: " + ", ".join(f".{it}" for it in form.loop)})
 
 
-def skeleton(text, names):
-    """The file with, above each hole, what can be named in it."""
+def skeleton(text, names, function):
+    """The file with a hole for each invariant and, above it, what can be named in it. In an invariant that the toolchain
+    knows by itself the hole stands behind that."""
     def commented(it):
-        known = names_of(names.get(it[1], ""))
+        known = names_of(names[it[1]]) if it[1] in names else []
+        if not known and it[1].startswith("invariant-loop-"):
+            known = names_in(function, it[1], text)
+            known += ["yielded"] * (f"iterator-loop-{it[1][15:]}" in text)
         said = f"-- what is true before each turn, by {', '.join('l.' + name for name in known)}\n" if known else ""
-        return f"{said}{it[0]}"
-    return re.sub(r"(?m)^abbrev pub (\S+) :.*\n\1(?: \w+)* l =", commented, text)
+        return f"{said}{it[0]}{'' if '?' in it[0] or not known else ' ×' + chr(10) + '    ?'}"
+    return re.sub(r"(?m)^abbrev pub (\S+) :.*\n\1(?: \w+)* l =(?: \?|(?:\n {4}.*)+)", commented, text)

@@ -12,10 +12,12 @@ from glob import glob
 
 from repository import functions, libraries, text_of
 
-# The addresses at which rulesets are exported, the first of which is the one on the pages.
-ADDRESSES = ("vortex_dtype::proofs::rulesets", "vortex_dtype::proofs::parts")
+# The address of all rulesets, and their file.
+ADDRESS, FILE = "vortex_dtype::proofs::rulesets", "crates/vortex_dtype/proofs/rulesets.antt"
 # What the words of a contract count, of the contracts of its calls, and of the definitions of both.
 OF_CONTRACT, OF_CALLS, OF_DEFINITIONS = 1.0, 0.7, 0.35
+# How much of what a lemma speaks of has to occur in an open goal for it to be named beside that.
+NEAR = 0.6
 
 Ruleset = namedtuple("Ruleset", "path lemmas")
 
@@ -104,21 +106,20 @@ def proofs():
 @lru_cache(maxsize=1)
 def rulesets():
     """All that a line above a function can name, each with its lemmas, by its path."""
-    found = {}
-    for address in ADDRESSES:
-        crate, *path = address.split("::")
-        module = f"Rattle.{crate}.{'.'.join(path)}"
-        file = f"crates/{crate}/{'/'.join(path)}.antt"
-        if not glob(file):
-            continue
-        text = text_of(file)
-        exported = [alias for it in re.finditer(r"(?m)^pub use Rattle\.[^\s{]+\.\{([^}]*)\}", text)
-                    for alias, _ in names_in(it[1])]
-        for name in exported + [it[1] for it in RULESET.finditer(text)]:
-            lemmas = proofs().lemmas_of(module, name)
-            if lemmas:
-                found.setdefault(f"{address}::{name}", Ruleset(f"{address}::{name}", lemmas))
+    found, text = {}, text_of(FILE)
+    exported = [alias for it in re.finditer(r"(?m)^pub use Rattle\.[^\s{]+\.\{([^}]*)\}", text) for alias, _ in names_in(it[1])]
+    for name in exported + [it[1] for it in RULESET.finditer(text)]:
+        lemmas = proofs().lemmas_of(module_of(FILE), name)
+        if lemmas:
+            found[f"{ADDRESS}::{name}"] = Ruleset(f"{ADDRESS}::{name}", lemmas)
     return found
+
+
+@lru_cache(maxsize=1)
+def unfoldable():
+    """The definitions that a line above a function can unfold."""
+    files = [file for crate in libraries() for file in glob(f"crates/{crate}/specs/**/*.antt", recursive=True)]
+    return frozenset(name for file in files for name in re.findall(r"(?m)^ *unfoldable pub (\S+) :", text_of(file)))
 
 
 @lru_cache(maxsize=1)
@@ -185,12 +186,14 @@ def ranked(contract, body):
     return sorted(rulesets(), key=lambda path: (-score(rulesets()[path]), len(rulesets()[path].lemmas)))
 
 
-def nearest(contract, body, goals, count=3):
-    """The lemmas that fit best what is open of a function, each with the smallest ruleset that has it and its statement."""
-    weights = weights_of(contract, body)
-    of_goals = {it: OF_CONTRACT for it in proofs().words_in(goals or contract)}
-    smallest = {}
+def nearest(goals, count=3):
+    """The lemmas that fit what is open of a function, each with the smallest ruleset that has it and its statement. A lemma
+    fits if most of what it speaks of occurs in a goal or its premises, and so does what it concludes."""
+    of_goals, smallest = {it: OF_CONTRACT for it in proofs().words_in(goals)}, {}
     for path, it in sorted(rulesets().items(), key=lambda pair: -len(pair[1].lemmas)):
         smallest.update((lemma, path) for lemma in it.lemmas)
-    best = sorted(smallest, key=lambda it: -fits(it, weights) - fits(it, of_goals))[:count]
+    # (equations and truth are the conclusions of most lemmas)
+    concluded = lambda it: proofs().words_in(re.split(r" → ", proofs().statements[it])[-1]) - {"IsTrue"}
+    near = [it for it in smallest if fits(it, of_goals) >= NEAR and concluded(it) and concluded(it) <= set(of_goals)]
+    best = sorted(near, key=lambda it: (-fits(it, of_goals), it))[:count]
     return [(it[1], smallest[it], " ".join(proofs().statements[it].split())) for it in best]

@@ -4,6 +4,7 @@
 """The tool `hint`, over an `rt` that proves a function if certain words are in it; and the forms and rulesets that it tries, on
 texts. What the prover itself says of the functions in data is tried by hand (hint_study)."""
 import os
+import re
 import sys
 import unittest
 
@@ -11,8 +12,10 @@ from planted import TOOLS, Planted
 
 sys.path.append(f"{TOOLS}/hint")
 import forms
+import goals
 import imports
 import invariants
+import laws
 import rulesets
 from repository import libraries, text_of
 
@@ -31,6 +34,33 @@ pub fn type_at<'a>(path: &FieldPath, schema: &'a DType) -> Option<&'a DType>
     ensures { IfSome result (λ d. Valid (tree d.now)) }
 {
     path.resolve(schema)
+}
+"""
+# A loop that a chain can take the place of.
+HAS_ROOT = """
+/// Whether a list has the root among its paths.
+pub fn has_root(paths: &[FieldPath]) -> bool
+    ensures { IsTrue result ↔ Any (λ p. p ≡ []) paths.now }
+{
+    for path in paths {
+        if path.is_root() {
+            return true;
+        }
+    }
+    false
+}
+"""
+# A session that a premise names.
+AMOUNT = """
+ghost use Rattle.vortex_dtype.specs.Meaning.{empty_meaning, register_in};
+ghost use Rattle.vortex_dtype.specs.Session.{meaning};
+
+/// An amount of money.
+pub fn amount(session: &DTypeSession, bytes: &[u8], storage: DType) -> VortexResult<ExtDTypeRef>
+    requires { meaning (λ b. rewrites (b.vtable, b.value)) session.now ≡ register_in (codes "shop.money") currency empty_meaning }
+    ensures { IfOk result (λ e. currency bytes.now ≡ Some (extension_metadata e)) }
+{
+    Ok(session.deserialize("shop.money", bytes, storage)?)
 }
 """
 # A loop, and an invariant of it that nothing proves.
@@ -60,7 +90,7 @@ for file in sorted(glob.glob("src/*.rt")):
         name = f"schemas::{module}{it[2]}"
         file_of_loop = f"proofs/{it[2]}/Invariants.antt"
         has_file = os.path.exists(file_of_loop)
-        if " for " in it[0] and not has_file:
+        if " for " in it[0] and not has_file and not any(word in it[0] for word in WORDS):
             print(f"fn {name}: no proof: expected {file_of_loop}")
             print(f"help: write ./{file_of_loop} with these lines, and check again")
             print(f"    use Rattle.schemas.proofs.{it[2]}.Given as goal")
@@ -70,6 +100,12 @@ for file in sorted(glob.glob("src/*.rt")):
             print(f"note: `invariant-loop-path` of {file_of_loop} is yours to choose")
             print("  | l: .found, .yielded, .path-iterator")
             print("  | l.fn: .paths {.items}")
+        elif "static_text" in it[0]:
+            print(f"fn {name}: no proof: expected `x_spec` in ./proofs/x/Proof.antt; the borrow checker does not cover this function "
+                  "yet: src/lib.rt:11:5: a field that is an array is stored: help: use a variable, as `let c = s.a;`")
+        elif re.search(r"(?<!fn )type_at\\(", it[0]) and "static_text" in text:
+            print(f"fn {name}: no proof: the borrow checker's part in its proof is not made yet: a call of `schemas::type_at`, which has "
+                  "no proof: help: prove it first, and the check then prints what is left of this function")
         elif "Mistaken" in it[0]:
             print(f"src/lib.rt:{text.count(chr(10), 0, it.start()) + 5}:9: error: `ensures-1`: `Mistaken` is not in scope")
             print(f"fn {name}: no proof: antt did not admit its contract or its `statement`: help: fix that first")
@@ -124,8 +160,64 @@ class Hint(Planted):
     def test_what_stays_open_is_told_with_its_goal(self):
         status, said = self.hint(HEAD + TYPE_AT, ["nothing proves"])
         self.assertRegex(said, r"type_at: nothing of \d+ tries proves it\n")
-        self.assertIn("    open: `x` must show Valid (tree resolve(..))\n", said)
+        self.assertIn("    open: `x` must show Valid (tree resolve(..))\n"
+                      "      where resolve(..) is `path.resolve(schema)` in line 13 of src/lib.rt\n", said)
         self.assertEqual((status, said.splitlines()[-1]), (1, "0 proved as written, 0 with an edit, 1 open"))
+
+    def test_a_lemma_is_named_only_if_it_is_about_what_is_open(self):
+        self.assertEqual([name for name, _, _ in rulesets.nearest("IsTrue (eq c.args.a c.args.b)")], [])
+        self.assertEqual([name for name, _, _ in rulesets.nearest("Sub (tree c.args.a.now) (tree c.merge.result)")][:1], ["sub_reflexive"])
+        _, said = self.hint(HEAD + TYPE_AT, ["nothing proves"])
+        self.assertNotIn("fit best", said)
+        near = said.partition("lemmas about what is open:")[2].splitlines()[2::2]
+        self.assertTrue(all("Valid" in it for it in near), said)
+
+    def test_a_law_that_is_about_the_open_goal_is_called(self):
+        self.assertEqual(laws.about("FoundIn (tree c.args.t.now) c.args.p.now v → Of v (tree c.resolve.result)"),
+                         ["vortex_dtype::laws::paths::resolution_is_exact_for_values"])
+        law = laws.about("Valid (tree c.resolve.result)")[0]
+        status, said = self.hint(HEAD + TYPE_AT, [f"{law}();"])
+        self.assertIn(f"type_at: proved with a call of the law `{law.rpartition('::')[2]}`:\n    +     {law}();\n", said)
+        self.assertEqual(status, 0)
+
+    def test_a_loop_that_needs_no_invariant_wants_a_ruleset_alone(self):
+        status, said = self.hint(HEAD + LISTED, ["rulesets::covering"])
+        self.assertIn("listed: proved:\n    + #[tactic(auto, using(vortex_dtype::proofs::rulesets::covering))]\n", said)
+        self.assertEqual((status, "Invariants.antt" in said), (0, False))
+
+    def test_a_chain_in_place_of_a_loop_is_printed(self):
+        status, said = self.hint(HEAD + HAS_ROOT, ["paths.iter().any(|path| path.is_root())"])
+        self.assertIn("has_root: proved with a chain that ends in `any` in place of the loop, which needs no invariant:\n"
+                      "    -     for path in paths {\n", said)
+        self.assertIn("    +     paths.iter().any(|path| path.is_root())\n", said)
+        self.assertEqual(status, 0)
+
+    def test_a_chain_is_printed_beside_an_invariant_that_proves_too(self):
+        words = ["paths.iter().any(|path| path.is_root())", "Any (λ p. p ≡ []) (into_iter_items l.path-iterator) ↔"]
+        source = HAS_ROOT.replace("&[FieldPath]", "Vec<FieldPath>").replace("paths.now", "paths.items")
+        _, said = self.hint(HEAD + source, words)
+        edit, _, rest = said.partition("    or a chain that ends in `any` in place of the loop, which needs no invariant:\n")
+        self.assertIn("has_root: proved:\n    + proofs/has_root/Invariants.antt:\n", edit)
+        self.assertIn("    +     paths.iter().any(|path| path.is_root())\n", rest)
+
+    def test_an_invariant_that_a_chain_does_not_need_is_removed(self):
+        file = f"{CRATE}/proofs/has_root/Invariants.antt"
+        self.write(file, WRONG.replace("listed", "has_root"))
+        _, said = self.hint(HEAD + HAS_ROOT, ["paths.iter().any(|path| path.is_root())"], "--write")
+        self.assertIn("    - proofs/has_root/Invariants.antt\n", said)
+        self.assertIn(f"removed {file}\n", said)
+        self.assertFalse(os.path.exists(f"{self.top}/{file}"))
+
+    def test_the_definitions_of_a_premise_are_unfolded(self):
+        line = ("#[tactic(auto, unfolding(vortex_dtype::specs::Meaning::empty_meaning, vortex_dtype::specs::Meaning::register_in))]")
+        status, said = self.hint(HEAD + AMOUNT, [line.removeprefix("#[tactic(auto, ")])
+        self.assertIn(f"amount: proved:\n    + {line}\n", said)
+        self.assertEqual(status, 0)
+
+    def test_a_line_without_a_ruleset_is_explained(self):
+        of_file = HEAD.replace("#![tactic(auto)]", "#![tactic(auto, using(vortex_dtype::proofs::rulesets::stepping))]")
+        _, said = self.hint(of_file + TYPE_AT, ["#[tactic(auto)]"])
+        self.assertIn("    + #[tactic(auto)]\n    (This line takes the place of the file's, so no ruleset is used: ", said)
 
     def test_an_invariant_that_proves_is_printed(self):
         status, said = self.hint(HEAD + LISTED, ["set_of l.yielded"])
@@ -161,6 +253,15 @@ class Hint(Planted):
         self.assertIn("type_at: not proved, since its contract has a mistake:\n    `ensures-1`: `Mistaken` is not in scope\n", said)
         self.assertNotIn("trying", said)
         self.assertEqual((status, said.splitlines()[-1]), (1, "0 proved as written, 0 with an edit, 1 open"))
+
+    def test_code_that_the_prover_has_no_rule_for_is_not_tried(self):
+        caller = TYPE_AT.replace("type_at", "found_at").replace("path.resolve(schema)", "type_at(path, schema)")
+        status, said = self.hint(HEAD + TYPE_AT.replace("path.resolve", "static_text(path).resolve") + caller, [""])
+        self.assertIn("type_at: not proved, because the prover has no rule for this code in src/lib.rt:11: a field that is an array is "
+                      "stored\n    Instead, use a variable, as `let c = s.a;`\n"
+                      "found_at: not proved, because it calls type_at, which isn't proved\n", said)
+        self.assertNotIn("trying", said)
+        self.assertEqual((status, said.splitlines()[-1]), (1, "0 proved as written, 0 with an edit, 2 open"))
 
     def test_an_invariant_of_another_form_of_a_clause_is_tried(self):
         source = LISTED.replace("IfOk result (λ s. s ≡ set_of paths.items)", "IfOk result (λ s. All (λ p. P s p) paths.items)")
@@ -236,6 +337,32 @@ class Forms(unittest.TestCase):
                 "        Some(b) => g(b),\n        None => {\n            let c = a;\n            g(c)\n        }\n    }\n}")
         changed = text.replace("=> g(b)", "=> Ok(g(b)?)").replace("            g(c)", "            Ok(g(c)?)")
         self.assertEqual(form(text, "`Ok(call(..)?)` in place of a call at the end"), changed)
+
+    def test_a_plugin_that_a_function_makes(self):
+        text = ("pub fn shop(alloc: Global) -> VortexResult<DTypeSession>\n    ensures { IfOk result (λ s. meaning rewrites s ≡ register_in "
+                "(codes \"shop.money\") (rewritten a b) empty_meaning) }\n{\n    let mut session = DTypeSession::new(alloc);\n"
+                "    session.register(Box::new(alloc, PluginOf::new(Money))?)?;\n    Ok(session)\n}")
+        made = form(text, forms.BOXED)
+        self.assertIn("    session.register(shop_plugin(alloc)?)?;\n    Ok(session)\n}\n\n"
+                      "fn shop_plugin(alloc: Global) -> VortexResult<Box<dyn ExtDTypePlugin>>\n"
+                      "    ensures id { IfOk result (λ b. id_text b ≡ codes \"shop.money\") }\n"
+                      "    ensures bytes { IfOk result (λ b. rewrites b ≡ rewritten a b) }\n"
+                      "{\n    Ok(Box::new(alloc, PluginOf::new(Money))?)\n}", made)
+        known = text.replace("meaning rewrites s ≡ register_in (codes \"shop.money\") (rewritten a b) empty_meaning",
+                             "IsSome ((meaning rewrites s).registered (codes \"shop.money\"))")
+        self.assertIn("ensures id { IfOk result (λ b. id_text b ≡ codes \"shop.money\") }\n{\n", form(known, forms.BOXED))
+        self.assertIsNone(form(text.replace("Box::new(alloc, PluginOf::new(Money))?", "plugin"), forms.BOXED))
+
+    def test_a_chain_in_place_of_a_loop(self):
+        text = ("fn f(a: &S) -> VortexResult<bool>\n    ensures { IfOk result (λ b. IsTrue b ↔ AllByRecursion P xs) }\n{\n    let s = a.g()?;\n"
+                "    for (n, d) in s.h()? {\n        if d.is_a() == n.is_b() {\n            return Ok(false);\n        }\n    }\n    Ok(true)\n}")
+        name = "a chain that ends in `all` in place of the loop, which needs no invariant"
+        self.assertTrue(form(text, name).endswith("    let s = a.g()?;\n    Ok(s.h()?.all(|(n, d)| d.is_a() != n.is_b()))\n}"), form(text, name))
+        self.assertIn("IsTrue b ↔ All P xs", form(text, f"{name}, and `All` in place of `AllByRecursion`"))
+        for other in (text.replace("is_a()", "is_a()?"), text.replace("Ok(true)", "Ok(false)"), text.replace("    Ok(true)", "    k();\n    Ok(true)")):
+            self.assertIsNone(form(other, name))
+        self.assertEqual([forms.negated(it) for it in ("a.b()", "!a.b()", "a && b", "a < b", "a != b")],
+                         ["!a.b()", "a.b()", "!(a && b)", "!(a < b)", "a == b"])
 
     def test_a_name_in_a_pattern(self):
         text = "fn f(a: u8) -> bool\n{\n    match g(a) {\n        Ok(_) => true,\n        Err(_) => false,\n    }\n}"
@@ -345,6 +472,15 @@ class Invariants(unittest.TestCase):
         self.assertIn("invariant-loop-d l = record {\n  all : l.count + count_by is_nested (map tree l.d-iterator) ≡", file)
         self.assertNotIn("can_next", file)
 
+    def test_what_the_check_writes_of_an_iterator_gets_a_hole(self):
+        text = "fn f(t: &StructFields) -> u64\n{\n    let mut count = 0;\n    for d in t.fields() {\n        count += 1;\n    }\n    count\n}"
+        skeleton = ("use Rattle.shop.proofs.f.Given as goal\n\nabbrev pub invariant-loop-d : goal.invariant-loop-d\n"
+                    "invariant-loop-d l =\n    (goal.iterator-loop-d).can_next l.d-iterator ×\n"
+                    "    (goal.iterator-loop-d).is_finite l.d-iterator\n")
+        said = invariants.skeleton(skeleton, {}, text)
+        self.assertIn("-- what is true before each turn, by l.d-iterator, l.t, l.count, l.yielded\nabbrev pub invariant-loop-d :", said)
+        self.assertTrue(said.endswith("(goal.iterator-loop-d).is_finite l.d-iterator ×\n    ?\n"), said)
+
     def test_a_walk_along_a_list(self):
         text = ("fn f(s: &FieldPathSet, path: &FieldPath) -> Option<C>\n"
                 "    ensures { contains_below_if result ≡ after_steps path.now (set.contains s.now) }\n{\n"
@@ -405,6 +541,14 @@ class Invariants(unittest.TestCase):
         self.assertEqual(invariants.statements(text, ["found", "yielded", "p-iterator", "fn.ps"]),
                          ["l.found ≡ set_of l.yielded", "set.union l.found (set_of (into_iter_items l.p-iterator)) ≡ set_of l.fn.ps.items"])
 
+    def test_a_loop_that_looks_for_a_path_of_a_set_has_none_so_far(self):
+        text = ("fn f<'a>(s: &'a FieldPathSet, path: &FieldPath) -> VortexResult<Option<&'a FieldPath>>\n"
+                "    ensures { IfOk result (λ r. IfNone r ((q : List Field) → IsTrue (set.contains s.now q) → Overlaps q path.now → ⊥)) }\n"
+                "{\n    for p in s.iter()? {\n        if p.overlap(path) {\n            return Ok(Some(p));\n        }\n    }\n    Ok(None)\n}")
+        known = ["s", "path", "p-iterator", "yielded"]
+        self.assertIn("All (λ x. Overlaps x.now l.path → ⊥) l.yielded", invariants.statements(text, known))
+        self.assertIn("All (λ x. Overlaps x.now l.path) l.yielded", invariants.statements(text.replace(" → ⊥", ""), known))
+
     def test_a_loop_over_a_list_of_its_own(self):
         text = ("fn f(alloc: Global, s: &S) -> VortexResult<Vec<String>>\n"
                 "    ensures { IfOk result (λ v. P s.now (map string_bytes v.items)) }\n{\n    let known = s.ids()?;\n"
@@ -430,6 +574,22 @@ class Invariants(unittest.TestCase):
         self.assertIn("invariant-loop-x l = map Some l.found.items ≡ map g (take l.x-index l.xs)\n", file)
 
 
+class Goals(unittest.TestCase):
+    TEXT = ("pub fn f(a: &A, b: &A, s: &S) -> bool\n    ensures { IsTrue result ↔ P a.now }\n{\n    if a.kind() == b.kind() {\n"
+            "        return *a == *b;\n    }\n    s.find(a.name())\n        .is_some()\n}")
+
+    def test_a_call_is_named_by_its_code_and_its_line(self):
+        goal = "IsTrue c.eq.result → IsTrue c.eq-2.result → c.find.result ≡ Some 0"
+        self.assertEqual(goals.readable(goal), "IsTrue eq(..) → IsTrue eq-2(..) → find(..) ≡ Some 0")
+        self.assertEqual(list(goals.calls_in(goal, self.TEXT)),
+                         [("eq(..)", "a.kind() == b.kind()", 3), ("eq-2(..)", "*a == *b", 4), ("find(..)", "s.find(a.name())", 6)])
+
+    def test_the_bytes_of_an_id_are_a_text(self):
+        self.assertEqual(goals.readable("c.args.id ≡ [120, 46, 116]"), 'id ≡ codes "x.t"')
+        self.assertEqual(goals.readable("P (120 ∷ 46 ∷ 116 ∷ [])"), 'P (codes "x.t")')
+        self.assertEqual(goals.readable("P [1, 2]"), "P [1, 2]")
+
+
 class Rulesets(unittest.TestCase):
     def test_each_ruleset_has_lemmas(self):
         for path, it in rulesets.rulesets().items():
@@ -443,7 +603,10 @@ class Rulesets(unittest.TestCase):
 
     def test_the_page_has_a_row_for_each_ruleset_to_choose_from(self):
         page = text_of("crates/vortex_dtype/CALLING.md")
+        smaller = " ".join(re.findall(r"(?ms)^-- ---- smaller.*?(?=^-- ---- |\Z)", text_of(rulesets.FILE)))
+        self.assertIn("zipped", smaller)
         for path in rulesets.rulesets():
-            address, _, name = path.rpartition("::")
+            name = path.rpartition("::")[2]
+            is_smaller = re.search(rf"[{{ ]{re.escape(name)}(?=[,}}]| =)", smaller)
             with self.subTest(path):
-                self.assertIn(f"| `{name}` |" if address == rulesets.ADDRESSES[0] else f"`{name}`", page)
+                self.assertIn(f"`{name}`" if is_smaller else f"| `{name}` |", page)

@@ -6,8 +6,8 @@
 use std::fmt::Display;
 use std::hash::{DefaultHasher, Hash, Hasher};
 use std::hint::black_box;
-use std::sync::Arc;
 
+use original::by_hand::merged;
 use vortex_array::dtype::proto::dtype as pb;
 use vortex_array::dtype::{DType, FieldName, FieldNames, FieldPath, FieldPathSet, Nullability, StructFields};
 use vortex_session::VortexSession;
@@ -40,26 +40,6 @@ pub fn types(meter: &Meter, types: &Types) {
 /// Uses a type, so that it has to be made.
 fn used(dtype: DType) -> usize {
     black_box(dtype).is_struct().into()
-}
-
-/// The least type that takes the values of both, a copy where one is it; `None` where more than nullability differs.
-fn merged(a: &DType, b: &DType) -> Option<DType> {
-    if a == b {
-        return Some(a.clone());
-    }
-    let nullability = a.nullability() | b.nullability();
-    match (a, b) {
-        (DType::Struct(a, _), DType::Struct(b, _)) if a.names() == b.names() => {
-            let fields = a.fields().zip(b.fields()).map(|(a, b)| merged(&a, &b)).collect::<Option<Vec<DType>>>()?;
-            Some(DType::Struct(StructFields::new(a.names().clone(), fields), nullability))
-        }
-        (DType::List(a, _), DType::List(b, _)) => Some(DType::List(Arc::new(merged(a, b)?), nullability)),
-        (DType::FixedSizeList(a, m, _), DType::FixedSizeList(b, n, _)) if m == n => {
-            Some(DType::FixedSizeList(Arc::new(merged(a, b)?), *m, nullability))
-        }
-        _ if a.eq_ignore_nullability(b) => Some(a.with_nullability(nullability)),
-        _ => None,
-    }
 }
 
 /// The SipHash of one of two.

@@ -5,6 +5,8 @@
 
 use std::hint::black_box;
 
+use original::clock::thread_cpu_time;
+
 /// How long a round is to take, in nanoseconds.
 const ROUND_TIME: u64 = 3_000_000;
 /// The greatest number of doublings of the iterations.
@@ -64,13 +66,4 @@ impl<'a> Meter<'a> {
         rounds.sort_unstable_by(f64::total_cmp);
         println!("{name} {:.1} {:.1}", rounds[0], rounds[ROUNDS / 2]);
     }
-}
-
-/// The processor time of this thread in nanoseconds.
-fn thread_cpu_time() -> u64 {
-    let mut time = libc::timespec { tv_sec: 0, tv_nsec: 0 };
-    // SAFETY: `time` lives through the call.
-    let failed = unsafe { libc::clock_gettime(libc::CLOCK_THREAD_CPUTIME_ID, &mut time) };
-    assert_eq!(failed, 0, "this system has no clock for a thread");
-    time.tv_sec as u64 * 1_000_000_000 + time.tv_nsec as u64
 }

@@ -16,6 +16,8 @@ mod round;
 mod sets;
 mod shape;
 mod texts;
+#[path = "../../../../bindings/rust/examples/vortex_array/translate.rs"]
+mod translate;
 mod types;
 
 use std::env;
@@ -83,6 +85,7 @@ fn make(round: &mut Round) {
     let (a, b) = (round.pair(shape), round.pair(other));
     types::of_one(round, &a);
     types::of_two(round, &a, &b);
+    types::merged(round, &a, &b);
     texts::of_type(round, &a);
     types::scalars(round);
     types::constructors(round);
@@ -123,6 +126,7 @@ fn with_parts(round: &mut Round) {
     fields::of_union(round, &union);
     fields::of_extension(round, &extension);
     fields::of_struct(round, &one, &other);
+    types::merged(round, &one, &other);
     sets::of_type(round, &one);
 }
 

@@ -181,12 +181,9 @@ pub fn of_any(round: &mut Round) {
     let other = if round.random.bool() { one.clone() } else { other };
     let (one, other) = (made(round, one), made(round, other));
     let source = told(&one.theirs);
-    let read: Result<ours::Message, u32> = source.parse().map_err(|error: ours::Error| error.code());
     same! { round, source.clone();
         "Message::eq": one.ours == other.ours, one.theirs == other.theirs;
         "Message::clone": flat_of(&one.ours.clone()), flat(&one.theirs);
-        "Message::to_source": one.ours.to_source(), source.clone();
-        "Message::from_str": read.map(|it| flat_of(&it)), Ok(flat(if round.is_spoiled { &other.theirs } else { &one.theirs }));
     }
     for (unknown, word) in [(UnknownIds::Refuse, "strict"), (UnknownIds::Allow, "unknown")] {
         let session = Session::of(vec![word]).made();
@@ -231,6 +228,5 @@ pub fn of_path(round: &mut Round) {
     let here = |it: Result<ours::FieldPath, ours::Error>| it.map(|it| steps_of_ours(&it)).map_err(|error| error.code());
     same! { round, source.clone();
         "FieldPath::from_proto": here(ours::FieldPath::from_proto(parts.iter().map(Option::as_ref))), there();
-        "FieldPath::from_proto_source": here(ours::FieldPath::from_proto_source(&source)), there();
     }
 }

@@ -4,6 +4,7 @@
 //! Calls on sets of paths, and projections. The original has no call for what is below a path, for the paths that don't
 //! exist, and for projections: these have a model.
 
+use std::borrow::Borrow;
 use std::collections::{BTreeSet, HashSet};
 
 use original::models;
@@ -20,8 +21,8 @@ struct Sets {
     theirs: theirs::FieldPathSet,
 }
 
-fn sorted_ours(paths: impl IntoIterator<Item = ours::FieldPath>) -> Vec<Steps> {
-    let mut all: Vec<Steps> = paths.into_iter().map(|it| steps_of_ours(&it)).collect();
+fn sorted_ours(paths: impl IntoIterator<Item = impl Borrow<ours::FieldPath>>) -> Vec<Steps> {
+    let mut all: Vec<Steps> = paths.into_iter().map(|it| steps_of_ours(it.borrow())).collect();
     all.sort();
     all
 }

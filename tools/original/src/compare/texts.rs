@@ -49,11 +49,9 @@ pub fn of_path(round: &mut Round, path: &Paths) {
     }
 }
 
+/// (The driver has one number for texts that can't be read, those that are nested too deeply too.)
 fn why_not(error: Error) -> (u32, usize) {
-    match error {
-        Error::Unreadable { position } => (error.code(), position),
-        _ => (error.code(), 0),
-    }
+    error.position().map_or((error.code(), 0), |position| (UNREADABLE, position))
 }
 
 fn ours_type(text: &str) -> Read<Shape> {
@@ -72,11 +70,8 @@ fn theirs_path(text: &str) -> Read<generate::Steps> {
     read::<theirs::FieldPath>(text).map(|it| steps_of_theirs(&it))
 }
 
-/// What the driver reads. A text is the whole argument, so no blank stands before it.
+/// What the driver reads. A text is the whole argument, with blanks before and behind it.
 fn read<T: Argument>(text: &str) -> Read<T> {
-    if text.starts_with([' ', '\t']) {
-        return Err((UNREADABLE, 1));
-    }
     let sessions = RefCell::new(Living::default());
     let result = Line::new(text, &sessions).last();
     result.map_err(|Stop(text)| {

@@ -14,6 +14,7 @@ use crate::generate;
 use crate::report::hash_of;
 use crate::round::*;
 use crate::shape::{Shape, number_of};
+use crate::translate;
 
 /// Compares the tests of kinds, which both sides have under the same names.
 macro_rules! tests {
@@ -26,6 +27,7 @@ macro_rules! tests {
 pub fn of_one(round: &mut Round, it: &Pair) {
     kinds(round, it);
     nullability(round, it);
+    translated(round, it);
     same! { round, it.text();
         "DType::clone": Shape::of_ours(&it.ours.clone()), Shape::of_theirs(&it.theirs.clone());
         "element_size": it.ours.element_size().map_err(|error| error.code()),
@@ -35,6 +37,16 @@ pub fn of_one(round: &mut Round, it: &Pair) {
             theirs_element(it.theirs.as_fixed_size_list_element_opt());
         "as_any_size_list_element_opt": ours_found(it.ours.as_any_size_list_element_opt().cloned()),
             theirs_element(it.theirs.as_any_size_list_element_opt());
+    }
+}
+
+/// The two functions of the package's example, each from the type of one side to that of the other.
+fn translated(round: &mut Round, it: &Pair) {
+    let here = translate::to_proved(&it.theirs).map(|it| Shape::of_ours(&it)).map_err(|error| error.to_string());
+    let there = translate::to_vortex(&it.ours).map(|it| Shape::of_theirs(&it)).map_err(|error| error.to_string());
+    same! { round, it.text();
+        "to_proved": Ok(it.ours_shape()), here;
+        "to_vortex": there, Ok(it.theirs_shape());
     }
 }
 
@@ -118,6 +130,21 @@ pub fn of_two(round: &mut Round, a: &Pair, b: &Pair) {
         "eq_with_nullability_superset": x.eq_with_nullability_superset(y), models::is_subset(t, s);
         "merge_nullability": Ok(ours_found(x.merge_nullability(y))), bound(|a, b| a || b, s, t);
         "intersect_nullability": Ok(ours_found(x.intersect_nullability(y))), bound(|a, b| a && b, s, t);
+    }
+}
+
+/// Two types merged by columns, and why they can't be.
+pub fn merged(round: &mut Round, a: &Pair, b: &Pair) {
+    let conflict = a.ours.merge_conflict(&b.ours);
+    let place = conflict.map(|it| (steps_of_ours(&it.path), Shape::of_ours(&it.left), Shape::of_ours(&it.right)));
+    let model = models::merge_conflict(&a.theirs, &b.theirs).map_err(code_of);
+    let model = model.map(|it| {
+        it.map(|(path, left, right)| (steps_of_theirs(&path), Shape::of_theirs(&left), Shape::of_theirs(&right)))
+    });
+    same! { round, format!("{} and {}", a.text(), b.text());
+        "merge_columns": Ok(ours_found(a.ours.merge_columns(&b.ours))),
+            models::merge_columns(&a.theirs, &b.theirs).map(theirs_found).map_err(code_of);
+        "merge_conflict": Ok(place), model;
     }
 }
 

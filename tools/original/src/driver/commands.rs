@@ -210,6 +210,11 @@ fn add_types(c: &mut Console) {
         superset(a: DType, b: DType) is_subset(&b, &a);
         merge_nullability(a: DType, b: DType) bound(|a, b| a || b, &a, &b);
         intersect_nullability(a: DType, b: DType) bound(|a, b| a && b, &a, &b);
+        merge_columns(a: DType, b: DType) merge_columns(&a, &b);
+        merge_conflict(a: DType, b: DType) match merge_conflict(&a, &b)? {
+            Some((path, left, right)) => format!("{} {} {}", path.told()?, left.told()?, right.told()?),
+            None => "none".to_owned(),
+        };
         // (the call is the crate's own; what it is for is that these hash the same)
         hash_ignore_nullability_eq(a: DType, b: DType) a.eq_ignore_nullability(&b);
         inner_eq(a: DType, b: DType) insides(&a, &b, "eq");

@@ -3,6 +3,8 @@
 
 //! What the programs of this folder share: the console over the original, and models of what the original doesn't answer.
 
+pub mod by_hand;
+pub mod clock;
 pub mod commands;
 pub mod errors;
 pub mod line;

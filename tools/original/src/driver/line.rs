@@ -221,6 +221,13 @@ impl<'a> Line<'a> {
         self.found(at, meant(word))
     }
 
+    /// The value of the word of a type that stands here, in which dots may stand as in an id.
+    pub fn word_of_type<T>(&mut self, meant: impl FnOnce(&str) -> Option<T>) -> Answer<T> {
+        let at = self.at;
+        let word = self.take(|sign| is_bare(sign) || sign == '.');
+        self.found(at, meant(word))
+    }
+
     /// The value whose text stands here.
     pub fn one_of<T: ToString + Copy>(&mut self, known: &[T]) -> Answer<T> {
         self.word(|word| known.iter().find(|it| it.to_string() == word).copied())

@@ -86,7 +86,7 @@ pub fn session(line: &mut Line) -> Answer {
 pub fn set(sets: &mut Living<Vec<FieldPath>>, line: &mut Line) -> Answer {
     let name: FieldName = line.argument()?;
     let begins = |it: &str| matches!(it, "new" | "insert" | "extend");
-    let asks = |it: &str| matches!(it, "contains" | "below" | "missing" | "iter" | "cover" | "drain" | "drop");
+    let asks = |it: &str| matches!(it, "contains" | "below" | "missing" | "compare" | "union" | "iter" | "cover" | "drain" | "drop");
     let command = line.command_word(|it| begins(it) || asks(it))?;
     if asks(command) {
         sets.there("set", name.as_ref())?;
@@ -99,6 +99,7 @@ pub fn set(sets: &mut Living<Vec<FieldPath>>, line: &mut Line) -> Answer {
             let others: Vec<FieldPath> = line.argument()?;
             [vec![first], others].concat()
         }
+        "compare" | "union" => line.argument()?,
         _ => Vec::new(),
     };
     let dtype = if command == "missing" { line.argument()? } else { DType::Null };
@@ -113,6 +114,8 @@ pub fn set(sets: &mut Living<Vec<FieldPath>>, line: &mut Line) -> Answer {
         "iter" => paths(set.iter()),
         "below" => below(items, &given[0]),
         "missing" => paths(set.iter().filter(|path| resolve(path, &dtype).is_none())),
+        "compare" => compare(items, &given),
+        "union" => paths(FieldPathSet::from_iter(items.iter().chain(&given).cloned()).iter()),
         "cover" => cover(set),
         "drain" => cover(set).inspect(|_| items.clear()),
         "new" => "ok".told().inspect(|_| items.clear()),
@@ -122,6 +125,20 @@ pub fn set(sets: &mut Living<Vec<FieldPath>>, line: &mut Line) -> Answer {
 
 pub fn cover(set: FieldPathSet) -> Answer {
     paths(&set.into_iter().collect::<Vec<_>>())
+}
+
+/// How two sets of paths are related, which the original has no call for: by Rust's own sets of the same paths.
+fn compare(items: &[FieldPath], given: &[FieldPath]) -> Answer {
+    let (set, other): (HashSet<_>, HashSet<_>) = (items.iter().collect(), given.iter().collect());
+    let words = [
+        ("empty", set.is_empty()),
+        ("equal", set == other),
+        ("subset", set.is_subset(&other)),
+        ("superset", set.is_superset(&other)),
+        ("disjoint", set.is_disjoint(&other)),
+    ];
+    let related = words.iter().filter(|(_, holds)| *holds).map(|(word, _)| format!(" {word}"));
+    Ok(format!("{} {}{}", set.len(), other.len(), related.collect::<String>()))
 }
 
 /// What a set of paths asks for after some steps, which the original has no call for: whether one ends, and next steps.

@@ -203,6 +203,82 @@ pub fn bound(rule: fn(bool, bool) -> bool, a: &DType, b: &DType) -> Answer<Optio
     a.eq_ignore_nullability(b).then(|| marked(rule, a, b)).transpose()
 }
 
+/// The fields of a struct beside those of another: for each field its name, its type, and the type of the field of that
+/// name in the other. A column is found by its name, so there are none where a name repeats in one of the two.
+fn columns(a: &StructFields, b: &StructFields) -> Option<Vec<(FieldName, DType, Option<DType>)>> {
+    let repeats = |it: &StructFields| it.names().iter().collect::<HashSet<_>>().len() < it.nfields();
+    if repeats(a) || repeats(b) {
+        return None;
+    }
+    Some(a.names().iter().zip(a.fields()).map(|(name, here)| (name.clone(), here, b.field(name))).collect())
+}
+
+/// The least type as which both types can be read: by adding nulls for columns that a struct lacks, and by putting its
+/// columns into another order. It has the columns of the first, each merged with that of its name in the second, and
+/// then the columns that the first lacks. What one of the two lacks is nullable. What has no columns is merged by
+/// nullability alone.
+pub fn merge_columns(a: &DType, b: &DType) -> Answer<Option<DType>> {
+    let by_nullability = || bound(|a, b| a || b, a, b);
+    let nullability = (is_marked(a) || is_marked(b)).into();
+    let are_alike = match (a, b) {
+        (DType::Struct(fields, _), DType::Struct(others, _)) => {
+            let (Some(here), Some(there)) = (columns(fields, others), columns(others, fields)) else {
+                return by_nullability();
+            };
+            let mut merged = Vec::new();
+            for (name, dtype, other) in here {
+                let column = other.map_or_else(|| Ok(Some(dtype.as_nullable())), |it| merge_columns(&dtype, &it))?;
+                let Some(column) = column else {
+                    return Ok(None);
+                };
+                merged.push((name, column));
+            }
+            let further = there.into_iter().filter(|(_, _, here)| here.is_none());
+            merged.extend(further.map(|(name, dtype, _)| (name, dtype.as_nullable())));
+            return Ok(Some(DType::Struct(StructFields::from_iter(merged), nullability)));
+        }
+        (DType::List(..), DType::List(..)) => true,
+        (DType::FixedSizeList(_, size, _), DType::FixedSizeList(_, other, _)) => size == other,
+        (DType::Map(map, _), DType::Map(other, _)) => map.keys_sorted() == other.keys_sorted(),
+        (DType::Extension(it), DType::Extension(other)) => {
+            it.id() == other.id() && it.serialize_metadata()? == other.serialize_metadata()?
+        }
+        _ => return by_nullability(),
+    };
+    let mut merged = Vec::new();
+    for (part, other) in parts(a).iter().zip(&parts(b)).filter(|_| are_alike) {
+        merged.extend(merge_columns(part, other)?);
+    }
+    // (a merged key is non-nullable, because both keys are)
+    if merged.len() == parts(a).len() { with_parts(a, merged, nullability).map(Some) } else { Ok(None) }
+}
+
+/// The first place at which two types can't be merged by columns, and the two types there: of the columns of a struct
+/// that the other has too, and of the elements of lists, the first that can't be merged, and the place in it.
+pub fn merge_conflict(a: &DType, b: &DType) -> Answer<Option<(FieldPath, DType, DType)>> {
+    if merge_columns(a, b)?.is_some() {
+        return Ok(None);
+    }
+    let inner: Vec<(Field, DType, Option<DType>)> = match (a, b) {
+        (DType::Struct(fields, _), DType::Struct(others, _)) => {
+            let named = columns(fields, others).into_iter().flatten();
+            named.map(|(name, here, there)| (Field::Name(name), here, there)).collect()
+        }
+        (DType::FixedSizeList(_, size, _), DType::FixedSizeList(_, other, _)) if size != other => Vec::new(),
+        (DType::List(..), DType::List(..)) | (DType::FixedSizeList(..), DType::FixedSizeList(..)) => {
+            vec![(Field::ElementType, parts(a).remove(0), parts(b).pop())]
+        }
+        _ => Vec::new(),
+    };
+    for (step, here, there) in inner.into_iter().filter_map(|(step, here, there)| Some((step, here, there?))) {
+        if let Some((path, left, right)) = merge_conflict(&here, &there)? {
+            let steps: Vec<Field> = std::iter::once(step).chain(path.parts().iter().cloned()).collect();
+            return Ok(Some((steps.into(), left, right)));
+        }
+    }
+    Ok(Some((FieldPath::root(), a.clone(), b.clone())))
+}
+
 /// The projection of a type to paths, none where no path exists in it: a part is whole where a path ends at it, else
 /// what is kept of it by the paths through it. Of the fields of a name the first counts.
 pub fn project_paths(dtype: &DType, paths: &[&[Field]]) -> Answer<Option<DType>> {

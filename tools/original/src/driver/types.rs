@@ -150,9 +150,9 @@ fn map(line: &mut Line) -> Answer<DType> {
     line.between(",")?;
     let value = line.inside(DType::read)?;
     line.between(",")?;
-    line.expect("keys_sorted")?;
+    line.word_of_type(|word| (word == "keys_sorted").then_some(()))?;
     line.between("=")?;
-    let sorted = bool::read(line)?;
+    let sorted = line.word_of_type(|word| word.parse().ok())?;
     line.close(")")?;
     Ok(DType::Map(MapDType::try_new(key, value, sorted)?, mark(line)))
 }

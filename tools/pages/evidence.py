@@ -57,7 +57,7 @@ def laws():
 def mutations():
     """The mutations of the libraries: each its file, the items that it is of, and the functions that it changes."""
     public = {(it.file, it.start): item_of(it) for _, it in public_calls()}
-    for file in sorted(glob("crates/*/must-fail/*.edit") + glob("crates/*/wrong/*.edit")):
+    for file in sorted(glob("crates/*/wrong/*.edit")):
         crate, text, source, named, changed = file.split("/")[1], text_of(file), "", [], []
         if crate not in libraries():
             continue

@@ -44,7 +44,11 @@ NAMED = {"text": "Display for {}", "eq": "PartialEq for {}", "hash_eq": "Hash fo
 SHOWN = {
     "FieldPathSet::new": "set t new", "FieldPathSet::extend": "set s extend a.b x a",
     "FieldPathSet::insert": "set s insert a.c", "StructFields::from_iter": "struct_from_iter a,a",
-    "FieldPathSet::unresolved": "set t missing u8", "DTypeSession::new": "session s new",
+    "FieldPathSet::unresolved": "set t missing u8", "FieldPathSet::union": "set s union a.c a x",
+    **{it: "set s compare a.b a" for it in (
+        "FieldPathSet::len", "FieldPathSet::is_subset", "FieldPathSet::is_superset", "PartialEq for FieldPathSet")},
+    "FieldPathSet::is_empty": "set s compare y", "FieldPathSet::is_disjoint": "set s compare a.b.c b.a x",
+    "DTypeSession::new": "session s new",
     "DTypeSession::register": "session s register x.tag", "IndexedNames::try_clone": "", "pb::PType::try_clone": "",
     **{f"{trait} for {owner}": f"{command} {kind}" for trait, command in (
         ("PartialEq", "inner_eq"), ("Hash", "inner_hash_eq")) for owner, kind in (

@@ -3,7 +3,8 @@
 # SPDX-FileCopyrightText: Copyright the Vortex contributors
 
 """The operations of the summary of docs/BENCHMARKS.md: the cases of docs/benchmarks.csv that each is of, and the least
-and the greatest ratio of their times to the Rust's. `tools/pages/speed.py` writes the summary; `pages` checks it."""
+and the greatest ratio of their times to those of vortex-array. `tools/pages/speed.py` writes the summary, and `pages`
+checks it."""
 import csv
 import re
 import sys
@@ -33,13 +34,13 @@ make the names, and build a struct of them: build/texts/* build/and_drop/*
 read a message: read/*
 write a message: write/*
 copy or set nullability of a struct: copy/wide/* copy/deep/* with_nullability/wide/* with_nullability/deep/*
-merge structs (in the Rust library by hand): merge/wide/* merge/deep/* merge_equal/wide/* merge_equal/deep/*
+merge structs (written by hand with vortex-array, which has no such call): merge/wide/* merge/deep/* merge_equal/wide/* merge_equal/deep/*
 copy, merge, or set nullability of 64 nested lists or extensions: copy/*/64 with_nullability/*/64 merge/*/64 merge_equal/*/64
 path sets, insert or copy: set/from_iter/* set/copy/*
 path sets, contains: set/contains/*
 path sets, cover: set/into_iter/*
 """.strip().split("\n"))}
-SUMMARY = re.compile(r"(?m)^\| Operation \| Time here, divided by the Rust library's \|\n(?:\|.*\n)*")
+SUMMARY = re.compile(r"(?m)^\| Operation \| Time here, divided by vortex-array's \|\n(?:\|.*\n)*")
 
 
 def number(ratio):
@@ -49,13 +50,13 @@ def number(ratio):
 
 def summary():
     """The table on the page, each operation with the least and the greatest ratio of its cases; and the cases of none.
-    A ratio is the library's time divided by the Rust's, of each case that both were measured on but the empty one."""
+    A ratio is the library's time divided by vortex-array's, of each case that both were measured on but the empty one."""
     ratios, rest = {name: [] for name in OPERATIONS}, []
     for row in csv.DictReader(text_of(TABLE).splitlines()):
         if row["port_ns"] and float(row["rust_ns"] or 0) and row["case"] != "empty":
             of = (name for name, patterns in OPERATIONS.items() if any(fnmatchcase(row["case"], it) for it in patterns))
             ratios.get(next(of, ""), rest).append((float(row["port_ns"]) / float(row["rust_ns"]), row["case"]))
-    lines = ["| Operation | Time here, divided by the Rust library's |", "|---|---|"]
+    lines = ["| Operation | Time here, divided by vortex-array's |", "|---|---|"]
     for name, own in ratios.items():
         shown = dict.fromkeys(number(ratio) for ratio, _ in (min(own), max(own)))
         lines.append(f"| {name} | {' to '.join(shown)} |")

@@ -4,13 +4,10 @@
 """The tools that run `rt` or a program, over an `rt` and programs that do as they are told."""
 import shutil
 import subprocess
-from glob import glob
 
-from planted import TOOLS, Planted
+from planted import Planted
 from repository import crates
 
-# The folder of a crate in which the mutations are planted that are tried here.
-TRIED = "crates/fixtures_values"
 NOT_PROVED = r"printf '== dtype_base\nfn f: not proved: x\nrt: dtype_base NOT PROVED\n7 passed, 1 failed\n'; exit 1"
 KIT = "[ $1 = version ] && echo rattle-kit-1 || echo '  rt ci     {}'"
 # A driver that says the same of all that it can read, and golden files of two lines.
@@ -26,7 +23,6 @@ LONG_LINES = [
     ("0x«7*#:02x||35..37»", "0xf5fc03"),
 ]
 FUZZ = "fuzz bin/driver bin/console"
-LEFT = f"{len(crates()) - 1} crates and {len(glob(f'{TOOLS}/../crates/*/must-fail/*.edit')) + 1} mutations"
 # A script, what it does, a tool with its arguments, the status, and the texts that are told.
 RUNS = [
     ("bin/rt", "", "repository.py", 0, "/bin/rt\n"),
@@ -36,7 +32,7 @@ RUNS = [
      "tries: tests_types: test two ... FAILED"),
     ("bin/rt", "echo no such thing", "tries tests_types", 1, "tests_types: the tests have no result"),
     ("bin/rt", "echo wrong", "tries dtype_demo", 1, "dtype_demo: status 0; where its output differs"),
-    ("bin/rt", NOT_PROVED, "run_ci log", 1, f"dtype_base: NOT PROVED ({LEFT} left)", "    fn f: not proved: x",
+    ("bin/rt", NOT_PROVED, "run_ci log", 1, f"dtype_base: NOT PROVED ({len(crates()) - 1} crates left)", "    fn f: not proved: x",
      "\n7 passed, 1 failed\n"),
     ("bin/rt", "echo rt: dtype_base proved; exit 1", "run_ci log", 1, "\n0 passed, 1 failed\n"),
     ("bin/rt", KIT.format("proves what changed, and keeps the rest"), "run_ci --expect", 0,
@@ -68,7 +64,7 @@ RUNS = [
 
 class Runs(Planted):
     def test_tells_each(self):
-        for file, text in ((f"{TRIED}/must-fail/other.edit", ""), ("crates/dtype_demo/stdout", "right\n"),
+        for file, text in (("crates/dtype_demo/stdout", "right\n"),
                            ("crates/dtype_console/stdin", "# A name.\nname a\nname_eq a\n"),
                            ("crates/dtype_console/stdout", GOLDEN), ("tools/shared/long_lines.txt", "")):
             self.write(file, text)
@@ -130,32 +126,22 @@ class Runs(Planted):
 
 
 class Sizes(Planted):
-    """Over a console that answers each text as tools/gate/sizes has it, and other lines by a word."""
-
-    CONSOLE = """#!/usr/bin/env python3
-import importlib.machinery, sys
-sys.path.append("{0}/tools/shared")
-sizes = importlib.machinery.SourceFileLoader("sizes", "{0}/tools/gate/sizes").load_module()
-texts = dict(sizes.texts())
-for line in sys.stdin.read().splitlines():
-    print({1})
-"""
-    RIGHT = "texts.get(line, 'ok')"
+    """Over a console that answers each line by a word."""
 
     def asked(self, answer):
-        self.write("bin/console", self.CONSOLE.format(self.top, answer), 0o755)
+        self.write("bin/console", f"#!/usr/bin/env python3\nimport sys\nfor line in sys.stdin.read().splitlines():\n    print({answer})\n",
+                   0o755)
         return self.run_tool("sizes", "bin/console")
 
     def test_asks_each_command_in_each_size(self):
-        status, said = self.asked(self.RIGHT)
+        status, said = self.asked("'ok'")
         self.assertRegex(said, r"^sizes: 6\d,\d{3} lines\n\d+ passed, 0 failed\n$")
         self.assertEqual(status, 0)
 
     def test_tells_a_body_that_gives_up_for_one_size(self):
         for line, told in (("path_text " + ".".join(["[]"] * 56), "sizes: path_text [].[].[]"),
                            ("cover " + " ".join(f"f{it}" for it in range(23)), "sizes: cover f0 f1 f2 ")):
-            answer = f"{self.RIGHT} if line != '{line}' else 'refused 0: out of memory'"
-            status, said = self.asked(answer)
+            status, said = self.asked(f"'ok' if line != '{line}' else 'refused 0: out of memory'")
             self.assertIn(told, said)
             self.assertEqual((status, said.splitlines()[-1].partition(", ")[2]), (1, "1 failed"), said)
 

@@ -13,5 +13,6 @@ pub mod Widths
 pub mod Selected
 pub mod TellLaws
 pub mod OwnTags
+pub mod Untagged
 pub mod MergedParts
 pub mod lemmas

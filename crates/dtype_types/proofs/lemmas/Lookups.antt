@@ -6,12 +6,12 @@ use Rattle.std.proofs.Common.{◌≡◌, ◌≢◌, ℕ, zero, suc, ◌<◌, Lis
 use Rattle.std.specs.Str.{bytes_eq}
 use Rattle.std.proofs.lemmas.Bool.{false_from_ne_true}
 use Rattle.std.proofs.lemmas.Option.{same_Some}
-use Rattle.std.proofs.lemmas.Simd.{map-map}
 use Rattle.std.proofs.lemmas.Slice.Eq.{bytes_eq-Decides}
 use Rattle.dtype_base.specs.FieldNames.{IsAbsent, first_place}
 use Rattle.dtype_base.proofs.lemmas.Lookups.{first_of_place, absent_of_place}
 use Rattle.dtype_types.specs.parts.Lookups.{first_named, field_names, field_types, variant_named, variant_names, variant_types}
 use Rattle.dtype_types.specs.tree.Tree.{Tree}
+use Rattle.dtype_types.proofs.Untagged.{untagged, untagged_names, untagged_types, untagged_named}
 
 -- the test of a name, at a name that is equal and at one that is not
 pub taken_same_name : {X : Type 0} (m n : List ℕ) (x y : X) → m ≡ n → cond (bytes_eq m n) x y ≡ x
@@ -38,20 +38,7 @@ field_at_place fs n i e = let at = first_of_place (field_names fs) n i e in sym 
 pub no_field_at_place : (fs : List (List ℕ × Tree)) (n : List ℕ) → None ≡ first_place (field_names fs) n → None ≡ first_named fs n
 no_field_at_place fs n e = sym (field_named-none fs n (absent_of_place (field_names fs) n e))
 
--- ---- variants, as fields with their tags left out
-
-abbrev pub untagged : List (List ℕ × (Tree × ℕ)) → List (List ℕ × Tree)
-untagged vs = map (λ v. (v.0, v.1.0)) vs
-
-pub untagged_names : (vs : List (List ℕ × (Tree × ℕ))) → field_names (untagged vs) ≡ variant_names vs
-untagged_names vs = map-map (λ p. p.0) _ vs
-
-pub untagged_types : (vs : List (List ℕ × (Tree × ℕ))) → field_types (untagged vs) ≡ variant_types vs
-untagged_types vs = map-map (λ p. p.1) _ vs
-
-pub untagged_named : (vs : List (List ℕ × (Tree × ℕ))) (n : List ℕ) → first_named (untagged vs) n ≡ variant_named vs n
-untagged_named [] n = refl
-untagged_named (v ∷ vs) n = ap (cond (bytes_eq v.0 n) (Some v.1.0)) (untagged_named vs n)
+-- ---- variants, by their list of names and types without tags
 
 pub variant_at_place : (vs : List (List ℕ × (Tree × ℕ))) (n : List ℕ) (i : ℕ) → Some i ≡ first_place (variant_names vs) n → slice_get (variant_types vs) i ≡ variant_named vs n
 variant_at_place vs n i e =

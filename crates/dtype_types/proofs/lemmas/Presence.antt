@@ -13,7 +13,8 @@ use Rattle.std.proofs.lemmas.Slice.Eq.{bytes_eq-Decides}
 use Rattle.dtype_base.specs.FieldNames.{first_place}
 use Rattle.dtype_base.proofs.lemmas.Lookups.{first_of_place, absent_of_place}
 use Rattle.dtype_types.specs.parts.Lookups.{first_named, field_names, field_types, variant_named, variant_names}
-use Rattle.dtype_types.proofs.lemmas.Lookups.{field_at_place, no_field_at_place, untagged, untagged_named, untagged_names}
+use Rattle.dtype_types.proofs.Untagged.{untagged, untagged_named, untagged_names}
+use Rattle.dtype_types.proofs.lemmas.Lookups.{field_at_place, no_field_at_place}
 use Rattle.dtype_types.specs.tree.Tree.{Tree}
 
 is_some-map : {A B : Type 0} (f : A → B) (o : Option A) → is_some (option_map f o) ≡ is_some o

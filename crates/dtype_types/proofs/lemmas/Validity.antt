@@ -18,7 +18,7 @@ use Rattle.dtype_types.specs.parts.Lookups.{first_named, variant_named, field_ty
 use Rattle.dtype_types.specs.parts.Maps.{entries_of}
 use Rattle.dtype_types.specs.nullability.Nullable.{nullability, set_null}
 use Rattle.dtype_types.proofs.Parts.{trees_zip}
-use Rattle.dtype_types.proofs.lemmas.Lookups.{untagged, untagged_named, untagged_types}
+use Rattle.dtype_types.proofs.Untagged.{untagged, untagged_named, untagged_types}
 use Rattle.dtype_types.proofs.lemmas.Nullabilities.{in_storage}
 use Rattle.dtype_types.specs.tree.Tree.{Tree, fields, variants, null, list, fixed_size_list, map_of, extension}
 use Rattle.dtype_types.proofs.lemmas.ValidParts.{of_lent, valid_parts, borrowed_list_element, borrowed_fixed_size_element, borrowed_any_size_element, owned_list_element, owned_fixed_size_element, owned_any_size_element, borrowed_map, owned_map, borrowed_struct, owned_struct, borrowed_union, owned_union, extension_is_valid, borrowed_extension}

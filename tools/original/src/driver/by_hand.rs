@@ -29,6 +29,28 @@ pub fn merged(a: &DType, b: &DType) -> Option<DType> {
     }
 }
 
+/// The struct that has the columns of both, by name: those of the first in their order, then those of the second that the
+/// first lacks. What one of them lacks is nullable. `None` where the types of a column differ in more than nullability.
+pub fn merged_columns(a: &DType, b: &DType) -> Option<DType> {
+    let (DType::Struct(one, _), DType::Struct(other, _)) = (a, b) else {
+        return merged(a, b);
+    };
+    let mut columns = Vec::with_capacity(one.nfields());
+    for (name, dtype) in one.names().iter().zip(one.fields()) {
+        let column = match other.find(name) {
+            Some(place) => merged_columns(&dtype, &other.field_by_index(place)?)?,
+            None => dtype.as_nullable(),
+        };
+        columns.push((name.clone(), column));
+    }
+    for (name, dtype) in other.names().iter().zip(other.fields()) {
+        if one.find(name).is_none() {
+            columns.push((name.clone(), dtype.as_nullable()));
+        }
+    }
+    Some(DType::Struct(StructFields::from_iter(columns), a.nullability() | b.nullability()))
+}
+
 /// The part of a type that a reader of the paths opens: a part is whole where a path ends at it.
 pub fn projected(dtype: &DType, paths: &[&[Field]]) -> Option<DType> {
     if paths.iter().any(|path| path.is_empty()) {

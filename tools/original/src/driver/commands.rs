@@ -84,7 +84,9 @@ pub struct Console {
 impl Console {
     pub fn new() -> Self {
         let mut console = Self { commands: HashMap::new(), sets: RefCell::default(), sessions: RefCell::default() };
-        for add_to in [add_alike, add_types, add_structs, add_extensions, add_paths, add_numbers, add_natives] {
+        for add_to in
+            [add_alike, add_types, add_structs, add_extensions, add_paths, add_numbers, add_natives, add_as_it_is]
+        {
             add_to(&mut console);
         }
         console
@@ -220,6 +222,15 @@ fn add_types(c: &mut Console) {
         inner_eq(a: DType, b: DType) insides(&a, &b, "eq");
         inner_hash_eq(a: DType, b: DType) insides(&a, &b, "hash_eq");
         inner_eq_ignore_nullability(a: DType, b: DType) insides(&a, &b, "eq_ignore_nullability");
+    }
+}
+
+/// What the original itself answers where this port answers otherwise, and where the other commands answer by a model.
+fn add_as_it_is(c: &mut Console) {
+    calls! { c:
+        original_subset(a: DType, b: DType) a.eq_with_nullability_subset(&b);
+        original_element_size(dtype: DType) dtype.element_size();
+        original_read(session: Session, message: pb::DType) DType::from_proto(&message, &session.made());
     }
 }
 

@@ -21,8 +21,8 @@ use meter::Meter;
 use on_messages::{ReadMessage, WriteAndRead, WriteMessage, messages};
 use on_sets::{Contains, CopiedSet, Cover, FromPaths};
 use on_types::{
-    Copied, ElementSize, Empty, Equal, EqualIgnoring, Hashed, Merged, Resolve, Text,
-    WithNullability, nullables,
+    Copied, ElementSize, Empty, Equal, EqualIgnoring, Hashed, Merged, MergedColumns, Resolve, Text,
+    WithNullability, in_order, nullables,
 };
 use path_fixture::{
     Level, SetShape, make_query, path_set, two_column_paths, two_deep_paths, two_element_paths,
@@ -82,6 +82,21 @@ fn measure_merge<C: CpuClock, W: Write>(
         others,
     };
     meter.measure(what, types.of.as_str(), merged)
+}
+
+// Merges of a wide struct with one that has the same columns in another order.
+fn measure_column_merges<C: CpuClock, W: Write>(
+    meter: &mut Meter<'_, C, W>,
+    types: &Types,
+) -> BenchResult<()> {
+    let texts = Naming::Columns.texts(meter.alloc, types.count)?;
+    let names = all_names(meter.alloc, &texts)?;
+    let others = in_order(meter.alloc, &types.types, &names)?;
+    let merged = MergedColumns {
+        types: &types.types,
+        others: &others,
+    };
+    meter.measure("merge_columns", types.of.as_str(), merged)
 }
 
 // Lookups in a wide struct.
@@ -190,6 +205,7 @@ fn of_wide<C: CpuClock, W: Write>(meter: &mut Meter<'_, C, W>) -> BenchResult<()
             measure_types(meter, &types)?;
             measure_building(meter, &types)?;
         }
+        measure_column_merges(meter, &types)?;
         measure_lookups(meter, &types)?;
         measure_whole(meter, &types)?;
         measure_messages(meter, &types)?;

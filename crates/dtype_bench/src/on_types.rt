@@ -3,14 +3,15 @@
 
 // What is done to types, and to whatever has a hash or a text.
 use crate::fault::BenchResult;
-use crate::fixture::{Types, turn};
+use crate::fixture::{Types, fields_of, turn};
 use crate::meter::Operation;
-use dtype_base::Nullability;
+use dtype_base::{FieldName, Nullability};
 use dtype_paths::FieldPath;
 use dtype_types::{DType, merge_nullability};
 use std::alloc::Global;
 use std::fmt::Display;
 use std::hash::{DefaultHasher, Hash, Hasher};
+use vortex_dtype::merge_columns;
 
 /// The loop alone, with alternating types.
 #[derive(Drop)]
@@ -81,6 +82,39 @@ impl<'a> Operation for Merged<'a> {
         for i in 0..times {
             let dtype = turn(self.types, i)?;
             let merged = merge_nullability(alloc, dtype, turn(self.others, i)?)?;
+            sum = sum.wrapping_add(usize::from(merged.is_some()));
+        }
+        Ok(sum)
+    }
+}
+
+/// Returns two structs of these columns of the two structs, in the order of these names.
+pub fn in_order(
+    alloc: Global,
+    types: &Vec<DType>,
+    names: &Vec<FieldName>,
+) -> BenchResult<Vec<DType>> {
+    let mut two = Vec::with_capacity(alloc, 2)?;
+    for i in 0..2 {
+        let fields = fields_of(types, i)?.project(alloc, names.as_slice())?;
+        two.push(DType::Struct(fields, Nullability::NonNullable))?;
+    }
+    Ok(two)
+}
+
+/// `merge_columns` of each type and another.
+#[derive(Drop)]
+pub struct MergedColumns<'a> {
+    pub types: &'a Vec<DType>,
+    pub others: &'a Vec<DType>,
+}
+
+impl<'a> Operation for MergedColumns<'a> {
+    fn repeat(&mut self, alloc: Global, times: usize) -> BenchResult<usize> {
+        let mut sum = 0usize;
+        for i in 0..times {
+            let dtype = turn(self.types, i)?;
+            let merged = merge_columns(alloc, dtype, turn(self.others, i)?)?;
             sum = sum.wrapping_add(usize::from(merged.is_some()));
         }
         Ok(sum)

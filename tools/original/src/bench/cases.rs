@@ -7,7 +7,7 @@ use std::fmt::Display;
 use std::hash::{DefaultHasher, Hash, Hasher};
 use std::hint::black_box;
 
-use original::by_hand::merged;
+use original::by_hand::{merged, merged_columns};
 use vortex_array::dtype::proto::dtype as pb;
 use vortex_array::dtype::{DType, FieldName, FieldNames, FieldPath, FieldPathSet, Nullability, StructFields};
 use vortex_session::VortexSession;
@@ -122,6 +122,19 @@ pub fn index(meter: &Meter, of: &str, types: &[DType; 2], texts: &[String]) {
     meter.consuming("build/and_find", of, given, |(names, types)| {
         black_box(of_names(names, types)).as_struct_fields().find(&texts[count - 1]).unwrap_or(7)
     });
+}
+
+/// Merges with a struct of the same columns in another order, by hand.
+pub fn column_merges(meter: &Meter, types: &Types) {
+    let (count, texts) = (types.count, fixture::texts(WIDE, types.count));
+    let order = names((0..count).map(|i| &texts[mixed(i, count)]));
+    let other = |i: usize| {
+        let fields = types.types[i].as_struct_fields().project(&order).expect("it has these");
+        DType::Struct(fields, Nullability::NonNullable)
+    };
+    let others = [other(0), other(1)];
+    let merge = |i: usize, _| black_box(merged_columns(types.turn(i), &others[i % 2])).is_some().into();
+    meter.each("merge_columns", &types.of, merge);
 }
 
 /// A wide struct made of texts.

@@ -14,7 +14,7 @@ mod meter;
 
 use std::io;
 
-use cases::{find_mixed, hashed, index, lookups, messages, resolve, sets, text, texts, types, whole};
+use cases::{column_merges, find_mixed, hashed, index, lookups, messages, resolve, sets, text, texts, types, whole};
 use fixture::{OTHER_NAMINGS, SETS, Shape, Types, WIDE, column, name_of, path_of, wide_type};
 use meter::Meter;
 use vortex_array::dtype::{Field, FieldPath};
@@ -28,6 +28,7 @@ fn wide(meter: &Meter) {
             index(meter, &of.of, &of.types, &fixture::texts(WIDE, count));
             texts(meter, &of);
         }
+        column_merges(meter, &of);
         lookups(meter, &of);
         whole(meter, &of);
         messages(meter, &of);

@@ -372,7 +372,7 @@ uint32_t vlt_kind(const vlt_slot *slot);
 
 /* == Types == */
 
-/* Stores in `out` the null type.
+/* Stores in `out` the null type, which is always nullable.
  *
  * Results: VLT_DONE or VLT_LIBRARY. */
 VLT_MUST_USE vlt_result vlt_dtype_null(vlt_dtype *out);
@@ -382,7 +382,7 @@ VLT_MUST_USE vlt_result vlt_dtype_null(vlt_dtype *out);
  * Results: VLT_DONE or VLT_LIBRARY. */
 VLT_MUST_USE vlt_result vlt_dtype_bool(bool nullable, vlt_dtype *out);
 
-/* Stores in `out` the type of texts. The type is nullable if `nullable` is true.
+/* Stores in `out` the type of UTF-8 strings. The type is nullable if `nullable` is true.
  *
  * Results: VLT_DONE or VLT_LIBRARY. */
 VLT_MUST_USE vlt_result vlt_dtype_utf8(bool nullable, vlt_dtype *out);
@@ -392,7 +392,8 @@ VLT_MUST_USE vlt_result vlt_dtype_utf8(bool nullable, vlt_dtype *out);
  * Results: VLT_DONE or VLT_LIBRARY. */
 VLT_MUST_USE vlt_result vlt_dtype_binary(bool nullable, vlt_dtype *out);
 
-/* Stores in `out` the variant type. Its values each carry their own type. The type is nullable if `nullable` is true.
+/* Stores in `out` the variant type. Each of its values carries its own type. The type is nullable if `nullable` is
+ * true.
  *
  * Results: VLT_DONE or VLT_LIBRARY. */
 VLT_MUST_USE vlt_result vlt_dtype_variant(bool nullable, vlt_dtype *out);
@@ -415,31 +416,31 @@ VLT_MUST_USE vlt_result vlt_dtype_primitive(uint32_t number, bool nullable, vlt_
 VLT_MUST_USE vlt_result vlt_dtype_decimal(
         uint8_t precision, int8_t scale, bool nullable, vlt_dtype *out, vlt_error *error);
 
-/* Stores in `out` a list type: the lists of any length whose elements are of the type in `element`. The list type is
- * nullable if `nullable` is true. Returns 6 if the element type has 128 levels.
+/* Stores in `out` the list type with the element type in `element`. Its values are lists of any length. The list type
+ * is nullable if `nullable` is true. Returns 6 if the element type has 128 levels.
  *
  * Results: VLT_DONE, VLT_KIND, VLT_DEEP, VLT_SAME_SLOT or VLT_LIBRARY. */
 VLT_MUST_USE vlt_result vlt_dtype_list(const vlt_dtype *element, bool nullable, vlt_dtype *out);
 
-/* Stores in `out` a fixed-size list type: the lists of exactly `size` elements of the type in `element`. The list type
- * is nullable if `nullable` is true. Returns 6 if the element type has 128 levels.
+/* Stores in `out` the fixed-size list type with the element type in `element`. Its values are lists of exactly `size`
+ * elements. The list type is nullable if `nullable` is true. Returns 6 if the element type has 128 levels.
  *
  * Results: VLT_DONE, VLT_KIND, VLT_DEEP, VLT_SAME_SLOT or VLT_LIBRARY. */
 VLT_MUST_USE vlt_result vlt_dtype_fixed_size_list(
         const vlt_dtype *element, uint32_t size, bool nullable, vlt_dtype *out);
 
-/* Stores in `out` the struct type of these fields, in order. The struct type is nullable if `nullable` is true. Returns 6
- * if the type of a field has 128 levels.
+/* Stores in `out` the struct type of these fields, in order. The struct type is nullable if `nullable` is true.
+ * Returns 6 if the type of a field has 128 levels.
  *
  * Results: VLT_DONE, VLT_KIND, VLT_DEEP, VLT_SAME_SLOT or VLT_LIBRARY. */
 VLT_MUST_USE vlt_result vlt_dtype_struct(const vlt_fields *fields, bool nullable, vlt_dtype *out);
 
-/* Stores in `out` the union type whose variants are these fields, in order, with these tags. The union type is nullable if
- * `nullable` is true.
+/* Stores in `out` the union type whose variants are these fields, in order, with these tags. The union type is
+ * nullable if `nullable` is true.
  *
- * Returns 6 if the type of a field has 128 levels. Otherwise it returns the first of these numbers that applies, with the
- * error in `error`: 111 if there are more or fewer tags than fields, 112 if there are no fields, 113 if a tag occurs twice,
- * and 115 if a name occurs twice.
+ * Returns 6 if the type of a field has 128 levels. Otherwise it returns the first of these numbers that applies, with
+ * the error in `error`: 111 if there are more or fewer tags than fields, 112 if there are no fields, 113 if a tag
+ * occurs twice, and 115 if a name occurs twice.
  *
  * Results: VLT_DONE, VLT_KIND, VLT_DEEP, VLT_SAME_SLOT, VLT_RANGE, VLT_LIBRARY, VLT_ERROR_UNION_TAGS_LENGTH,
  * VLT_ERROR_UNION_EMPTY, VLT_ERROR_UNION_TAGS_REPEAT or VLT_ERROR_UNION_NAMES_REPEAT. */
@@ -447,46 +448,60 @@ VLT_MUST_USE vlt_result vlt_dtype_union(
         const vlt_fields *fields, const uint8_t *tags, size_t tags_len, bool nullable, vlt_dtype *out,
         vlt_error *error);
 
-/* Stores in `out` the union type whose variants are these fields, in order, with the tags 0, 1, 2 and so on. The union type
- * is nullable if `nullable` is true.
+/* Stores in `out` the union type whose variants are these fields, in order, with the tags 0, 1, 2 and so on. The union
+ * type is nullable if `nullable` is true.
  *
- * Returns 6 if the type of a field has 128 levels. Otherwise it returns the first of these numbers that applies, with the
- * error in `error`: 114 if there are more than 256 fields, 112 if there are no fields, and 115 if a name occurs twice.
+ * Returns 6 if the type of a field has 128 levels. Otherwise it returns the first of these numbers that applies, with
+ * the error in `error`: 114 if there are more than 256 fields, 112 if there are no fields, and 115 if a name occurs
+ * twice.
  *
  * Results: VLT_DONE, VLT_KIND, VLT_DEEP, VLT_SAME_SLOT, VLT_LIBRARY, VLT_ERROR_UNION_EMPTY, VLT_ERROR_UNION_TOO_MANY
  * or VLT_ERROR_UNION_NAMES_REPEAT. */
 VLT_MUST_USE vlt_result vlt_dtype_union_consecutive(
         const vlt_fields *fields, bool nullable, vlt_dtype *out, vlt_error *error);
 
-/* Stores in `out` the least type as which values of both types can be read. A struct has the fields of the first type in
- * their order, and then those that only the second has. A field that only one of the two has is nullable. For example, it
- * is `{a=i32, b=utf8?}` for `{a=i32}` and `{b=utf8, a=i32}`. Returns 1 if there is no such type.
+/* Stores in `out` the least type as which values of both types can be read:
+ *
+ * - A struct has the fields of the first type in their order, and then those that only the second has. A field that
+ *   both have is merged by these rules. A field that only one of the two has is nullable.
+ * - Lists, fixed-size lists of the same size, maps with the same `keys_sorted`, and extensions with the same id and
+ *   the same metadata are merged by their parts. Maps whose merged key type would be nullable can't be merged.
+ * - All other types are merged as `vlt_dtype_merge_nullability` merges them. So are structs in which a name repeats,
+ *   because their columns can't be told apart by name.
+ * - A type that isn't an extension is nullable if one of the two is, at every depth.
+ *
+ * For example, it is `{a=i32, b=utf8?}` for `{a=i32}` and `{b=utf8, a=i32}`. Returns 1 if there is no such type.
  *
  * Results: VLT_DONE, VLT_NONE, VLT_KIND, VLT_SAME_SLOT or VLT_LIBRARY. */
 VLT_MUST_USE vlt_result vlt_dtype_merge_columns(const vlt_dtype *one, const vlt_dtype *other, vlt_dtype *out);
 
-/* Stores in `path` the path to the first place at which two types can't be merged by `vlt_dtype_merge_columns`, in `left`
- * the type at this place in the first type, and in `right` the type at this place in the second. For example, it stores
- * `customer.id`, `u64` and `utf8` for `{customer={id=u64}}` and `{customer={id=utf8}}`. Returns 1 if the types can be
- * merged.
+/* Stores in `path` the path to the first place at which two types can't be merged by `vlt_dtype_merge_columns`, in
+ * `left` the type at this place in the first type, and in `right` the type at this place in the second. The first
+ * place is the first one in the order of the fields of the first type. A path leads only into structs, lists and
+ * fixed-size lists, so if the keys or values of two maps can't be merged, it is the path to the maps. For example,
+ * the call stores `customer.id`, `u64` and `utf8` for `{customer={id=u64}}` and `{customer={id=utf8}}`. Returns 1 if
+ * the types can be merged.
  *
  * Results: VLT_DONE, VLT_NONE, VLT_KIND, VLT_SAME_SLOT or VLT_LIBRARY. */
 VLT_MUST_USE vlt_result vlt_dtype_merge_conflict(
         const vlt_dtype *one, const vlt_dtype *other, vlt_path *path, vlt_dtype *left, vlt_dtype *right);
 
-/* Stores in `out` the message that describes the type.
+/* Stores in `out` the message that describes the type. `vlt_message_to_dtype` makes the same type of it. If the type
+ * has an extension in it, `allow_unknown` must be true for that.
  *
  * Results: VLT_DONE, VLT_KIND, VLT_SAME_SLOT or VLT_LIBRARY. */
 VLT_MUST_USE vlt_result vlt_dtype_to_message(const vlt_dtype *dtype, vlt_message *out);
 
-/* Stores in `out` the type with the outer nullability that `nullable` states: nullable if it is true, and non-nullable
- * if it is false. For an extension, the outer nullability of its storage type is changed. Returns 5 if `nullable` is
- * false and the type can't be made non-nullable, which `vlt_dtype_can_be_nonnullable` tests.
+/* Stores in `out` the type with the outer nullability that `nullable` states: nullable if it is true, and
+ * non-nullable if it is false. The types inside it keep their nullabilities. For example, `list(i32)` becomes
+ * `list(i32)?` if `nullable` is true. For an extension, the outer nullability is that of its storage type. Returns 5
+ * if `nullable` is false and the type can't be made non-nullable, which `vlt_dtype_can_be_nonnullable` tests.
  *
  * Results: VLT_DONE, VLT_KIND, VLT_CONDITION, VLT_SAME_SLOT or VLT_LIBRARY. */
 VLT_MUST_USE vlt_result vlt_dtype_with_nullability(const vlt_dtype *dtype, bool nullable, vlt_dtype *out);
 
-/* Stores in `out` the type, made nullable if `nullable` is true. If it is false, the outer nullability stays the same.
+/* Stores in `out` the type, which is nullable if it was nullable or if `nullable` is true. The types inside it keep
+ * their nullabilities. For example, `i32?` stays `i32?` if `nullable` is false.
  *
  * Results: VLT_DONE, VLT_KIND, VLT_SAME_SLOT or VLT_LIBRARY. */
 VLT_MUST_USE vlt_result vlt_dtype_union_nullability(const vlt_dtype *dtype, bool nullable, vlt_dtype *out);
@@ -497,8 +512,9 @@ VLT_MUST_USE vlt_result vlt_dtype_union_nullability(const vlt_dtype *dtype, bool
  * Results: VLT_DONE or VLT_KIND. */
 VLT_MUST_USE vlt_result vlt_dtype_hash(const vlt_dtype *dtype, uint64_t *hash);
 
-/* Writes a hash of the type to `hash` for which every nullability in the type is ignored. For example, `list(i32?)`
- * and `list(i32)?` have the same hash.
+/* Writes a hash of the type to `hash` that is the same for types that are equal except for nullability, at every
+ * depth. For example, `list(i32?)` and `list(i32)?` have the same hash. The hash of a type may differ between
+ * versions of the library.
  *
  * Results: VLT_DONE or VLT_KIND. */
 VLT_MUST_USE vlt_result vlt_dtype_hash_ignore_nullability(const vlt_dtype *dtype, uint64_t *hash);
@@ -544,7 +560,8 @@ VLT_MUST_USE vlt_result vlt_dtype_metadata(const vlt_dtype *dtype, uint8_t *buff
  * Results: VLT_DONE, VLT_NONE or VLT_KIND. */
 VLT_MUST_USE vlt_result vlt_dtype_fixed_size(const vlt_dtype *dtype, uint32_t *size);
 
-/* Writes the precision and the scale of a decimal to `precision` and `scale`. Returns 1 if the type isn't a decimal.
+/* Writes the precision and the scale of a decimal to `precision` and `scale`. The precision is from 1 to 76. The
+ * scale isn't above the precision, and it may be negative. Returns 1 if the type isn't a decimal.
  *
  * Results: VLT_DONE, VLT_NONE or VLT_KIND. */
 VLT_MUST_USE vlt_result vlt_dtype_decimal_parts(const vlt_dtype *dtype, uint8_t *precision, int8_t *scale);
@@ -559,8 +576,8 @@ VLT_MUST_USE vlt_result vlt_dtype_keys_sorted(const vlt_dtype *dtype);
  *
  * Returns 3 if the text isn't UTF-8. The other failures store an error in `error`:
  *
- * - 4 if the text isn't spelled like a type. `vlt_error_position` returns at which byte, counted from 1, something else was
- *   expected, and `vlt_error_message` what.
+ * - 4 if the text isn't spelled like a type. `vlt_error_position` returns at which byte, counted from 1, something
+ *   else was expected, and `vlt_error_message` what.
  * - 6 if types are nested more than 128 levels deep in the text, with the position of the first that is too deep.
  * - the number of the library's error if the text spells a type that can't be made: for a decimal 101 to 104, as
  *   `vlt_dtype_decimal` returns them; for a map 109 if its key type is nullable; and for a union 112 if it has no
@@ -581,7 +598,8 @@ VLT_MUST_USE vlt_result vlt_dtype_from_text(const uint8_t *text, size_t text_len
  * Results: VLT_DONE, VLT_KIND, VLT_SMALL, VLT_RANGE or VLT_LIBRARY. */
 VLT_MUST_USE vlt_result vlt_dtype_to_text(const vlt_dtype *dtype, uint8_t *buffer, size_t buffer_len, size_t *length);
 
-/* Writes the type to `buffer` as the library displays it, for example `{a=i32, b=list(utf8)?}`.
+/* Writes the type to `buffer` as the library displays it, for example `{a=i32, b=list(utf8)?}`. `vlt_dtype_from_text`
+ * may not read it back. For example, a name that contains a comma is written without quotes.
  *
  * Results: VLT_DONE, VLT_KIND, VLT_SMALL, VLT_RANGE or VLT_LIBRARY. */
 VLT_MUST_USE vlt_result vlt_dtype_display(const vlt_dtype *dtype, uint8_t *buffer, size_t buffer_len, size_t *length);
@@ -629,13 +647,14 @@ VLT_MUST_USE vlt_result vlt_dtype_merge_nullability(const vlt_dtype *one, const 
 VLT_MUST_USE vlt_result vlt_dtype_intersect_nullability(const vlt_dtype *one, const vlt_dtype *other, vlt_dtype *out);
 
 /* Writes the kind of the type to `number`: 1 null, 2 bool, 3 primitive, 4 decimal, 5 utf8, 6 binary, 7 list, 8
- * fixed-size list, 9 map, 10 struct, 11 union, 12 variant, 13 extension. The node of the message of a type has the same
- * number for the kind.
+ * fixed-size list, 9 map, 10 struct, 11 union, 12 variant, 13 extension. The node of the message of a type has the
+ * same number for the kind.
  *
  * Results: VLT_DONE or VLT_KIND. */
 VLT_MUST_USE vlt_result vlt_dtype_kind(const vlt_dtype *dtype, uint32_t *number);
 
-/* Returns 0 if the type is nullable, so that its values may be null, and 1 if it isn't.
+/* Returns 0 if the type is nullable, so that its values may be null, and 1 if it isn't. The null type is always
+ * nullable, and an extension is nullable if its storage type is.
  *
  * Results: VLT_DONE, VLT_NONE or VLT_KIND. */
 VLT_MUST_USE vlt_result vlt_dtype_is_nullable(const vlt_dtype *dtype);
@@ -646,8 +665,17 @@ VLT_MUST_USE vlt_result vlt_dtype_is_nullable(const vlt_dtype *dtype);
  * Results: VLT_DONE, VLT_NONE or VLT_KIND. */
 VLT_MUST_USE vlt_result vlt_dtype_can_be_nonnullable(const vlt_dtype *dtype);
 
-/* Writes the number of bytes that each value of the type takes to `size`. Returns 1 if the type is of variable width,
- * and 119, with the error in `error`, if it is of fixed width and its width, or the width of a part of it, is above
+/* Writes the number of bytes that each value of the type takes to `size`:
+ *
+ * - A value of the null type takes 0 bytes, a Boolean takes 1 byte, and a number takes the bytes of its primitive
+ *   type.
+ * - A decimal takes the bytes of the smallest storage type, from `i8` to `i256`, for its precision. For example,
+ *   `decimal(10,2)` takes 8 bytes, those of `i64`.
+ * - A fixed-size list takes its size times the bytes of its element type, a struct takes the sum of the bytes of its
+ *   fields, and an extension takes the bytes of its storage type.
+ *
+ * Returns 1 if the type or a part of it is of variable width, which all other types are, for example `utf8`. Returns
+ * 119, with the error in `error`, if the type is of fixed width and its width, or the width of a part of it, is above
  * 2^64 - 1.
  *
  * Results: VLT_DONE, VLT_NONE, VLT_KIND, VLT_SAME_SLOT, VLT_LIBRARY or VLT_ERROR_WIDTH_OVERFLOW. */
@@ -659,17 +687,17 @@ VLT_MUST_USE vlt_result vlt_dtype_element_size(const vlt_dtype *dtype, size_t *s
  * Results: VLT_DONE, VLT_NONE, VLT_KIND, VLT_SAME_SLOT or VLT_LIBRARY. */
 VLT_MUST_USE vlt_result vlt_dtype_entries(const vlt_dtype *dtype, vlt_dtype *out);
 
-/* Stores in `out` the type of maps with the key type in `one` and the value type in `other`. `keys_sorted` declares
- * that the keys of each map are sorted, which nothing checks. The map type is nullable if `nullable` is true. Returns
- * 6 if one of the two types has 128 levels, and 109, with the error in `error`, if the key type is nullable.
+/* Stores in `out` the map type with the key type in `one` and the value type in `other`. `keys_sorted` declares that
+ * the keys of each map are sorted, which nothing checks. The map type is nullable if `nullable` is true. Returns 6 if
+ * one of the two types has 128 levels, and 109, with the error in `error`, if the key type is nullable.
  *
  * Results: VLT_DONE, VLT_KIND, VLT_DEEP, VLT_SAME_SLOT, VLT_LIBRARY or VLT_ERROR_MAP_KEY_NULLABLE. */
 VLT_MUST_USE vlt_result vlt_dtype_map(
         const vlt_dtype *one, const vlt_dtype *other, bool keys_sorted, bool nullable, vlt_dtype *out,
         vlt_error *error);
 
-/* Stores in `out` the extension type with this id, this metadata and this storage type. Returns 3 if the id isn't
- * UTF-8, and 6 if the storage type has 128 levels.
+/* Stores in `out` the extension type with this id, this metadata and this storage type. It is nullable if the storage
+ * type is. Returns 3 if the id isn't UTF-8, and 6 if the storage type has 128 levels.
  *
  * Results: VLT_DONE, VLT_KIND, VLT_UTF8, VLT_DEEP, VLT_SAME_SLOT, VLT_RANGE or VLT_LIBRARY. */
 VLT_MUST_USE vlt_result vlt_dtype_extension(
@@ -691,24 +719,24 @@ VLT_MUST_USE vlt_result vlt_struct_names(
         size_t name_lengths_len, size_t *count);
 
 /* Stores the types of all fields of the struct in the first slots of `types`, in order, and writes their number to
- * `count`. The other slots keep their objects. If there are fewer slots than fields, the call returns 7 and writes only
- * the number. If the call returns another number than 0, each slot is as it was before. Returns 2 if `dtype` contains no
- * type, and 5 if the type isn't a struct.
+ * `count`. The other slots keep their objects. If there are fewer slots than fields, the call returns 7 and writes
+ * only the number. If the call returns another number than 0, each slot is as it was before. Returns 2 if `dtype`
+ * contains no type, and 5 if the type isn't a struct.
  *
  * Results: VLT_DONE, VLT_KIND, VLT_CONDITION, VLT_SMALL, VLT_SAME_SLOT, VLT_RANGE or VLT_LIBRARY. */
 VLT_MUST_USE vlt_result vlt_struct_types(const vlt_dtype *dtype, vlt_dtype *types, size_t types_len, size_t *count);
 
-/* Stores in `out` the struct without the field at the position `index`. It has the outer nullability of the original
- * struct. Returns 5 if the type isn't a struct, and 117 if the position isn't below the number of fields. Then `error`
- * contains the error with both numbers.
+/* Stores in `out` the struct without the field at the position `index`, which is counted from 0. It has the outer
+ * nullability of the original struct. Returns 5 if the type isn't a struct, and 117 if the position isn't below the
+ * number of fields. Then `error` contains the error with both numbers.
  *
  * Results: VLT_DONE, VLT_KIND, VLT_CONDITION, VLT_SAME_SLOT, VLT_LIBRARY or VLT_ERROR_INDEX_OUT_OF_BOUNDS. */
 VLT_MUST_USE vlt_result vlt_struct_without_field(
         const vlt_dtype *dtype, size_t index, vlt_dtype *out, vlt_error *error);
 
 /* Stores in `out` the struct that has the fields of the first struct followed by those of the other. It has the outer
- * nullability of the first. Returns 5 if one of the types isn't a struct, and 118, with the error in `error`, if a name
- * occurs in both structs, or twice in one of them.
+ * nullability of the first. Returns 5 if one of the types isn't a struct, and 118, with the error in `error`, if a
+ * name occurs in both structs, or twice in one of them.
  *
  * Results: VLT_DONE, VLT_KIND, VLT_CONDITION, VLT_SAME_SLOT, VLT_LIBRARY or VLT_ERROR_DUPLICATE_NAMES. */
 VLT_MUST_USE vlt_result vlt_struct_disjoint_merge(
@@ -720,9 +748,9 @@ VLT_MUST_USE vlt_result vlt_struct_disjoint_merge(
  * `names` contains the bytes of all names, one name directly after the other, and `name_lengths` contains the number
  * of bytes of each name. For example, the names `id` and `city` are the bytes `idcity` with the lengths 2 and 4.
  *
- * Returns 3 if a name isn't UTF-8, 5 if the type isn't a struct, 9 if the lengths don't add up to the number of bytes,
- * and 116 if one of the names isn't the name of any field. Then `error` contains the error with the position of the
- * first such name among the names.
+ * Returns 3 if a name isn't UTF-8, 5 if the type isn't a struct, 9 if the lengths don't add up to the number of
+ * bytes, and 116 if one of the names isn't the name of any field. Then `error` contains the error with the position
+ * of the first such name among the names, counted from 0.
  *
  * Results: VLT_DONE, VLT_KIND, VLT_UTF8, VLT_CONDITION, VLT_SAME_SLOT, VLT_RANGE, VLT_LIBRARY or
  * VLT_ERROR_FIELD_NOT_FOUND. */
@@ -735,14 +763,14 @@ VLT_MUST_USE vlt_result vlt_struct_project(
  * Results: VLT_DONE, VLT_KIND or VLT_CONDITION. */
 VLT_MUST_USE vlt_result vlt_struct_nfields(const vlt_dtype *dtype, size_t *count);
 
-/* Stores in `out` the type of the field at the position `index`. Returns 1 if the position isn't below the number of
- * fields, and 5 if the type isn't a struct.
+/* Stores in `out` the type of the field at the position `index`, which is counted from 0. Returns 1 if the position
+ * isn't below the number of fields, and 5 if the type isn't a struct.
  *
  * Results: VLT_DONE, VLT_NONE, VLT_KIND, VLT_CONDITION, VLT_SAME_SLOT or VLT_LIBRARY. */
 VLT_MUST_USE vlt_result vlt_struct_field_by_index(const vlt_dtype *dtype, size_t index, vlt_dtype *out);
 
-/* Writes the position of the first field with this name to `index`. Returns 1 if no field has the name, 3 if the name
- * isn't UTF-8, and 5 if the type isn't a struct.
+/* Writes the position of the first field with this name, counted from 0, to `index`. Returns 1 if no field has the
+ * name, 3 if the name isn't UTF-8, and 5 if the type isn't a struct.
  *
  * Results: VLT_DONE, VLT_NONE, VLT_KIND, VLT_UTF8, VLT_CONDITION or VLT_RANGE. */
 VLT_MUST_USE vlt_result vlt_struct_find(const vlt_dtype *dtype, const uint8_t *name, size_t name_len, size_t *index);
@@ -753,15 +781,18 @@ VLT_MUST_USE vlt_result vlt_struct_find(const vlt_dtype *dtype, const uint8_t *n
  * Results: VLT_DONE, VLT_NONE, VLT_KIND, VLT_UTF8, VLT_CONDITION, VLT_SAME_SLOT, VLT_RANGE or VLT_LIBRARY. */
 VLT_MUST_USE vlt_result vlt_struct_field(const vlt_dtype *dtype, const uint8_t *name, size_t name_len, vlt_dtype *out);
 
-/* Writes the name of the field at the position `index` to `buffer`. Returns 1 if the position isn't below the number
- * of fields, and 5 if the type isn't a struct.
+/* Writes the name of the field at the position `index`, which is counted from 0, to `buffer`. Returns 1 if the
+ * position isn't below the number of fields, and 5 if the type isn't a struct.
  *
  * Results: VLT_DONE, VLT_NONE, VLT_KIND, VLT_CONDITION, VLT_SMALL or VLT_RANGE. */
 VLT_MUST_USE vlt_result vlt_struct_field_name(
         const vlt_dtype *dtype, size_t index, uint8_t *buffer, size_t buffer_len, size_t *length);
 
-/* Writes the fields of a struct to `buffer` as indented text, in which each field begins on a new line. Returns 5 if
- * the type isn't a struct.
+/* Writes the fields of a struct to `buffer` as text over several lines. The first line is an opening brace, then each
+ * field has a line that begins with two spaces, and the last line is a closing brace. For example, the text of
+ * `{a=i32, b=utf8}` has the four lines `{`, `  a=i32,`, `  b=utf8` and `}`. A struct that is the type of a field, or
+ * the element type of a list, is written over several lines too, with two more spaces. Returns 5 if the type isn't a
+ * struct.
  *
  * Results: VLT_DONE, VLT_KIND, VLT_CONDITION, VLT_SMALL, VLT_RANGE or VLT_LIBRARY. */
 VLT_MUST_USE vlt_result vlt_struct_indented(const vlt_dtype *dtype, uint8_t *buffer, size_t buffer_len, size_t *length);
@@ -780,26 +811,27 @@ VLT_MUST_USE vlt_result vlt_union_names(
         size_t name_lengths_len, size_t *count);
 
 /* Stores the types of all variants of the union in the first slots of `types`, in order, and writes their number to
- * `count`. The other slots keep their objects. If there are fewer slots than variants, the call returns 7 and writes only
- * the number. If the call returns another number than 0, each slot is as it was before. Returns 2 if `dtype` contains no
- * type, and 5 if the type isn't a union.
+ * `count`. The other slots keep their objects. If there are fewer slots than variants, the call returns 7 and writes
+ * only the number. If the call returns another number than 0, each slot is as it was before. Returns 2 if `dtype`
+ * contains no type, and 5 if the type isn't a union.
  *
  * Results: VLT_DONE, VLT_KIND, VLT_CONDITION, VLT_SMALL, VLT_SAME_SLOT, VLT_RANGE or VLT_LIBRARY. */
 VLT_MUST_USE vlt_result vlt_union_types(const vlt_dtype *dtype, vlt_dtype *types, size_t types_len, size_t *count);
 
-/* Writes the number of variants of the union to `count`. Returns 5 if the type isn't a union.
+/* Writes the number of variants of the union, which is from 1 to 256, to `count`. Returns 5 if the type isn't a
+ * union.
  *
  * Results: VLT_DONE, VLT_KIND or VLT_CONDITION. */
 VLT_MUST_USE vlt_result vlt_union_len(const vlt_dtype *dtype, size_t *count);
 
-/* Stores in `out` the type of the variant at the position `index`. Returns 1 if the position isn't below the number of
- * variants, and 5 if the type isn't a union.
+/* Stores in `out` the type of the variant at the position `index`, which is counted from 0. Returns 1 if the position
+ * isn't below the number of variants, and 5 if the type isn't a union.
  *
  * Results: VLT_DONE, VLT_NONE, VLT_KIND, VLT_CONDITION, VLT_SAME_SLOT or VLT_LIBRARY. */
 VLT_MUST_USE vlt_result vlt_union_variant_by_index(const vlt_dtype *dtype, size_t index, vlt_dtype *out);
 
-/* Writes the position of the variant with this name to `index`. Returns 1 if no variant has the name, 3 if the name
- * isn't UTF-8, and 5 if the type isn't a union.
+/* Writes the position of the variant with this name, counted from 0, to `index`. Returns 1 if no variant has the
+ * name, 3 if the name isn't UTF-8, and 5 if the type isn't a union.
  *
  * Results: VLT_DONE, VLT_NONE, VLT_KIND, VLT_UTF8, VLT_CONDITION or VLT_RANGE. */
 VLT_MUST_USE vlt_result vlt_union_find(const vlt_dtype *dtype, const uint8_t *name, size_t name_len, size_t *index);
@@ -810,20 +842,20 @@ VLT_MUST_USE vlt_result vlt_union_find(const vlt_dtype *dtype, const uint8_t *na
  * Results: VLT_DONE, VLT_NONE, VLT_KIND, VLT_UTF8, VLT_CONDITION, VLT_SAME_SLOT, VLT_RANGE or VLT_LIBRARY. */
 VLT_MUST_USE vlt_result vlt_union_variant(const vlt_dtype *dtype, const uint8_t *name, size_t name_len, vlt_dtype *out);
 
-/* Writes the position of the variant with this tag to `index`. Returns 1 if no variant has the tag, and 5 if the type
- * isn't a union.
+/* Writes the position of the variant with this tag, counted from 0, to `index`. Returns 1 if no variant has the tag,
+ * and 5 if the type isn't a union.
  *
  * Results: VLT_DONE, VLT_NONE, VLT_KIND or VLT_CONDITION. */
 VLT_MUST_USE vlt_result vlt_union_tag_to_child_index(const vlt_dtype *dtype, uint8_t tag, size_t *index);
 
-/* Writes the tag of the variant at the position `index` to `tag`. Returns 1 if the position isn't below the number of
- * variants, and 5 if the type isn't a union.
+/* Writes the tag of the variant at the position `index`, which is counted from 0, to `tag`. Returns 1 if the position
+ * isn't below the number of variants, and 5 if the type isn't a union.
  *
  * Results: VLT_DONE, VLT_NONE, VLT_KIND or VLT_CONDITION. */
 VLT_MUST_USE vlt_result vlt_union_child_index_to_tag(const vlt_dtype *dtype, size_t index, uint8_t *tag);
 
-/* Writes the name of the variant at the position `index` to `buffer`. Returns 1 if the position isn't below the number
- * of variants, and 5 if the type isn't a union.
+/* Writes the name of the variant at the position `index`, which is counted from 0, to `buffer`. Returns 1 if the
+ * position isn't below the number of variants, and 5 if the type isn't a union.
  *
  * Results: VLT_DONE, VLT_NONE, VLT_KIND, VLT_CONDITION, VLT_SMALL or VLT_RANGE. */
 VLT_MUST_USE vlt_result vlt_union_variant_name(
@@ -838,15 +870,15 @@ VLT_MUST_USE vlt_result vlt_union_is_consecutive(const vlt_dtype *dtype);
 
 /* == Fields == */
 
-/* Stores in `out` an empty list of fields. A field is a name with a type. Structs and unions are made of such a list. For
- * example, the list of `id` with u64 and `city` with utf8 is made by this call and two calls of `vlt_fields_push`, and
- * `vlt_dtype_struct` makes the struct `{id=u64, city=utf8}` of it.
+/* Stores in `out` an empty list of fields. A field is a name with a type. Structs and unions are made of such a list.
+ * For example, the list of `id` with u64 and `city` with utf8 is made by this call and two calls of `vlt_fields_push`,
+ * and `vlt_dtype_struct` makes the struct `{id=u64, city=utf8}` of it.
  *
  * Results: VLT_DONE or VLT_LIBRARY. */
 VLT_MUST_USE vlt_result vlt_fields_new(vlt_fields *out);
 
-/* Adds a field with this name and a copy of this type to the end of the list. A list may contain a name several times. If
- * the call doesn't return 0, the list is unchanged. Returns 3 if the name isn't UTF-8.
+/* Adds a field with this name and a copy of this type to the end of the list. A list may contain a name several times.
+ * If the call doesn't return 0, the list is unchanged. Returns 3 if the name isn't UTF-8.
  *
  * Results: VLT_DONE, VLT_KIND, VLT_UTF8, VLT_SAME_SLOT, VLT_RANGE or VLT_LIBRARY. */
 VLT_MUST_USE vlt_result vlt_fields_push(
@@ -857,26 +889,28 @@ VLT_MUST_USE vlt_result vlt_fields_push(
 
 /* Stores in `out` the path that the message of a path describes. The names of the parts of the message are passed in
  * the same way as to `vlt_path_from_steps`. The length 2^64 - 1 (`VLT_ELEMENT` in C) stands for a part without a kind.
- * Returns the number for the first fault of the names, in their order: 9 if fewer bytes are left than a length says, 3 if
- * the name of a length isn't UTF-8, and 9 if bytes are left after the last name. If the names have no fault, a message
- * that has a part without a kind describes no path, and the call returns 136, with the error in `error`.
+ * Returns the number for the first fault of the names, in their order: 9 if fewer bytes are left than a length says, 3
+ * if the name of a length isn't UTF-8, and 9 if bytes are left after the last name. If the names have no fault, a
+ * message that has a part without a kind describes no path, and the call returns 136, with the error in `error`.
  *
  * Results: VLT_DONE, VLT_UTF8, VLT_SAME_SLOT, VLT_RANGE, VLT_LIBRARY or VLT_ERROR_MESSAGE_PATH_PART_MISSING. */
 VLT_MUST_USE vlt_result vlt_path_from_message(
         const uint8_t *names, size_t names_len, const size_t *name_lengths, size_t name_lengths_len, vlt_path *out,
         vlt_error *error);
 
-/* Reads a path from its text and stores it in `out`. For example, `a.[].b` is a path of three steps, and `.` is the root.
- * The text is written in the form of `vlt_path_to_text`, and blanks and comments may stand around it.
+/* Reads a path from its text and stores it in `out`. For example, `a.[].b` is a path of three steps, and `.` is the
+ * root. The text is written in the form of `vlt_path_to_text`, and blanks and comments may stand around it.
  *
  * Returns 3 if the text isn't UTF-8, and 4 if it isn't spelled like a path. Then `error` contains an error:
- * `vlt_error_position` returns at which byte, counted from 1, something else was expected, and `vlt_error_message` what.
+ * `vlt_error_position` returns at which byte, counted from 1, something else was expected, and `vlt_error_message`
+ * what.
  *
  * Results: VLT_DONE, VLT_UTF8, VLT_UNREADABLE, VLT_SAME_SLOT, VLT_RANGE or VLT_LIBRARY. */
 VLT_MUST_USE vlt_result vlt_path_from_text(const uint8_t *text, size_t text_len, vlt_path *out, vlt_error *error);
 
-/* Writes the path to `buffer` in the form from which `vlt_path_from_text` reads the same path back, for example `a.[].b`.
- * A name stands in double quotes unless it consists of ASCII letters and digits, `_` and visible characters beyond ASCII.
+/* Writes the path to `buffer` in the form from which `vlt_path_from_text` reads the same path back, for example
+ * `a.[].b`. A name stands in double quotes unless it consists of ASCII letters and digits, `_` and visible characters
+ * beyond ASCII.
  *
  * Results: VLT_DONE, VLT_KIND, VLT_SMALL, VLT_RANGE or VLT_LIBRARY. */
 VLT_MUST_USE vlt_result vlt_path_to_text(const vlt_path *path, uint8_t *buffer, size_t buffer_len, size_t *length);
@@ -891,9 +925,9 @@ VLT_MUST_USE vlt_result vlt_path_root(vlt_path *out);
  * Results: VLT_DONE or VLT_KIND. */
 VLT_MUST_USE vlt_result vlt_path_len(const vlt_path *path, size_t *count);
 
-/* Writes the step at the position `index`. For a step to a field, it writes the bytes of the name to `buffer` and
- * their number to `length`. For the step to the element, it writes only a length, which is 2^64 - 1 (`VLT_ELEMENT` in C).
- * Returns 1 if the position isn't below the number of steps.
+/* Writes the step at the position `index`, which is counted from 0. For a step to a field, it writes the bytes of the
+ * name to `buffer` and their number to `length`. For the step to the element, it writes only a length, which is 2^64
+ * - 1 (`VLT_ELEMENT` in C). Returns 1 if the position isn't below the number of steps.
  *
  * Results: VLT_DONE, VLT_NONE, VLT_KIND, VLT_SMALL or VLT_RANGE. */
 VLT_MUST_USE vlt_result vlt_path_step(
@@ -926,29 +960,34 @@ VLT_MUST_USE vlt_result vlt_path_copy(const vlt_path *path, vlt_path *out);
 VLT_MUST_USE vlt_result vlt_path_eq(const vlt_path *one, const vlt_path *other);
 
 /* Returns 0 if one of the two paths is a prefix of the other, and 1 if none is. For example, it returns 0 for `a` and
- * `a.b`.
+ * `a.b`, and for equal paths.
  *
  * Results: VLT_DONE, VLT_NONE, VLT_KIND or VLT_SAME_SLOT. */
 VLT_MUST_USE vlt_result vlt_path_overlap(const vlt_path *one, const vlt_path *other);
 
-/* Stores in `out` the type at the path in the type `dtype`. For example, the type at `a.[]` in `{a=list(i32)}` is
- * `i32`. Returns 1 if there is no type at the path.
+/* Stores in `out` the type at the path in the type `dtype`. The root leads to the whole type, a name to the first
+ * field with this name in a struct, and the element to the element type of a list or of a fixed-size list. No step
+ * leads into a type of another kind. The nullability of the types on the way doesn't matter. For example, the type at
+ * `a.[]` in `{a=list(i32)?}` is `i32`. Returns 1 if there is no type at the path.
  *
  * Results: VLT_DONE, VLT_NONE, VLT_KIND, VLT_SAME_SLOT or VLT_LIBRARY. */
 VLT_MUST_USE vlt_result vlt_path_resolve(const vlt_dtype *dtype, const vlt_path *path, vlt_dtype *out);
 
-/* Returns 0 if there is a type at the path in the type `dtype`, and 1 if there is none.
+/* Returns 0 if there is a type at the path in the type `dtype`, and 1 if there is none. The comment of
+ * `vlt_path_resolve` explains where a path leads.
  *
  * Results: VLT_DONE, VLT_NONE, VLT_KIND or VLT_SAME_SLOT. */
 VLT_MUST_USE vlt_result vlt_path_exists_in(const vlt_dtype *dtype, const vlt_path *path);
 
-/* Writes the path to `buffer` as the library displays it, for example `$a.[].$b`.
+/* Writes the path to `buffer` as the library displays it, for example `$a.[].$b`. `vlt_path_from_text` doesn't read
+ * this form. It reads the one that `vlt_path_to_text` writes.
  *
  * Results: VLT_DONE, VLT_KIND, VLT_SMALL, VLT_RANGE or VLT_LIBRARY. */
 VLT_MUST_USE vlt_result vlt_path_display(const vlt_path *path, uint8_t *buffer, size_t buffer_len, size_t *length);
 
 /* Returns 0 if the first step of the path is the step to the field with this name. Returns 1 if it is the step to
- * another field, or if the path is the root. Returns 5 if it is the step to the element.
+ * another field, or if the path is the root. Returns 5 if it is the step to the element. The call doesn't test
+ * whether the name is UTF-8, and no field has a name that isn't.
  *
  * Results: VLT_DONE, VLT_NONE, VLT_KIND, VLT_CONDITION or VLT_RANGE. */
 VLT_MUST_USE vlt_result vlt_path_starts_with_name(const vlt_path *path, const uint8_t *name, size_t name_len);
@@ -961,9 +1000,9 @@ VLT_MUST_USE vlt_result vlt_path_hash(const vlt_path *path, uint64_t *hash);
 
 /* Stores in `out` the path of these steps. `names` contains the bytes of all names, one name directly after the other,
  * and `name_lengths` contains the number of bytes of the name of each step. The length 2^64 - 1 (`VLT_ELEMENT` in C)
- * stands for the step to the element, which has no bytes in `names`. Returns the number for the first fault of the names,
- * in their order: 9 if fewer bytes are left than a length says, 3 if the name of a length isn't UTF-8, and 9 if bytes are
- * left after the last name.
+ * stands for the step to the element, which has no bytes in `names`. Returns the number for the first fault of the
+ * names, in their order: 9 if fewer bytes are left than a length says, 3 if the name of a length isn't UTF-8, and 9 if
+ * bytes are left after the last name.
  *
  * Results: VLT_DONE, VLT_UTF8, VLT_RANGE or VLT_LIBRARY. */
 VLT_MUST_USE vlt_result vlt_path_from_steps(
@@ -982,8 +1021,9 @@ VLT_MUST_USE vlt_result vlt_set_below(
         const vlt_path_set *paths, const vlt_path *path, bool *is_end, bool *has_element, size_t *name_count);
 
 /* Stores in `out` the list of the names with which paths of the set continue after the path `path`. The list contains
- * a path of one step for each name, in no particular order. For example, for the set of `a.b` and `a.c` and the path
- * `a` the list contains the paths `b` and `c`. Returns 1 if no path of the set begins with the path.
+ * a path of one step for each name. Each name is in it once, in no particular order. For example, for the set of
+ * `a.b` and `a.c` and the path `a` the list contains the paths `b` and `c`. Returns 1 if no path of the set begins
+ * with the path.
  *
  * Results: VLT_DONE, VLT_NONE, VLT_KIND, VLT_SAME_SLOT or VLT_LIBRARY. */
 VLT_MUST_USE vlt_result vlt_set_names_below(const vlt_path_set *paths, const vlt_path *path, vlt_path_list *out);
@@ -993,12 +1033,14 @@ VLT_MUST_USE vlt_result vlt_set_names_below(const vlt_path_set *paths, const vlt
  * Results: VLT_DONE, VLT_NONE, VLT_KIND or VLT_SAME_SLOT. */
 VLT_MUST_USE vlt_result vlt_set_eq(const vlt_path_set *one, const vlt_path_set *other);
 
-/* Returns 0 if each path of the first set is in the other one too, and 1 if one isn't.
+/* Returns 0 if each path of the first set is in the other one too, and 1 if one isn't. The paths themselves are
+ * compared, and not what they select. For example, the set of `a.b` isn't a subset of the set of `a`.
  *
  * Results: VLT_DONE, VLT_NONE, VLT_KIND or VLT_SAME_SLOT. */
 VLT_MUST_USE vlt_result vlt_set_is_subset(const vlt_path_set *one, const vlt_path_set *other);
 
-/* Returns 0 if no path is in both sets, and 1 if one is.
+/* Returns 0 if no path is in both sets, and 1 if one is. The paths themselves are compared, and not what they select.
+ * For example, the sets of `a` and of `a.b` are disjoint.
  *
  * Results: VLT_DONE, VLT_NONE, VLT_KIND or VLT_SAME_SLOT. */
 VLT_MUST_USE vlt_result vlt_set_is_disjoint(const vlt_path_set *one, const vlt_path_set *other);
@@ -1013,7 +1055,8 @@ VLT_MUST_USE vlt_result vlt_set_union(const vlt_path_set *one, const vlt_path_se
  * Results: VLT_DONE or VLT_LIBRARY. */
 VLT_MUST_USE vlt_result vlt_set_new(vlt_path_set *out);
 
-/* Inserts a copy of the path into the set. If the call doesn't return 0, the set is unchanged.
+/* Inserts a copy of the path into the set. If the set contains the path already, nothing changes, and the call
+ * returns 0. If it doesn't return 0, the set is unchanged.
  *
  * Results: VLT_DONE, VLT_KIND, VLT_SAME_SLOT or VLT_LIBRARY. */
 VLT_MUST_USE vlt_result vlt_set_insert(vlt_path_set *paths, const vlt_path *path);
@@ -1028,9 +1071,9 @@ VLT_MUST_USE vlt_result vlt_set_contains(const vlt_path_set *paths, const vlt_pa
  * Results: VLT_DONE, VLT_KIND, VLT_SAME_SLOT or VLT_LIBRARY. */
 VLT_MUST_USE vlt_result vlt_set_copy(const vlt_path_set *paths, vlt_path_set *out);
 
-/* Stores in `out` the list of the least paths of the set. These are the paths of the set of which no other path of the
- * set is a prefix. They are the fewest paths that cover what the set covers. For example, the only least path of the
- * set of `a` and `a.b` is `a`. Each path is in the list once, in no particular order.
+/* Stores in `out` the cover of the set, as a list. The cover contains those paths of the set of which no other path
+ * of the set is a prefix. For example, the cover of `a.b`, `x` and `a` contains `a` and `x`. Each path is in the list
+ * once, in no particular order.
  *
  * Results: VLT_DONE, VLT_KIND, VLT_SAME_SLOT or VLT_LIBRARY. */
 VLT_MUST_USE vlt_result vlt_set_cover(const vlt_path_set *paths, vlt_path_list *out);
@@ -1052,14 +1095,15 @@ VLT_MUST_USE vlt_result vlt_set_unresolved(const vlt_path_set *paths, const vlt_
 VLT_MUST_USE vlt_result vlt_set_len(const vlt_path_set *paths, size_t *count);
 
 /* Inserts copies of the paths in these slots into the set, in order, and writes to `inserted` how many were inserted.
- * If a slot contains no path, the call stops there and returns 2. If memory runs out, it stops there and returns 100. The
- * paths before it stay inserted.
+ * A path that the set contains already is counted too. If a slot contains no path, the call stops there and
+ * returns 2. If memory runs out, it stops there and returns 100. In both cases the paths before it stay inserted, and
+ * `inserted` is their number. If `set` contains no set, the call returns 2 and writes nothing.
  *
  * Results: VLT_DONE, VLT_KIND, VLT_SAME_SLOT, VLT_RANGE or VLT_LIBRARY. */
 VLT_MUST_USE vlt_result vlt_set_extend(vlt_path_set *set, const vlt_path *paths, size_t paths_len, size_t *inserted);
 
-/* Inserts copies of the paths of the list into the set, in order. If memory runs out, the call stops there and returns
- * 100. The paths that it inserted before stay in the set.
+/* Inserts copies of the paths of the list into the set, in order. If memory runs out, the call stops there and
+ * returns 100. In this case the paths that it inserted before stay in the set.
  *
  * Results: VLT_DONE, VLT_KIND, VLT_SAME_SLOT or VLT_LIBRARY. */
 VLT_MUST_USE vlt_result vlt_set_extend_from_list(vlt_path_set *paths, const vlt_path_list *list);
@@ -1067,9 +1111,10 @@ VLT_MUST_USE vlt_result vlt_set_extend_from_list(vlt_path_set *paths, const vlt_
 
 /* == Lists of paths == */
 
-/* Takes the path at the position `index` out of the list, and stores it in `out`. The list has the root at this position
- * afterwards. So a program that goes through a list can own each path without copying it. Returns 1 if the position
- * isn't below the length of the list. If the call doesn't return 0, the list is unchanged.
+/* Takes the path at the position `index`, which is counted from 0, out of the list, and stores it in `out`. The list
+ * has the root at this position afterwards. So a program that goes through a list can own each path without copying
+ * it. Returns 1 if the position isn't below the length of the list. If the call doesn't return 0, the list is
+ * unchanged.
  *
  * Results: VLT_DONE, VLT_NONE, VLT_KIND, VLT_SAME_SLOT or VLT_LIBRARY. */
 VLT_MUST_USE vlt_result vlt_paths_take(vlt_path_list *paths, size_t index, vlt_path *out);
@@ -1079,8 +1124,8 @@ VLT_MUST_USE vlt_result vlt_paths_take(vlt_path_list *paths, size_t index, vlt_p
  * Results: VLT_DONE or VLT_KIND. */
 VLT_MUST_USE vlt_result vlt_paths_len(const vlt_path_list *paths, size_t *count);
 
-/* Stores in `out` a copy of the path at the position `index` of the list. Returns 1 if the position isn't below the
- * length of the list.
+/* Stores in `out` a copy of the path at the position `index`, which is counted from 0, of the list. Returns 1 if the
+ * position isn't below the length of the list.
  *
  * Results: VLT_DONE, VLT_NONE, VLT_KIND, VLT_SAME_SLOT or VLT_LIBRARY. */
 VLT_MUST_USE vlt_result vlt_paths_get(const vlt_path_list *paths, size_t index, vlt_path *out);
@@ -1088,8 +1133,10 @@ VLT_MUST_USE vlt_result vlt_paths_get(const vlt_path_list *paths, size_t index, 
 
 /* == The part of a type that paths lead to == */
 
-/* Stores in `out` the type without the fields to which no path of the set leads. For example, for `{a=i32, b=utf8}`
- * and the set of `a` it stores `{a=i32}`. Returns 1 if no path of the set exists in the type.
+/* Stores in `out` the part of the type to which the paths of the set lead. It is the schema of the columns that a
+ * reader of these paths has to open. The type at the end of a path is kept whole. A struct on the way keeps only the
+ * fields to which a path leads, in its own order. For example, the part of `{a=i32, b={c=u8, d=u8}}` for the path
+ * `b.c` is `{b={c=u8}}`. Returns 1 if no path of the set exists in the type.
  *
  * Results: VLT_DONE, VLT_NONE, VLT_KIND, VLT_SAME_SLOT or VLT_LIBRARY. */
 VLT_MUST_USE vlt_result vlt_project_paths(const vlt_dtype *dtype, const vlt_path_set *set, vlt_dtype *out);
@@ -1119,7 +1166,8 @@ VLT_MUST_USE vlt_result vlt_mask_exact(const vlt_path *path, vlt_mask *out);
  * Results: VLT_DONE or VLT_KIND. */
 VLT_MUST_USE vlt_result vlt_mask_kind(const vlt_mask *mask, uint32_t *kind);
 
-/* Stores in `out` the path of the mask. Returns 1 if the mask is the one of `vlt_mask_all`, which has no path.
+/* Stores in `out` the path of the mask. Returns 1 if the mask is the one of `vlt_mask_all`, which has no path. The
+ * path of the mask that `vlt_mask_prefix` makes of the root is the root, although this mask also selects every path.
  *
  * Results: VLT_DONE, VLT_NONE, VLT_KIND, VLT_SAME_SLOT or VLT_LIBRARY. */
 VLT_MUST_USE vlt_result vlt_mask_path(const vlt_mask *mask, vlt_path *out);
@@ -1129,9 +1177,15 @@ VLT_MUST_USE vlt_result vlt_mask_path(const vlt_mask *mask, vlt_path *out);
  * Results: VLT_DONE, VLT_KIND, VLT_SAME_SLOT or VLT_LIBRARY. */
 VLT_MUST_USE vlt_result vlt_mask_copy(const vlt_mask *mask, vlt_mask *out);
 
-/* Stores in `out` the mask that is left after the first step of the path of this mask. For example, for the mask that
- * `vlt_mask_prefix` makes of `a.b`, it is the mask that `vlt_mask_prefix` makes of `b`. Returns 120, with the error in
- * `error`, if the mask selects only the root.
+/* Stores in `out` the mask of what this mask selects below the first step of its path:
+ *
+ * - For the mask of `vlt_mask_all`, it is the mask of `vlt_mask_all`.
+ * - For a mask of `vlt_mask_prefix`, it is the mask that `vlt_mask_prefix` makes of the path without its first step.
+ *   If the path has at most one step, it is the mask of `vlt_mask_all`.
+ * - For a mask of `vlt_mask_exact`, it is the mask that `vlt_mask_exact` makes of the path without its first step.
+ *
+ * For example, for the mask that `vlt_mask_prefix` makes of `a.b`, it is the mask that `vlt_mask_prefix` makes of
+ * `b`. Returns 120, with the error in `error`, if the mask selects only the root.
  *
  * Results: VLT_DONE, VLT_KIND, VLT_SAME_SLOT, VLT_LIBRARY or VLT_ERROR_EXACT_ROOT. */
 VLT_MUST_USE vlt_result vlt_mask_step_into(const vlt_mask *mask, vlt_mask *out, vlt_error *error);
@@ -1143,17 +1197,21 @@ VLT_MUST_USE vlt_result vlt_mask_step_into(const vlt_mask *mask, vlt_mask *out, 
 VLT_MUST_USE vlt_result vlt_mask_starting_field(
         const vlt_mask *mask, uint8_t *buffer, size_t buffer_len, size_t *length, vlt_error *error);
 
-/* Returns 0 if the mask selects every path, and 1 if it doesn't.
+/* Returns 0 if the mask selects every path, and 1 if it doesn't. The mask of `vlt_mask_all` and the mask that
+ * `vlt_mask_prefix` makes of the root select every path.
  *
  * Results: VLT_DONE, VLT_NONE or VLT_KIND. */
 VLT_MUST_USE vlt_result vlt_mask_matches_all(const vlt_mask *mask);
 
-/* Returns 0 if the mask selects the root, and 1 if it doesn't.
+/* Returns 0 if the mask selects the root, and 1 if it doesn't. The mask of `vlt_mask_all` and the masks whose path is
+ * the root select the root.
  *
  * Results: VLT_DONE, VLT_NONE or VLT_KIND. */
 VLT_MUST_USE vlt_result vlt_mask_matches_root(const vlt_mask *mask);
 
-/* Returns 0 if the two masks are equal, and 1 if they aren't.
+/* Returns 0 if the two masks are equal, and 1 if they aren't. They are equal if they have the same kind and the same
+ * path. So the mask of `vlt_mask_all` isn't equal to the mask that `vlt_mask_prefix` makes of the root, although both
+ * select every path.
  *
  * Results: VLT_DONE, VLT_NONE, VLT_KIND or VLT_SAME_SLOT. */
 VLT_MUST_USE vlt_result vlt_mask_eq(const vlt_mask *one, const vlt_mask *other);
@@ -1173,9 +1231,9 @@ VLT_MUST_USE vlt_result vlt_message_eq(const vlt_message *one, const vlt_message
 
 /* Stores in `out` the type that the message describes. No plugin is registered, so no id of an extension is known. If
  * `allow_unknown` is true, an extension keeps its metadata. If it is false, the call returns 135 for an extension. If
- * the message describes no type, the call returns the number of its first fault, and `error` contains the error. This is a
- * number from 124 to 134, or 101 to 104 for a decimal, 109 for a map, and 110 to 113 or 115 for a union. For example, it
- * returns 124 for a message without a kind.
+ * the message describes no type, the call returns the number of its first fault, and `error` contains the error. This
+ * is a number from 124 to 134, or 101 to 104 for a decimal, 109 for a map, and 110 to 113 or 115 for a union. For
+ * example, it returns 124 for a message without a kind.
  *
  * Results: VLT_DONE, VLT_KIND, VLT_SAME_SLOT, VLT_LIBRARY, VLT_ERROR_PRECISION_ZERO, VLT_ERROR_PRECISION_TOO_LARGE,
  * VLT_ERROR_SCALE_TOO_LARGE, VLT_ERROR_SCALE_ABOVE_PRECISION, VLT_ERROR_MAP_KEY_NULLABLE,
@@ -1203,10 +1261,10 @@ VLT_MUST_USE vlt_result vlt_message_to_dtype(
 VLT_MUST_USE vlt_result vlt_message_normal(
         const vlt_message *message, bool allow_unknown, vlt_message *out, vlt_error *error);
 
-/* Stores in `out` the message that the nodes and the bytes of the texts describe. If they don't describe one, the first
- * fault that is met in the order of the nodes is returned: 3 if a name or an id isn't UTF-8, 6 if a message is nested in
- * more than 128 others, and 9 if a node isn't one that a message has at its place, if nodes or bytes end too early, or if
- * some are left.
+/* Stores in `out` the message that the nodes and the bytes of the texts describe. If they don't describe one, the
+ * first fault that is met in the order of the nodes is returned: 3 if a name or an id isn't UTF-8, 6 if a message is
+ * nested in more than 128 others, and 9 if a node isn't one that a message has at its place, if nodes or bytes end too
+ * early, or if some are left.
  *
  * Results: VLT_DONE, VLT_UTF8, VLT_DEEP, VLT_RANGE or VLT_LIBRARY. */
 VLT_MUST_USE vlt_result vlt_message_from_nodes(
@@ -1214,8 +1272,8 @@ VLT_MUST_USE vlt_result vlt_message_from_nodes(
 
 /* Writes the nodes of the message to the front of `nodes`, the bytes of its texts to the front of `texts`, and the
  * numbers of both to `node_count` and `text_length`. If one of the two buffers is too small, the call returns 7 and
- * writes only the two numbers. It returns 6 if a message is nested in more than 128 others, and otherwise 9 if a number
- * of names, tags, types or bytes of a text is above 2^32 - 1.
+ * writes only the two numbers. It returns 6 if a message is nested in more than 128 others, and otherwise 9 if a
+ * number of names, tags, types or bytes of a text is above 2^32 - 1.
  *
  * Nodes and texts are plain bytes, so another thread can read them.
  *
@@ -1234,25 +1292,25 @@ VLT_MUST_USE vlt_result vlt_message_to_nodes(
  * Results: VLT_DONE, VLT_SMALL or VLT_RANGE. */
 VLT_MUST_USE vlt_result vlt_error_text(uint32_t code, uint8_t *buffer, size_t buffer_len, size_t *length);
 
-/* Writes the number of the library's error to `number`. It is from 0 to 36, and 100 less than the result of the call that
- * stored the error. For example, it is 9 if the key type of a map is nullable. Returns 1 if the error is that a text
- * can't be read or is nested too deeply, or that a type isn't one of Arrow's or the reverse, which are no errors of the
- * library, and 2 if the slot contains no error.
+/* Writes the number of the library's error to `number`. It is from 0 to 36, and 100 less than the result of the call
+ * that stored the error. For example, it is 9 if the key type of a map is nullable. Returns 1 if the error is that a
+ * text can't be read or is nested too deeply, or that a type isn't one of Arrow's or the reverse, which are no errors
+ * of the library, and 2 if the slot contains no error.
  *
  * Results: VLT_DONE, VLT_NONE or VLT_KIND. */
 VLT_MUST_USE vlt_result vlt_error_number(const vlt_error *error, uint32_t *number);
 
-/* Writes to `position` at which byte of a text the error is, counted from 1. The position is one more than the length of
- * the text if the text ends too early. Returns 1 if the error isn't about a place in a text, because it is one of the library or is
- * about a schema of Arrow, and 2 if the slot contains no error.
+/* Writes to `position` at which byte of a text the error is, counted from 1. The position is one more than the length
+ * of the text if the text ends too early. Returns 1 if the error isn't about a place in a text, because it is one of
+ * the library or is about a schema of Arrow, and 2 if the slot contains no error.
  *
  * Results: VLT_DONE, VLT_NONE or VLT_KIND. */
 VLT_MUST_USE vlt_result vlt_error_position(const vlt_error *error, size_t *position);
 
 /* Writes the message of the error to `buffer`. For an error of the library it is the library's own text, for example
- * `index 9 out of bounds for struct with 2 fields`. If a text can't be read, it says what was expected at the position of
- * the error, for example `expected a type, not "int32"; nearest: i32`. For a schema of Arrow it names the field, for example
- * `column "a": the Arrow format "tiM" has no type here`. Returns 2 if the slot contains no error.
+ * `index 9 out of bounds for struct with 2 fields`. If a text can't be read, it states what was expected at the
+ * position of the error, for example `expected a type, not "int32"; nearest: i32`. For a schema of Arrow it names the
+ * field, for example `column "a": the Arrow format "tiM" has no type here`. Returns 2 if the slot contains no error.
  *
  * Results: VLT_DONE, VLT_KIND, VLT_SMALL, VLT_RANGE or VLT_LIBRARY. */
 VLT_MUST_USE vlt_result vlt_error_message(const vlt_error *error, uint8_t *buffer, size_t buffer_len, size_t *length);

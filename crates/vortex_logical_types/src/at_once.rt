@@ -113,9 +113,9 @@ fn together(alloc: Global, wanted: &FieldNames) -> VortexResult<(Vec<u8>, Vec<us
 }
 
 /// Stores the types of all fields of the struct in the first slots of `types`, in order, and writes their number to
-/// `count`. The other slots keep their objects. If there are fewer slots than fields, the call returns 7 and writes only
-/// the number. If the call returns another number than 0, each slot is as it was before. Returns 2 if `dtype` contains no
-/// type, and 5 if the type isn't a struct.
+/// `count`. The other slots keep their objects. If there are fewer slots than fields, the call returns 7 and writes
+/// only the number. If the call returns another number than 0, each slot is as it was before. Returns 2 if `dtype`
+/// contains no type, and 5 if the type isn't a struct.
 #[unsafe(no_mangle)]
 pub extern "C" fn vlt_core_struct_types(
     alloc: Global,
@@ -138,9 +138,9 @@ pub extern "C" fn vlt_core_struct_types(
 }
 
 /// Stores the types of all variants of the union in the first slots of `types`, in order, and writes their number to
-/// `count`. The other slots keep their objects. If there are fewer slots than variants, the call returns 7 and writes only
-/// the number. If the call returns another number than 0, each slot is as it was before. Returns 2 if `dtype` contains no
-/// type, and 5 if the type isn't a union.
+/// `count`. The other slots keep their objects. If there are fewer slots than variants, the call returns 7 and writes
+/// only the number. If the call returns another number than 0, each slot is as it was before. Returns 2 if `dtype`
+/// contains no type, and 5 if the type isn't a union.
 #[unsafe(no_mangle)]
 pub extern "C" fn vlt_core_union_types(
     alloc: Global,

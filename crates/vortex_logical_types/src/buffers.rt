@@ -21,8 +21,8 @@ pub fn write_bytes(bytes: &[u8], buffer: &mut [u8], length: &mut usize) -> u32
     OK
 }
 
-/// Copies the items of two slices to the fronts of two buffers, and returns 0. If one of them doesn't fit, it copies nothing
-/// and returns 7.
+/// Copies the items of two slices to the fronts of two buffers, and returns 0. If one of them doesn't fit, it copies
+/// nothing and returns 7.
 pub fn copy_both<X: Copy, Y: Copy>(
     first: &[X],
     second: &[Y],

@@ -22,7 +22,7 @@ use dtype_base::{DecimalDType, Nullability, PType, VortexResult};
 use dtype_types::DType;
 use std::alloc::Global;
 
-/// Stores in `out` the null type.
+/// Stores in `out` the null type, which is always nullable.
 #[unsafe(no_mangle)]
 pub extern "C" fn vlt_core_dtype_null(alloc: Global, out: &mut Slot) -> u32
     ensures { Puts type_in (unless_memory (gives t.null)) result out.old.value out.new.value }
@@ -39,7 +39,7 @@ pub extern "C" fn vlt_core_dtype_bool(alloc: Global, nullable: bool, out: &mut S
     put(alloc, out, Object::DType(dtype))
 }
 
-/// Stores in `out` the type of texts. The type is nullable if `nullable` is true.
+/// Stores in `out` the type of UTF-8 strings. The type is nullable if `nullable` is true.
 #[unsafe(no_mangle)]
 pub extern "C" fn vlt_core_dtype_utf8(alloc: Global, nullable: bool, out: &mut Slot) -> u32
     ensures { Puts type_in (unless_memory (gives (t.utf8 (nullability_of nullable)))) result out.old.value out.new.value }
@@ -57,7 +57,8 @@ pub extern "C" fn vlt_core_dtype_binary(alloc: Global, nullable: bool, out: &mut
     put(alloc, out, Object::DType(dtype))
 }
 
-/// Stores in `out` the variant type. Its values each carry their own type. The type is nullable if `nullable` is true.
+/// Stores in `out` the variant type. Each of its values carries its own type. The type is nullable if `nullable` is
+/// true.
 #[unsafe(no_mangle)]
 pub extern "C" fn vlt_core_dtype_variant(alloc: Global, nullable: bool, out: &mut Slot) -> u32
     ensures { Puts type_in (unless_memory (gives (t.variant (nullability_of nullable)))) result out.old.value out.new.value }
@@ -132,8 +133,8 @@ pub extern "C" fn vlt_core_dtype_decimal(
     }
 }
 
-/// Stores in `out` a list type: the lists of any length whose elements are of the type in `element`. The list type is
-/// nullable if `nullable` is true. Returns 6 if the element type has 128 levels.
+/// Stores in `out` the list type with the element type in `element`. Its values are lists of any length. The list type
+/// is nullable if `nullable` is true. Returns 6 if the element type has 128 levels.
 #[unsafe(no_mangle)]
 pub extern "C" fn vlt_core_dtype_list(
     alloc: Global,
@@ -163,8 +164,8 @@ fn list_of(alloc: Global, element: &DType, n: Nullability) -> VortexResult<DType
     Ok(made)
 }
 
-/// Stores in `out` a fixed-size list type: the lists of exactly `size` elements of the type in `element`. The list type
-/// is nullable if `nullable` is true. Returns 6 if the element type has 128 levels.
+/// Stores in `out` the fixed-size list type with the element type in `element`. Its values are lists of exactly `size`
+/// elements. The list type is nullable if `nullable` is true. Returns 6 if the element type has 128 levels.
 #[unsafe(no_mangle)]
 pub extern "C" fn vlt_core_dtype_fixed_size_list(
     alloc: Global,

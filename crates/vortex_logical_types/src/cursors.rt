@@ -78,8 +78,9 @@ fn below(
 }
 
 /// Stores in `out` the list of the names with which paths of the set continue after the path `path`. The list contains
-/// a path of one step for each name, in no particular order. For example, for the set of `a.b` and `a.c` and the path
-/// `a` the list contains the paths `b` and `c`. Returns 1 if no path of the set begins with the path.
+/// a path of one step for each name. Each name is in it once, in no particular order. For example, for the set of
+/// `a.b` and `a.c` and the path `a` the list contains the paths `b` and `c`. Returns 1 if no path of the set begins
+/// with the path.
 #[unsafe(no_mangle)]
 pub extern "C" fn vlt_core_set_names_below(
     alloc: Global,

@@ -43,10 +43,10 @@ pub fn fail_with(alloc: Global, error: &mut Slot, why: VortexError) -> u32
     fail(alloc, error, Failure::Library(why))
 }
 
-/// Writes the number of the library's error to `number`. It is from 0 to 36, and 100 less than the result of the call that
-/// stored the error. For example, it is 9 if the key type of a map is nullable. Returns 1 if the error is that a text
-/// can't be read or is nested too deeply, or that a type isn't one of Arrow's or the reverse, which are no errors of the
-/// library, and 2 if the slot contains no error.
+/// Writes the number of the library's error to `number`. It is from 0 to 36, and 100 less than the result of the call
+/// that stored the error. For example, it is 9 if the key type of a map is nullable. Returns 1 if the error is that a
+/// text can't be read or is nested too deeply, or that a type isn't one of Arrow's or the reverse, which are no errors
+/// of the library, and 2 if the slot contains no error.
 #[unsafe(no_mangle)]
 pub extern "C" fn vlt_core_error_number(error: &mut Slot, number: &mut u32) -> u32
     ensures writes { Writes (on (error_in error.old.value) (λ e. found (failure_number e) gives)) result number.old number.new }
@@ -64,9 +64,9 @@ pub extern "C" fn vlt_core_error_number(error: &mut Slot, number: &mut u32) -> u
     }
 }
 
-/// Writes to `position` at which byte of a text the error is, counted from 1. The position is one more than the length of
-/// the text if the text ends too early. Returns 1 if the error isn't about a place in a text, because it is one of the library or is
-/// about a schema of Arrow, and 2 if the slot contains no error.
+/// Writes to `position` at which byte of a text the error is, counted from 1. The position is one more than the length
+/// of the text if the text ends too early. Returns 1 if the error isn't about a place in a text, because it is one of
+/// the library or is about a schema of Arrow, and 2 if the slot contains no error.
 #[unsafe(no_mangle)]
 pub extern "C" fn vlt_core_error_position(error: &mut Slot, position: &mut usize) -> u32
     ensures writes { Writes (on (error_in error.old.value) (λ e. found (failure_position e) gives)) result position.old position.new }
@@ -85,9 +85,9 @@ pub extern "C" fn vlt_core_error_position(error: &mut Slot, position: &mut usize
 }
 
 /// Writes the message of the error to `buffer`. For an error of the library it is the library's own text, for example
-/// `index 9 out of bounds for struct with 2 fields`. If a text can't be read, it says what was expected at the position of
-/// the error, for example `expected a type, not "int32"; nearest: i32`. For a schema of Arrow it names the field, for example
-/// `column "a": the Arrow format "tiM" has no type here`. Returns 2 if the slot contains no error.
+/// `index 9 out of bounds for struct with 2 fields`. If a text can't be read, it states what was expected at the
+/// position of the error, for example `expected a type, not "int32"; nearest: i32`. For a schema of Arrow it names the
+/// field, for example `column "a": the Arrow format "tiM" has no type here`. Returns 2 if the slot contains no error.
 #[unsafe(no_mangle)]
 pub extern "C" fn vlt_core_error_message(
     alloc: Global,

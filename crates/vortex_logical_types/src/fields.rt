@@ -19,9 +19,9 @@ use dtype_types::DType;
 use std::alloc::Global;
 use std::str;
 
-/// Stores in `out` an empty list of fields. A field is a name with a type. Structs and unions are made of such a list. For
-/// example, the list of `id` with u64 and `city` with utf8 is made by this call and two calls of `vlt_fields_push`, and
-/// `vlt_dtype_struct` makes the struct `{id=u64, city=utf8}` of it.
+/// Stores in `out` an empty list of fields. A field is a name with a type. Structs and unions are made of such a list.
+/// For example, the list of `id` with u64 and `city` with utf8 is made by this call and two calls of `vlt_fields_push`,
+/// and `vlt_dtype_struct` makes the struct `{id=u64, city=utf8}` of it.
 #[unsafe(no_mangle)]
 pub extern "C" fn vlt_core_fields_new(alloc: Global, out: &mut Slot) -> u32
     ensures { Puts fields_in (unless_memory (gives [])) result out.old.value out.new.value }
@@ -29,8 +29,8 @@ pub extern "C" fn vlt_core_fields_new(alloc: Global, out: &mut Slot) -> u32
     put(alloc, out, Object::Fields(Vec::new(alloc)))
 }
 
-/// Adds a field with this name and a copy of this type to the end of the list. A list may contain a name several times. If
-/// the call doesn't return 0, the list is unchanged. Returns 3 if the name isn't UTF-8.
+/// Adds a field with this name and a copy of this type to the end of the list. A list may contain a name several times.
+/// If the call doesn't return 0, the list is unchanged. Returns 3 if the name isn't UTF-8.
 #[unsafe(no_mangle)]
 pub extern "C" fn vlt_core_fields_push(
     alloc: Global,

@@ -23,8 +23,8 @@ use dtype_base::{FieldName, FieldNames, Nullability};
 use dtype_types::{DType, StructFields, UnionVariants};
 use std::alloc::Global;
 
-/// Stores in `out` the struct type of these fields, in order. The struct type is nullable if `nullable` is true. Returns 6
-/// if the type of a field has 128 levels.
+/// Stores in `out` the struct type of these fields, in order. The struct type is nullable if `nullable` is true.
+/// Returns 6 if the type of a field has 128 levels.
 #[unsafe(no_mangle)]
 pub extern "C" fn vlt_core_dtype_struct(
     alloc: Global,
@@ -76,12 +76,12 @@ fn put_struct(
     }
 }
 
-/// Stores in `out` the union type whose variants are these fields, in order, with these tags. The union type is nullable if
-/// `nullable` is true.
+/// Stores in `out` the union type whose variants are these fields, in order, with these tags. The union type is
+/// nullable if `nullable` is true.
 ///
-/// Returns 6 if the type of a field has 128 levels. Otherwise it returns the first of these numbers that applies, with the
-/// error in `error`: 111 if there are more or fewer tags than fields, 112 if there are no fields, 113 if a tag occurs twice,
-/// and 115 if a name occurs twice.
+/// Returns 6 if the type of a field has 128 levels. Otherwise it returns the first of these numbers that applies, with
+/// the error in `error`: 111 if there are more or fewer tags than fields, 112 if there are no fields, 113 if a tag
+/// occurs twice, and 115 if a name occurs twice.
 #[unsafe(no_mangle)]
 pub extern "C" fn vlt_core_dtype_union(
     alloc: Global,
@@ -159,11 +159,12 @@ fn put_variants(
     }
 }
 
-/// Stores in `out` the union type whose variants are these fields, in order, with the tags 0, 1, 2 and so on. The union type
-/// is nullable if `nullable` is true.
+/// Stores in `out` the union type whose variants are these fields, in order, with the tags 0, 1, 2 and so on. The union
+/// type is nullable if `nullable` is true.
 ///
-/// Returns 6 if the type of a field has 128 levels. Otherwise it returns the first of these numbers that applies, with the
-/// error in `error`: 114 if there are more than 256 fields, 112 if there are no fields, and 115 if a name occurs twice.
+/// Returns 6 if the type of a field has 128 levels. Otherwise it returns the first of these numbers that applies, with
+/// the error in `error`: 114 if there are more than 256 fields, 112 if there are no fields, and 115 if a name occurs
+/// twice.
 #[unsafe(no_mangle)]
 pub extern "C" fn vlt_core_dtype_union_consecutive(
     alloc: Global,

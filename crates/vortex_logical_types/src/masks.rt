@@ -82,7 +82,8 @@ fn number_of(mask: &FieldMask) -> u32
     }
 }
 
-/// Stores in `out` the path of the mask. Returns 1 if the mask is the one of `vlt_mask_all`, which has no path.
+/// Stores in `out` the path of the mask. Returns 1 if the mask is the one of `vlt_mask_all`, which has no path. The
+/// path of the mask that `vlt_mask_prefix` makes of the root is the root, although this mask also selects every path.
 #[unsafe(no_mangle)]
 pub extern "C" fn vlt_core_mask_path(alloc: Global, mask: &mut Slot, out: &mut Slot) -> u32
     ensures puts { Puts path_in
@@ -114,9 +115,15 @@ pub extern "C" fn vlt_core_mask_copy(alloc: Global, mask: &mut Slot, out: &mut S
     }
 }
 
-/// Stores in `out` the mask that is left after the first step of the path of this mask. For example, for the mask that
-/// `vlt_mask_prefix` makes of `a.b`, it is the mask that `vlt_mask_prefix` makes of `b`. Returns 120, with the error in
-/// `error`, if the mask selects only the root.
+/// Stores in `out` the mask of what this mask selects below the first step of its path:
+///
+/// - For the mask of `vlt_mask_all`, it is the mask of `vlt_mask_all`.
+/// - For a mask of `vlt_mask_prefix`, it is the mask that `vlt_mask_prefix` makes of the path without its first step.
+///   If the path has at most one step, it is the mask of `vlt_mask_all`.
+/// - For a mask of `vlt_mask_exact`, it is the mask that `vlt_mask_exact` makes of the path without its first step.
+///
+/// For example, for the mask that `vlt_mask_prefix` makes of `a.b`, it is the mask that `vlt_mask_prefix` makes of
+/// `b`. Returns 120, with the error in `error`, if the mask selects only the root.
 #[unsafe(no_mangle)]
 pub extern "C" fn vlt_core_mask_step_into(
     alloc: Global,
@@ -185,7 +192,8 @@ fn starting_field(
     }
 }
 
-/// Returns 0 if the mask selects every path, and 1 if it doesn't.
+/// Returns 0 if the mask selects every path, and 1 if it doesn't. The mask of `vlt_mask_all` and the mask that
+/// `vlt_mask_prefix` makes of the root select every path.
 #[unsafe(no_mangle)]
 pub extern "C" fn vlt_core_mask_matches_all(mask: &mut Slot) -> u32
     ensures answer { Answers (on (mask_in mask.old.value) (λ m. tells ((q : List Field) → In m q))) result }
@@ -197,7 +205,8 @@ pub extern "C" fn vlt_core_mask_matches_all(mask: &mut Slot) -> u32
     if mask.matches_all() { OK } else { NONE }
 }
 
-/// Returns 0 if the mask selects the root, and 1 if it doesn't.
+/// Returns 0 if the mask selects the root, and 1 if it doesn't. The mask of `vlt_mask_all` and the masks whose path is
+/// the root select the root.
 #[unsafe(no_mangle)]
 pub extern "C" fn vlt_core_mask_matches_root(mask: &mut Slot) -> u32
     ensures answer { Answers (on (mask_in mask.old.value) (λ m. tells (In m []))) result }
@@ -215,7 +224,9 @@ fn matches_root(mask: &FieldMask) -> u32
     if mask.matches_root() { OK } else { NONE }
 }
 
-/// Returns 0 if the two masks are equal, and 1 if they aren't.
+/// Returns 0 if the two masks are equal, and 1 if they aren't. They are equal if they have the same kind and the same
+/// path. So the mask of `vlt_mask_all` isn't equal to the mask that `vlt_mask_prefix` makes of the root, although both
+/// select every path.
 #[unsafe(no_mangle)]
 pub extern "C" fn vlt_core_mask_eq(one: &mut Slot, other: &mut Slot) -> u32
     ensures answer { Answers (on_both (mask_in one.old.value) (mask_in other.old.value) (λ m n. tells (m ≡ n))) result }

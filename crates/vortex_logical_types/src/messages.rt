@@ -67,9 +67,9 @@ fn are_equal(one: &pb::DType, other: &pb::DType) -> bool
 
 /// Stores in `out` the type that the message describes. No plugin is registered, so no id of an extension is known. If
 /// `allow_unknown` is true, an extension keeps its metadata. If it is false, the call returns 135 for an extension. If
-/// the message describes no type, the call returns the number of its first fault, and `error` contains the error. This is a
-/// number from 124 to 134, or 101 to 104 for a decimal, 109 for a map, and 110 to 113 or 115 for a union. For example, it
-/// returns 124 for a message without a kind.
+/// the message describes no type, the call returns the number of its first fault, and `error` contains the error. This
+/// is a number from 124 to 134, or 101 to 104 for a decimal, 109 for a map, and 110 to 113 or 115 for a union. For
+/// example, it returns 124 for a message without a kind.
 #[unsafe(no_mangle)]
 pub extern "C" fn vlt_core_message_to_dtype(
     alloc: Global,
@@ -158,7 +158,8 @@ fn normal_form(alloc: Global, proto: &pb::DType, allow_unknown: bool) -> VortexR
     Ok(dtype.to_proto(alloc)?)
 }
 
-/// Stores in `out` the message that describes the type.
+/// Stores in `out` the message that describes the type. `vlt_message_to_dtype` makes the same type of it. If the type
+/// has an extension in it, `allow_unknown` must be true for that.
 #[unsafe(no_mangle)]
 pub extern "C" fn vlt_core_dtype_to_message(alloc: Global, dtype: &mut Slot, out: &mut Slot) -> u32
     ensures puts { Puts message_in

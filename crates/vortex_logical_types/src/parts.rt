@@ -174,7 +174,8 @@ pub extern "C" fn vlt_core_dtype_fixed_size(dtype: &mut Slot, size: &mut u32) ->
     OK
 }
 
-/// Writes the precision and the scale of a decimal to `precision` and `scale`. Returns 1 if the type isn't a decimal.
+/// Writes the precision and the scale of a decimal to `precision` and `scale`. The precision is from 1 to 76. The
+/// scale isn't above the precision, and it may be negative. Returns 1 if the type isn't a decimal.
 #[unsafe(no_mangle)]
 pub extern "C" fn vlt_core_dtype_decimal_parts(
     dtype: &mut Slot,

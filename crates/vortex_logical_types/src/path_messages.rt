@@ -22,9 +22,9 @@ use vortex_dtype::FieldPathProto;
 
 /// Stores in `out` the path that the message of a path describes. The names of the parts of the message are passed in
 /// the same way as to `vlt_path_from_steps`. The length 2^64 - 1 (`VLT_ELEMENT` in C) stands for a part without a kind.
-/// Returns the number for the first fault of the names, in their order: 9 if fewer bytes are left than a length says, 3 if
-/// the name of a length isn't UTF-8, and 9 if bytes are left after the last name. If the names have no fault, a message
-/// that has a part without a kind describes no path, and the call returns 136, with the error in `error`.
+/// Returns the number for the first fault of the names, in their order: 9 if fewer bytes are left than a length says, 3
+/// if the name of a length isn't UTF-8, and 9 if bytes are left after the last name. If the names have no fault, a
+/// message that has a part without a kind describes no path, and the call returns 136, with the error in `error`.
 #[unsafe(no_mangle)]
 pub extern "C" fn vlt_core_path_from_message(
     alloc: Global,

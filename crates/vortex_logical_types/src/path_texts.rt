@@ -21,11 +21,12 @@ use dtype_text::{read_path, write_path};
 use std::alloc::Global;
 use std::str;
 
-/// Reads a path from its text and stores it in `out`. For example, `a.[].b` is a path of three steps, and `.` is the root.
-/// The text is written in the form of `vlt_path_to_text`, and blanks and comments may stand around it.
+/// Reads a path from its text and stores it in `out`. For example, `a.[].b` is a path of three steps, and `.` is the
+/// root. The text is written in the form of `vlt_path_to_text`, and blanks and comments may stand around it.
 ///
 /// Returns 3 if the text isn't UTF-8, and 4 if it isn't spelled like a path. Then `error` contains an error:
-/// `vlt_error_position` returns at which byte, counted from 1, something else was expected, and `vlt_error_message` what.
+/// `vlt_error_position` returns at which byte, counted from 1, something else was expected, and `vlt_error_message`
+/// what.
 #[unsafe(no_mangle)]
 pub extern "C" fn vlt_core_path_from_text(
     alloc: Global,
@@ -52,8 +53,9 @@ fn put_read(alloc: Global, text: &str, out: &mut Slot, error: &mut Slot) -> u32
     }
 }
 
-/// Writes the path to `buffer` in the form from which `vlt_path_from_text` reads the same path back, for example `a.[].b`.
-/// A name stands in double quotes unless it consists of ASCII letters and digits, `_` and visible characters beyond ASCII.
+/// Writes the path to `buffer` in the form from which `vlt_path_from_text` reads the same path back, for example
+/// `a.[].b`. A name stands in double quotes unless it consists of ASCII letters and digits, `_` and visible characters
+/// beyond ASCII.
 #[unsafe(no_mangle)]
 pub extern "C" fn vlt_core_path_to_text(
     alloc: Global,

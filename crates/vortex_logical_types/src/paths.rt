@@ -59,9 +59,9 @@ pub extern "C" fn vlt_core_path_len(path: &mut Slot, count: &mut usize) -> u32
     OK
 }
 
-/// Writes the step at the position `index`. For a step to a field, it writes the bytes of the name to `buffer` and
-/// their number to `length`. For the step to the element, it writes only a length, which is 2^64 - 1 (`VLT_ELEMENT` in C).
-/// Returns 1 if the position isn't below the number of steps.
+/// Writes the step at the position `index`, which is counted from 0. For a step to a field, it writes the bytes of the
+/// name to `buffer` and their number to `length`. For the step to the element, it writes only a length, which is 2^64
+/// - 1 (`VLT_ELEMENT` in C). Returns 1 if the position isn't below the number of steps.
 #[unsafe(no_mangle)]
 pub extern "C" fn vlt_core_path_step(
     path: &mut Slot,
@@ -198,7 +198,7 @@ pub extern "C" fn vlt_core_path_eq(one: &mut Slot, other: &mut Slot) -> u32
 }
 
 /// Returns 0 if one of the two paths is a prefix of the other, and 1 if none is. For example, it returns 0 for `a` and
-/// `a.b`.
+/// `a.b`, and for equal paths.
 #[unsafe(no_mangle)]
 pub extern "C" fn vlt_core_path_overlap(one: &mut Slot, other: &mut Slot) -> u32
     ensures answer { Answers (on_both (path_in one.old.value) (path_in other.old.value) (λ p q. tells (Overlaps p q))) result }
@@ -210,8 +210,10 @@ pub extern "C" fn vlt_core_path_overlap(one: &mut Slot, other: &mut Slot) -> u32
     if one.overlap(other) { OK } else { NONE }
 }
 
-/// Stores in `out` the type at the path in the type `dtype`. For example, the type at `a.[]` in `{a=list(i32)}` is
-/// `i32`. Returns 1 if there is no type at the path.
+/// Stores in `out` the type at the path in the type `dtype`. The root leads to the whole type, a name to the first
+/// field with this name in a struct, and the element to the element type of a list or of a fixed-size list. No step
+/// leads into a type of another kind. The nullability of the types on the way doesn't matter. For example, the type at
+/// `a.[]` in `{a=list(i32)?}` is `i32`. Returns 1 if there is no type at the path.
 #[unsafe(no_mangle)]
 pub extern "C" fn vlt_core_path_resolve(
     alloc: Global,
@@ -230,7 +232,8 @@ pub extern "C" fn vlt_core_path_resolve(
     put_copy(alloc, out, path.resolve(dtype))
 }
 
-/// Returns 0 if there is a type at the path in the type `dtype`, and 1 if there is none.
+/// Returns 0 if there is a type at the path in the type `dtype`, and 1 if there is none. The comment of
+/// `vlt_path_resolve` explains where a path leads.
 #[unsafe(no_mangle)]
 pub extern "C" fn vlt_core_path_exists_in(dtype: &mut Slot, path: &mut Slot) -> u32
     ensures answer { Answers (on_both (type_in dtype.old.value) (path_in path.old.value) (λ t p. tells (ExistsIn t p))) result }
@@ -242,7 +245,8 @@ pub extern "C" fn vlt_core_path_exists_in(dtype: &mut Slot, path: &mut Slot) -> 
     if path.exists_in(dtype) { OK } else { NONE }
 }
 
-/// Writes the path to `buffer` as the library displays it, for example `$a.[].$b`.
+/// Writes the path to `buffer` as the library displays it, for example `$a.[].$b`. `vlt_path_from_text` doesn't read
+/// this form. It reads the one that `vlt_path_to_text` writes.
 #[unsafe(no_mangle)]
 pub extern "C" fn vlt_core_path_display(
     alloc: Global,
@@ -273,7 +277,8 @@ fn displayed(alloc: Global, path: &FieldPath) -> VortexResult<String>
 }
 
 /// Returns 0 if the first step of the path is the step to the field with this name. Returns 1 if it is the step to
-/// another field, or if the path is the root. Returns 5 if it is the step to the element.
+/// another field, or if the path is the root. Returns 5 if it is the step to the element. The call doesn't test
+/// whether the name is UTF-8, and no field has a name that isn't.
 #[unsafe(no_mangle)]
 pub extern "C" fn vlt_core_path_starts_with_name(path: &mut Slot, name: &[u8]) -> u32
     ensures answer { Answers (on (path_in path.old.value) (λ p. starts_with (slice_get p 0) name.now)) result }

@@ -15,8 +15,10 @@ use c_objects::{Object, Slot};
 use dtype_projection::project_paths;
 use std::alloc::Global;
 
-/// Stores in `out` the type without the fields to which no path of the set leads. For example, for `{a=i32, b=utf8}`
-/// and the set of `a` it stores `{a=i32}`. Returns 1 if no path of the set exists in the type.
+/// Stores in `out` the part of the type to which the paths of the set lead. It is the schema of the columns that a
+/// reader of these paths has to open. The type at the end of a path is kept whole. A struct on the way keeps only the
+/// fields to which a path leads, in its own order. For example, the part of `{a=i32, b={c=u8, d=u8}}` for the path
+/// `b.c` is `{b={c=u8}}`. Returns 1 if no path of the set exists in the type.
 #[unsafe(no_mangle)]
 pub extern "C" fn vlt_core_project_paths(
     alloc: Global,

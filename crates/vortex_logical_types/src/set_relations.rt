@@ -26,7 +26,8 @@ pub extern "C" fn vlt_core_set_eq(one: &mut Slot, other: &mut Slot) -> u32
     if *one == *other { OK } else { NONE }
 }
 
-/// Returns 0 if each path of the first set is in the other one too, and 1 if one isn't.
+/// Returns 0 if each path of the first set is in the other one too, and 1 if one isn't. The paths themselves are
+/// compared, and not what they select. For example, the set of `a.b` isn't a subset of the set of `a`.
 #[unsafe(no_mangle)]
 pub extern "C" fn vlt_core_set_is_subset(one: &mut Slot, other: &mut Slot) -> u32
     ensures answer { Answers (on_both (set_in one.old.value) (set_in other.old.value)
@@ -39,7 +40,8 @@ pub extern "C" fn vlt_core_set_is_subset(one: &mut Slot, other: &mut Slot) -> u3
     if one.is_subset(other) { OK } else { NONE }
 }
 
-/// Returns 0 if no path is in both sets, and 1 if one is.
+/// Returns 0 if no path is in both sets, and 1 if one is. The paths themselves are compared, and not what they select.
+/// For example, the sets of `a` and of `a.b` are disjoint.
 #[unsafe(no_mangle)]
 pub extern "C" fn vlt_core_set_is_disjoint(one: &mut Slot, other: &mut Slot) -> u32
     ensures answer { Answers (on_both (set_in one.old.value) (set_in other.old.value)

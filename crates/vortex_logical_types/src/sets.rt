@@ -36,7 +36,8 @@ pub extern "C" fn vlt_core_set_new(alloc: Global, out: &mut Slot) -> u32
     put(alloc, out, Object::Set(FieldPathSet::new(alloc)))
 }
 
-/// Inserts a copy of the path into the set. If the call doesn't return 0, the set is unchanged.
+/// Inserts a copy of the path into the set. If the set contains the path already, nothing changes, and the call
+/// returns 0. If it doesn't return 0, the set is unchanged.
 #[unsafe(no_mangle)]
 pub extern "C" fn vlt_core_set_insert(paths: &mut Slot, path: &mut Slot) -> u32
     ensures changes { Changes set_in
@@ -108,9 +109,9 @@ fn put_list(alloc: Global, out: &mut Slot, made: VortexResult<Vec<FieldPath>>) -
     }
 }
 
-/// Stores in `out` the list of the least paths of the set. These are the paths of the set of which no other path of the
-/// set is a prefix. They are the fewest paths that cover what the set covers. For example, the only least path of the
-/// set of `a` and `a.b` is `a`. Each path is in the list once, in no particular order.
+/// Stores in `out` the cover of the set, as a list. The cover contains those paths of the set of which no other path
+/// of the set is a prefix. For example, the cover of `a.b`, `x` and `a` contains `a` and `x`. Each path is in the list
+/// once, in no particular order.
 #[unsafe(no_mangle)]
 pub extern "C" fn vlt_core_set_cover(alloc: Global, paths: &mut Slot, out: &mut Slot) -> u32
     ensures puts { Puts paths_in
@@ -214,8 +215,8 @@ pub extern "C" fn vlt_core_paths_len(paths: &mut Slot, count: &mut usize) -> u32
     OK
 }
 
-/// Stores in `out` a copy of the path at the position `index` of the list. Returns 1 if the position isn't below the
-/// length of the list.
+/// Stores in `out` a copy of the path at the position `index`, which is counted from 0, of the list. Returns 1 if the
+/// position isn't below the length of the list.
 #[unsafe(no_mangle)]
 pub extern "C" fn vlt_core_paths_get(
     alloc: Global,
@@ -238,8 +239,9 @@ pub extern "C" fn vlt_core_paths_get(
 }
 
 /// Inserts copies of the paths in these slots into the set, in order, and writes to `inserted` how many were inserted.
-/// If a slot contains no path, the call stops there and returns 2. If memory runs out, it stops there and returns 100. The
-/// paths before it stay inserted.
+/// A path that the set contains already is counted too. If a slot contains no path, the call stops there and
+/// returns 2. If memory runs out, it stops there and returns 100. In both cases the paths before it stay inserted, and
+/// `inserted` is their number. If `set` contains no set, the call returns 2 and writes nothing.
 #[unsafe(no_mangle)]
 pub extern "C" fn vlt_core_set_extend(
     set: &mut Slot,
@@ -284,8 +286,8 @@ fn insert_slot(members: &mut FieldPathSet, slot: &mut Slot) -> u32
     insert(members, path)
 }
 
-/// Inserts copies of the paths of the list into the set, in order. If memory runs out, the call stops there and returns
-/// 100. The paths that it inserted before stay in the set.
+/// Inserts copies of the paths of the list into the set, in order. If memory runs out, the call stops there and
+/// returns 100. In this case the paths that it inserted before stay in the set.
 #[unsafe(no_mangle)]
 pub extern "C" fn vlt_core_set_extend_from_list(paths: &mut Slot, list: &mut Slot) -> u32
     ensures gains { GainsListIn (set_in paths.old.value) (paths_in list.old.value) result paths.old.value paths.new.value }

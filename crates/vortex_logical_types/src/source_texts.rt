@@ -28,8 +28,8 @@ use text_hints::{TextHint, hint_of};
 ///
 /// Returns 3 if the text isn't UTF-8. The other failures store an error in `error`:
 ///
-/// - 4 if the text isn't spelled like a type. `vlt_error_position` returns at which byte, counted from 1, something else was
-///   expected, and `vlt_error_message` what.
+/// - 4 if the text isn't spelled like a type. `vlt_error_position` returns at which byte, counted from 1, something
+///   else was expected, and `vlt_error_message` what.
 /// - 6 if types are nested more than 128 levels deep in the text, with the position of the first that is too deep.
 /// - the number of the library's error if the text spells a type that can't be made: for a decimal 101 to 104, as
 ///   `vlt_dtype_decimal` returns them; for a map 109 if its key type is nullable; and for a union 112 if it has no
@@ -61,8 +61,8 @@ fn put_read(alloc: Global, text: &str, out: &mut Slot, error: &mut Slot) -> u32
     }
 }
 
-/// Stores in the slot `error` the reason for which a text can't be read, and returns its number. If memory runs out, the
-/// slot is unchanged, and the call returns 100.
+/// Stores in the slot `error` the reason for which a text can't be read, and returns its number. If memory runs out,
+/// the slot is unchanged, and the call returns 100.
 pub fn fail_to_read(alloc: Global, error: &mut Slot, why: TextError, text: &str) -> u32
     ensures { StoresUnread why (length text.now) result error.old.value error.new.value }
 {

@@ -126,9 +126,9 @@ pub fn code_of(fault: StepFault) -> u32
 
 /// Stores in `out` the path of these steps. `names` contains the bytes of all names, one name directly after the other,
 /// and `name_lengths` contains the number of bytes of the name of each step. The length 2^64 - 1 (`VLT_ELEMENT` in C)
-/// stands for the step to the element, which has no bytes in `names`. Returns the number for the first fault of the names,
-/// in their order: 9 if fewer bytes are left than a length says, 3 if the name of a length isn't UTF-8, and 9 if bytes are
-/// left after the last name.
+/// stands for the step to the element, which has no bytes in `names`. Returns the number for the first fault of the
+/// names, in their order: 9 if fewer bytes are left than a length says, 3 if the name of a length isn't UTF-8, and 9 if
+/// bytes are left after the last name.
 #[unsafe(no_mangle)]
 pub extern "C" fn vlt_core_path_from_steps(
     alloc: Global,

@@ -20,7 +20,8 @@ use dtype_base::VortexResult;
 use dtype_types::DType;
 use std::alloc::Global;
 
-/// Writes the type to `buffer` as the library displays it, for example `{a=i32, b=list(utf8)?}`.
+/// Writes the type to `buffer` as the library displays it, for example `{a=i32, b=list(utf8)?}`. `vlt_dtype_from_text`
+/// may not read it back. For example, a name that contains a comma is written without quotes.
 #[unsafe(no_mangle)]
 pub extern "C" fn vlt_core_dtype_display(
     alloc: Global,
@@ -50,8 +51,11 @@ fn displayed(alloc: Global, dtype: &DType) -> VortexResult<String>
     Ok(text)
 }
 
-/// Writes the fields of a struct to `buffer` as indented text, in which each field begins on a new line. Returns 5 if
-/// the type isn't a struct.
+/// Writes the fields of a struct to `buffer` as text over several lines. The first line is an opening brace, then each
+/// field has a line that begins with two spaces, and the last line is a closing brace. For example, the text of
+/// `{a=i32, b=utf8}` has the four lines `{`, `  a=i32,`, `  b=utf8` and `}`. A struct that is the type of a field, or
+/// the element type of a list, is written over several lines too, with two more spaces. Returns 5 if the type isn't a
+/// struct.
 #[unsafe(no_mangle)]
 pub extern "C" fn vlt_core_struct_indented(
     alloc: Global,

@@ -18,7 +18,8 @@ use c_objects::Slot;
 use std::alloc::Global;
 use std::str;
 
-/// Writes the number of variants of the union to `count`. Returns 5 if the type isn't a union.
+/// Writes the number of variants of the union, which is from 1 to 256, to `count`. Returns 5 if the type isn't a
+/// union.
 #[unsafe(no_mangle)]
 pub extern "C" fn vlt_core_union_len(dtype: &mut Slot, count: &mut usize) -> u32
     ensures writes { Writes
@@ -36,8 +37,8 @@ pub extern "C" fn vlt_core_union_len(dtype: &mut Slot, count: &mut usize) -> u32
     OK
 }
 
-/// Stores in `out` the type of the variant at the position `index`. Returns 1 if the position isn't below the number of
-/// variants, and 5 if the type isn't a union.
+/// Stores in `out` the type of the variant at the position `index`, which is counted from 0. Returns 1 if the position
+/// isn't below the number of variants, and 5 if the type isn't a union.
 #[unsafe(no_mangle)]
 pub extern "C" fn vlt_core_union_variant_by_index(
     alloc: Global,
@@ -60,8 +61,8 @@ pub extern "C" fn vlt_core_union_variant_by_index(
     put_copy(alloc, out, variants.variant_by_index(index))
 }
 
-/// Writes the position of the variant with this name to `index`. Returns 1 if no variant has the name, 3 if the name
-/// isn't UTF-8, and 5 if the type isn't a union.
+/// Writes the position of the variant with this name, counted from 0, to `index`. Returns 1 if no variant has the
+/// name, 3 if the name isn't UTF-8, and 5 if the type isn't a union.
 #[unsafe(no_mangle)]
 pub extern "C" fn vlt_core_union_find(dtype: &mut Slot, name: &[u8], index: &mut usize) -> u32
     ensures writes { Writes
@@ -109,8 +110,8 @@ pub extern "C" fn vlt_core_union_variant(
     put_copy(alloc, out, variants.variant(name))
 }
 
-/// Writes the position of the variant with this tag to `index`. Returns 1 if no variant has the tag, and 5 if the type
-/// isn't a union.
+/// Writes the position of the variant with this tag, counted from 0, to `index`. Returns 1 if no variant has the tag,
+/// and 5 if the type isn't a union.
 #[unsafe(no_mangle)]
 pub extern "C" fn vlt_core_union_tag_to_child_index(
     dtype: &mut Slot,
@@ -131,8 +132,8 @@ pub extern "C" fn vlt_core_union_tag_to_child_index(
     write_place(variants.tag_to_child_index(tag), index)
 }
 
-/// Writes the tag of the variant at the position `index` to `tag`. Returns 1 if the position isn't below the number of
-/// variants, and 5 if the type isn't a union.
+/// Writes the tag of the variant at the position `index`, which is counted from 0, to `tag`. Returns 1 if the position
+/// isn't below the number of variants, and 5 if the type isn't a union.
 #[unsafe(no_mangle)]
 pub extern "C" fn vlt_core_union_child_index_to_tag(
     dtype: &mut Slot,
@@ -157,8 +158,8 @@ pub extern "C" fn vlt_core_union_child_index_to_tag(
     OK
 }
 
-/// Writes the name of the variant at the position `index` to `buffer`. Returns 1 if the position isn't below the number
-/// of variants, and 5 if the type isn't a union.
+/// Writes the name of the variant at the position `index`, which is counted from 0, to `buffer`. Returns 1 if the
+/// position isn't below the number of variants, and 5 if the type isn't a union.
 #[unsafe(no_mangle)]
 pub extern "C" fn vlt_core_union_variant_name(
     dtype: &mut Slot,

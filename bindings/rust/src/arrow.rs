@@ -3,10 +3,10 @@
 
 //! Types from and to Arrow, by Arrow's C data interface.
 //!
-//! [`DType::from_arrow`] returns the type of an Arrow field, and [`DType::to_arrow`] an Arrow field for a type. A table's
-//! schema is a field whose type is a struct of the columns. The struct that passes a field, [`ArrowSchema`], is laid out as
-//! in C, so each library that has the same struct under another name can exchange it with this one by a cast of the
-//! pointer. For example, `arrow-rs` calls it `arrow::ffi::FFI_ArrowSchema`:
+//! [`DType::from_arrow`] returns the type of an Arrow field, and [`DType::to_arrow`] an Arrow field for a type. A
+//! table's schema is a field whose type is a struct of the columns. The struct that passes a field, [`ArrowSchema`], is
+//! laid out as in C, so each library that has the same struct under another name can exchange it with this one by a
+//! cast of the pointer. For example, `arrow-rs` calls it `arrow::ffi::FFI_ArrowSchema`:
 //!
 //! ```ignore
 //! use arrow::datatypes::Schema;
@@ -30,8 +30,8 @@
 //!
 //! # Which type is which
 //!
-//! A type is nullable if its field is. Arrow marks most fields as nullable, so the type of a column of integers is usually
-//! `i32?`.
+//! A type is nullable if its field is. Arrow marks most fields as nullable, so the type of a column of integers is
+//! usually `i32?`.
 //!
 //! | Arrow | Type | Written as |
 //! |---|---|---|
@@ -50,15 +50,15 @@
 //! | a field with an extension name | `extension` over the type of the field | the same |
 //!
 //! So some things are lost: a type that is read from a view, a large type, a dictionary or a run-end encoded type is
-//! written as a plain one, and a dense union as a sparse one. The names of the fields inside lists and maps, and metadata other
-//! than that of extensions, are lost too. What is written is read back as the same type.
+//! written as a plain one, and a dense union as a sparse one. The names of the fields inside lists and maps, and
+//! metadata other than that of extensions, are lost too. What is written is read back as the same type.
 //!
-//! Durations, intervals and all other formats can't be read. These types can't be written: `variant`, an extension over an
-//! extension (unless the inner one is a date, a time or a timestamp), a union with a tag above 127, a fixed-size list longer
-//! than 2^31 - 1, and a name, an id or a time zone with a zero byte.
+//! Durations, intervals and all other formats can't be read. These types can't be written: `variant`, an extension over
+//! an extension (unless the inner one is a date, a time or a timestamp), a union with a tag above 127, a fixed-size
+//! list longer than 2^31 - 1, and a name, an id or a time zone with a zero byte.
 //!
-//! The metadata of dates, times and timestamps has the form that vortex-array is believed to write. This wasn't checked,
-//! because its plugins weren't at hand.
+//! The metadata of dates, times and timestamps has the form that vortex-array is believed to write. This wasn't
+//! checked, because its plugins weren't at hand.
 use crate::DType;
 use crate::calls::{explained, made};
 use crate::error::Error;
@@ -114,22 +114,23 @@ impl ArrowSchema {
         }
     }
 
-    /// Moves the struct out of the place that `schema` points to. The struct there has been released afterwards, so its owner
-    /// must not use it again, but has to free its memory if it was allocated.
+    /// Returns the struct, moved out of the place that `schema` points to. The struct there has been released
+    /// afterwards, so its owner must not use it again, but has to free its memory if it was allocated.
     ///
     /// # Safety
-    /// `schema` is valid for reads and writes, it is aligned, and it points to a struct of the C data interface: one that was
-    /// released, or one that a producer filled and of which no copy is used.
+    /// `schema` is valid for reads and writes, it is aligned, and it points to a struct of the C data interface: one
+    /// that was released, or one that a producer filled and of which no copy is used.
     pub unsafe fn from_raw(schema: *mut ArrowSchema) -> ArrowSchema {
         // SAFETY: the caller says so.
         unsafe { ptr::replace(schema, ArrowSchema::empty()) }
     }
 
-    /// Gives the struct away: the caller has to see that it is released. Its memory is that of a [`Box`].
+    /// Returns a pointer to the struct, which isn't dropped any more. The caller must release the struct and free its
+    /// memory, which is that of a [`Box`].
     ///
     /// A consumer moves the struct out and marks it as released where it was. Then only the memory is left, which
-    /// [`Box::from_raw`] frees. (If the struct wasn't moved out, the same call releases it.) A program that has the struct
-    /// in a variable can pass `&raw mut schema` instead, which allocates nothing.
+    /// [`Box::from_raw`] frees. (If the struct wasn't moved out, the same call releases it.) A program that has the
+    /// struct in a variable can pass `&raw mut schema` instead, which allocates nothing.
     ///
     /// ```
     /// use vortex_logical_types::{DType, arrow::ArrowSchema};
@@ -208,25 +209,32 @@ impl TryFrom<&DType> for ArrowSchema {
 }
 
 impl DType {
-    /// Returns the type of an Arrow field. The type of a table is the one of its schema, which is a struct of the columns.
-    /// The module [`arrow`](crate::arrow) says which Arrow type is which.
+    /// Returns the type of an Arrow field, whose name is ignored. The type of a table is the one of its schema, which
+    /// is a struct of the columns. A type is nullable if its field has the flag for that. The module
+    /// [`arrow`](crate::arrow) lists which Arrow type is which.
     ///
     /// # Errors
-    /// - [`ErrorKind::Arrow`] if the struct was released, or isn't a field, or if a field in it has no type here. The text of
-    ///   the error begins with the path of the field and has its format: `column "a.item": the Arrow format "tiM" has no
-    ///   type here`.
+    /// - [`ErrorKind::Arrow`] if the struct was released, or isn't a field, or if a field in it has no type here. The
+    ///   text of the error begins with the path of the field and has its format, for example
+    ///   `column "a.item": the Arrow format "tiM" has no type here`.
     /// - [`ErrorKind::TooDeep`] if the type has more than 128 levels
-    /// - the errors of [`DType::decimal`], [`DType::map`] and [`DType::union_with_tags`]
-    /// - [`ErrorKind::OutOfMemory`]
+    /// - [`ErrorKind::PrecisionZero`] (1), [`ErrorKind::PrecisionTooLarge`] (2), [`ErrorKind::ScaleTooLarge`] (3) or
+    ///   [`ErrorKind::ScaleAbovePrecision`] (4) for a decimal that [`DType::decimal`] refuses
+    /// - [`ErrorKind::MapKeyNullable`] (9) for a map whose key type is nullable
+    /// - [`ErrorKind::UnionTagsLength`] (11) for a union with more or fewer type ids than children,
+    ///   [`ErrorKind::UnionEmpty`] (12) for one without children, [`ErrorKind::UnionTagsRepeat`] (13) for one in which
+    ///   a type id occurs twice, and [`ErrorKind::UnionNamesRepeat`] (15) for one in which a name occurs twice
+    /// - [`ErrorKind::OutOfMemory`] (0) if memory runs out
     pub fn from_arrow(schema: &ArrowSchema) -> Result<DType, Error> {
         DType::of(schema.read()?)
     }
 
-    /// Returns the type as an Arrow field with an empty name. [`DType::from_arrow`] returns the same type of it.
+    /// Returns the type as an Arrow field with an empty name. [`DType::from_arrow`] returns the same type for it.
     ///
     /// # Errors
-    /// [`ErrorKind::Arrow`] if a part of the type can't be written, with the path of the part in the text of the error, and
-    /// [`ErrorKind::OutOfMemory`]. The module [`arrow`](crate::arrow) says which types can't be written.
+    /// - [`ErrorKind::Arrow`] if a part of the type can't be written. The text of the error begins with the path of the
+    ///   part. The module [`arrow`](crate::arrow) lists which types can't be written.
+    /// - [`ErrorKind::OutOfMemory`] (0) if memory runs out
     pub fn to_arrow(&self) -> Result<ArrowSchema, Error> {
         ArrowSchema::write(self.slot())
     }

@@ -44,7 +44,8 @@ pub(crate) fn read(text: &str, call: impl FnOnce(&[u8], &mut Slot, &mut Slot) ->
     explained(|error| made(|out| call(text.as_bytes(), out, error)))
 }
 
-/// What a call returns that is given a slot for its error. The error is the one in this slot, if the call left one there.
+/// What a call returns that is given a slot for its error. The error is the one in this slot, if the call left one
+/// there.
 pub(crate) fn explained<T>(call: impl FnOnce(&mut Slot) -> Result<T, Error>) -> Result<T, Error> {
     let mut slot = Slot::new();
     call(&mut slot).map_err(|error| error.explained_by(&slot))

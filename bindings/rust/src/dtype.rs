@@ -132,106 +132,117 @@ impl DType {
         if let Detail::Count(count) = self.whole.detail { count } else { 0 }
     }
 
-    /// Returns the null type.
+    /// Returns the null type, which is always nullable.
     #[must_use]
     pub fn null() -> DType {
         or_abort(DType::try_null())
     }
 
-    /// Returns the null type, or [`ErrorKind::OutOfMemory`].
+    /// Returns the null type, or [`ErrorKind::OutOfMemory`] (0) if memory runs out.
     pub fn try_null() -> Result<DType, Error> {
         leaf(15, Nullability::Nullable, (Kind::Null, Detail::None), ffi::dtype_null)
     }
 
-    /// Returns the type of booleans.
+    /// Returns the type of booleans with this nullability.
     #[must_use]
     pub fn bool(nullability: Nullability) -> DType {
         or_abort(DType::try_bool(nullability))
     }
 
-    /// Returns the type of booleans, or [`ErrorKind::OutOfMemory`].
+    /// Returns what [`DType::bool`] returns, or [`ErrorKind::OutOfMemory`] (0) if memory runs out.
     pub fn try_bool(nullability: Nullability) -> Result<DType, Error> {
         leaf(11, nullability, (Kind::Bool, Detail::None), |out| ffi::dtype_bool(nullability.into(), out))
     }
 
-    /// Returns a primitive type.
+    /// Returns the type of this primitive type with this nullability.
     #[must_use]
     pub fn primitive(ptype: PType, nullability: Nullability) -> DType {
         or_abort(DType::try_primitive(ptype, nullability))
     }
 
-    /// Returns a primitive type, or [`ErrorKind::OutOfMemory`].
+    /// Returns what [`DType::primitive`] returns, or [`ErrorKind::OutOfMemory`] (0) if memory runs out.
     pub fn try_primitive(ptype: PType, nullability: Nullability) -> Result<DType, Error> {
         let (number, known) = (ptype.number(), (Kind::Primitive, Detail::Primitive(ptype)));
         leaf(number, nullability, known, |out| ffi::dtype_primitive(number, nullability.into(), out))
     }
 
-    /// Returns a decimal type.
+    /// Returns the decimal type of this precision, this scale and this nullability. The precision is how many digits a
+    /// value has at most, and the scale is how many of them are behind the point.
     ///
     /// # Errors
-    /// - [`ErrorKind::PrecisionZero`] (1) if the precision is 0, and [`ErrorKind::PrecisionTooLarge`] (2) if it is above 76
-    /// - [`ErrorKind::ScaleTooLarge`] (3) if the scale is above 76, and [`ErrorKind::ScaleAbovePrecision`] (4) if it is above
-    ///   the precision
-    /// - [`ErrorKind::OutOfMemory`]
+    /// - [`ErrorKind::PrecisionZero`] (1) if the precision is 0
+    /// - [`ErrorKind::PrecisionTooLarge`] (2) if the precision is above 76
+    /// - [`ErrorKind::ScaleTooLarge`] (3) if the scale is above 76
+    /// - [`ErrorKind::ScaleAbovePrecision`] (4) if the scale is above the precision
+    /// - [`ErrorKind::OutOfMemory`] (0) if memory runs out
+    ///
+    /// If several of these are so, it is the first of them, unless memory runs out.
     pub fn decimal(precision: u8, scale: i8, nullability: Nullability) -> Result<DType, Error> {
         explained(|error| made(|out| ffi::dtype_decimal(precision, scale, nullability.into(), out, error)))
             .and_then(DType::of)
     }
 
-    /// Returns the type of UTF-8 strings.
+    /// Returns the type of UTF-8 strings with this nullability.
     #[must_use]
     pub fn utf8(nullability: Nullability) -> DType {
         or_abort(DType::try_utf8(nullability))
     }
 
-    /// Returns the type of UTF-8 strings, or [`ErrorKind::OutOfMemory`].
+    /// Returns what [`DType::utf8`] returns, or [`ErrorKind::OutOfMemory`] (0) if memory runs out.
     pub fn try_utf8(nullability: Nullability) -> Result<DType, Error> {
         leaf(12, nullability, (Kind::Utf8, Detail::None), |out| ffi::dtype_utf8(nullability.into(), out))
     }
 
-    /// Returns the type of byte strings.
+    /// Returns the type of byte strings with this nullability.
     #[must_use]
     pub fn binary(nullability: Nullability) -> DType {
         or_abort(DType::try_binary(nullability))
     }
 
-    /// Returns the type of byte strings, or [`ErrorKind::OutOfMemory`].
+    /// Returns what [`DType::binary`] returns, or [`ErrorKind::OutOfMemory`] (0) if memory runs out.
     pub fn try_binary(nullability: Nullability) -> Result<DType, Error> {
         leaf(13, nullability, (Kind::Binary, Detail::None), |out| ffi::dtype_binary(nullability.into(), out))
     }
 
-    /// Returns the type of variants.
+    /// Returns the variant type with this nullability. Each of its values carries its own type.
     #[must_use]
     pub fn variant(nullability: Nullability) -> DType {
         or_abort(DType::try_variant(nullability))
     }
 
-    /// Returns the type of variants, or [`ErrorKind::OutOfMemory`].
+    /// Returns what [`DType::variant`] returns, or [`ErrorKind::OutOfMemory`] (0) if memory runs out.
     pub fn try_variant(nullability: Nullability) -> Result<DType, Error> {
         leaf(14, nullability, (Kind::Variant, Detail::None), |out| ffi::dtype_variant(nullability.into(), out))
     }
 
-    /// Returns the type of lists with this element type.
+    /// Returns the list type with this element type and this nullability. Its values are lists of any length.
     ///
     /// # Errors
-    /// [`ErrorKind::TooDeep`] if the element is 128 levels deep, and [`ErrorKind::OutOfMemory`].
+    /// - [`ErrorKind::TooDeep`] if the element type has 128 levels
+    /// - [`ErrorKind::OutOfMemory`] (0) if memory runs out
     pub fn list(element: &DType, nullability: Nullability) -> Result<DType, Error> {
         made(|out| ffi::dtype_list(element.slot(), nullability.into(), out)).and_then(DType::of)
     }
 
-    /// Returns the type of lists with this element type that have exactly `size` elements.
+    /// Returns the fixed-size list type with this element type and this nullability. Its values are lists of exactly
+    /// `size` elements.
     ///
     /// # Errors
-    /// As [`DType::list`].
+    /// - [`ErrorKind::TooDeep`] if the element type has 128 levels
+    /// - [`ErrorKind::OutOfMemory`] (0) if memory runs out
     pub fn fixed_size_list(element: &DType, size: u32, nullability: Nullability) -> Result<DType, Error> {
         made(|out| ffi::dtype_fixed_size_list(element.slot(), size, nullability.into(), out)).and_then(DType::of)
     }
 
-    /// Returns the type of maps with these key and value types. `key` and `value` may be the same object.
+    /// Returns the map type with these key and value types and this nullability. `keys_sorted` declares that the keys
+    /// of each map are sorted, which nothing checks. `key` and `value` may be the same object.
     ///
     /// # Errors
-    /// [`ErrorKind::MapKeyNullable`] (9) if the key is nullable; [`ErrorKind::TooDeep`] if one of the two is 128 levels deep;
-    /// and [`ErrorKind::OutOfMemory`].
+    /// - [`ErrorKind::TooDeep`] if one of the two types has 128 levels
+    /// - [`ErrorKind::MapKeyNullable`] (9) if the key type is nullable
+    /// - [`ErrorKind::OutOfMemory`] (0) if memory runs out
+    ///
+    /// If several of these are so, it is the first of them, unless memory runs out.
     pub fn map(key: &DType, value: &DType, keys_sorted: bool, nullability: Nullability) -> Result<DType, Error> {
         let copy = key.apart_from(value)?;
         let value = copy.as_ref().unwrap_or(value.slot());
@@ -239,10 +250,12 @@ impl DType {
             .and_then(DType::of)
     }
 
-    /// Returns a struct of these fields. All items are taken from the iterator before the library is called.
+    /// Returns the struct type of these fields, in order, with this nullability. All items are taken from the iterator
+    /// before the library is called.
     ///
     /// # Errors
-    /// [`ErrorKind::TooDeep`] if a field's type is 128 levels deep, and [`ErrorKind::OutOfMemory`].
+    /// - [`ErrorKind::TooDeep`] if the type of a field has 128 levels
+    /// - [`ErrorKind::OutOfMemory`] (0) if memory runs out
     pub fn struct_<N: AsRef<str>>(
         fields: impl IntoIterator<Item = (N, DType)>,
         nullability: Nullability,
@@ -251,14 +264,17 @@ impl DType {
         made(|out| ffi::dtype_struct(&fields, nullability.into(), out)).and_then(DType::of)
     }
 
-    /// Returns a union of these variants, with the tags 0, 1, 2 and so on. All items are taken from the iterator before the
-    /// library is called.
+    /// Returns the union type with these variants, in order, with the tags 0, 1, 2 and so on, and with this
+    /// nullability. All items are taken from the iterator before the library is called.
     ///
     /// # Errors
-    /// - [`ErrorKind::UnionEmpty`] (12) if there is no variant, [`ErrorKind::UnionTooMany`] (14) if there are more than 256
-    ///   variants, and [`ErrorKind::UnionNamesRepeat`] (15) if two variants have the same name
-    /// - [`ErrorKind::TooDeep`] if a variant's type is 128 levels deep
-    /// - [`ErrorKind::OutOfMemory`]
+    /// - [`ErrorKind::TooDeep`] if the type of a variant has 128 levels
+    /// - [`ErrorKind::UnionTooMany`] (14) if there are more than 256 variants
+    /// - [`ErrorKind::UnionEmpty`] (12) if there are no variants
+    /// - [`ErrorKind::UnionNamesRepeat`] (15) if a name occurs twice
+    /// - [`ErrorKind::OutOfMemory`] (0) if memory runs out
+    ///
+    /// If several of these are so, it is the first of them, unless memory runs out.
     pub fn union<N: AsRef<str>>(
         variants: impl IntoIterator<Item = (N, DType)>,
         nullability: Nullability,
@@ -268,14 +284,17 @@ impl DType {
             .and_then(DType::of)
     }
 
-    /// Returns a union of these variants, each with its tag. All items are taken from the iterator before the library is
-    /// called.
+    /// Returns the union type with these variants, in order, each with its tag, and with this nullability.
+    /// All items are taken from the iterator before the library is called.
     ///
     /// # Errors
-    /// - [`ErrorKind::UnionEmpty`] (12) if there is no variant, [`ErrorKind::UnionTagsRepeat`] (13) if two variants have the
-    ///   same tag, and [`ErrorKind::UnionNamesRepeat`] (15) if two variants have the same name
-    /// - [`ErrorKind::TooDeep`] if a variant's type is 128 levels deep
-    /// - [`ErrorKind::OutOfMemory`]
+    /// - [`ErrorKind::TooDeep`] if the type of a variant has 128 levels
+    /// - [`ErrorKind::UnionEmpty`] (12) if there are no variants
+    /// - [`ErrorKind::UnionTagsRepeat`] (13) if a tag occurs twice
+    /// - [`ErrorKind::UnionNamesRepeat`] (15) if a name occurs twice
+    /// - [`ErrorKind::OutOfMemory`] (0) if memory runs out
+    ///
+    /// If several of these are so, it is the first of them, unless memory runs out.
     pub fn union_with_tags<N: AsRef<str>>(
         variants: impl IntoIterator<Item = (N, u8, DType)>,
         nullability: Nullability,
@@ -290,36 +309,41 @@ impl DType {
             .and_then(DType::of)
     }
 
-    /// Returns an extension type: an id, metadata that only the extension understands, and the type in which it is stored.
+    /// Returns the extension type with this id, this metadata and this storage type. It is nullable if the storage type
+    /// is. The metadata is any bytes, which only the extension understands.
     ///
     /// # Errors
-    /// [`ErrorKind::TooDeep`] if the storage type is 128 levels deep, and [`ErrorKind::OutOfMemory`].
+    /// - [`ErrorKind::TooDeep`] if the storage type has 128 levels
+    /// - [`ErrorKind::OutOfMemory`] (0) if memory runs out
     pub fn extension(id: &str, metadata: &[u8], storage: &DType) -> Result<DType, Error> {
         made(|out| ffi::dtype_extension(id.as_bytes(), metadata, storage.slot(), out)).and_then(DType::of)
     }
 
-    /// Returns which kind of type it is.
+    /// Returns the kind of the type.
     #[must_use]
     #[inline]
     pub fn kind(&self) -> Kind {
         self.whole.kind
     }
 
-    /// Returns whether values may be null.
+    /// Returns whether the type is nullable, so that its values may be null. The null type is always nullable, and an
+    /// extension is nullable if its storage type is.
     #[must_use]
     #[inline]
     pub fn is_nullable(&self) -> bool {
         self.nullability().is_nullable()
     }
 
-    /// Returns whether values may be null.
+    /// Returns [`Nullability::Nullable`] if the type is nullable, as [`DType::is_nullable`] defines it, and otherwise
+    /// [`Nullability::NonNullable`].
     #[must_use]
     #[inline]
     pub fn nullability(&self) -> Nullability {
         self.whole.nullability
     }
 
-    /// Returns whether the type can be made non-nullable. This is true of all types except null and extensions over null.
+    /// Returns whether the type can be made non-nullable. The null type can't, and an extension can't if its storage
+    /// type can't. Every other type can.
     ///
     /// ```
     /// # use vortex_logical_types::DType;
@@ -332,9 +356,9 @@ impl DType {
         holds(ffi::dtype_can_be_nonnullable(self.slot()))
     }
 
-    /// Returns the type with this outer nullability. The types inside it keep their nullabilities. For example, `list(i32)`
-    /// becomes `list(i32)?` with [`Nullability::Nullable`]. For an extension type, the outer nullability is that of its
-    /// storage type.
+    /// Returns the type with this outer nullability. The types inside it keep their nullabilities. For example,
+    /// `list(i32)` becomes `list(i32)?` with [`Nullability::Nullable`]. For an extension, the outer nullability is that
+    /// of its storage type.
     ///
     /// ```
     /// # use vortex_logical_types::{DType, Nullability::{NonNullable, Nullable}};
@@ -345,32 +369,35 @@ impl DType {
     /// ```
     ///
     /// # Errors
-    /// [`ErrorKind::Precondition`] if `nullability` is [`Nullability::NonNullable`] and the type can't be made non-nullable,
-    /// which [`DType::can_be_nonnullable`] tests; and [`ErrorKind::OutOfMemory`].
+    /// - [`ErrorKind::Precondition`] if `nullability` is [`Nullability::NonNullable`] and the type can't be made
+    ///   non-nullable, which [`DType::can_be_nonnullable`] tests
+    /// - [`ErrorKind::OutOfMemory`] (0) if memory runs out
     pub fn with_nullability(&self, nullability: Nullability) -> Result<DType, Error> {
         made(|out| ffi::dtype_with_nullability(self.slot(), nullability.into(), out)).and_then(DType::of)
     }
 
-    /// Returns the type as a nullable one.
+    /// Returns the type, made nullable. The types inside it keep their nullabilities.
     #[must_use]
     pub fn as_nullable(&self) -> DType {
         or_abort(self.try_as_nullable())
     }
 
-    /// Returns the type as a nullable one, or [`ErrorKind::OutOfMemory`].
+    /// Returns what [`DType::as_nullable`] returns, or [`ErrorKind::OutOfMemory`] (0) if memory runs out.
     pub fn try_as_nullable(&self) -> Result<DType, Error> {
         self.with_nullability(Nullability::Nullable)
     }
 
-    /// Returns the type as a non-nullable one.
+    /// Returns the type, made non-nullable. The types inside it keep their nullabilities.
     ///
     /// # Errors
-    /// As [`DType::with_nullability`].
+    /// - [`ErrorKind::Precondition`] if the type can't be made non-nullable, which [`DType::can_be_nonnullable`] tests
+    /// - [`ErrorKind::OutOfMemory`] (0) if memory runs out
     pub fn as_nonnullable(&self) -> Result<DType, Error> {
         self.with_nullability(Nullability::NonNullable)
     }
 
-    /// Returns the type, which is nullable if it was nullable or if `nullability` is [`Nullability::Nullable`].
+    /// Returns the type, which is nullable if it was nullable or if `nullability` is [`Nullability::Nullable`]. The
+    /// types inside it keep their nullabilities.
     ///
     /// ```
     /// # use vortex_logical_types::{DType, Nullability::{NonNullable, Nullable}};
@@ -383,7 +410,7 @@ impl DType {
         or_abort(self.try_union_nullability(nullability))
     }
 
-    /// Returns what [`DType::union_nullability`] returns, or [`ErrorKind::OutOfMemory`].
+    /// Returns what [`DType::union_nullability`] returns, or [`ErrorKind::OutOfMemory`] (0) if memory runs out.
     pub fn try_union_nullability(&self, nullability: Nullability) -> Result<DType, Error> {
         made(|out| ffi::dtype_union_nullability(self.slot(), nullability.into(), out)).and_then(DType::of)
     }
@@ -406,7 +433,8 @@ impl DType {
         self.is(other) || holds(ffi::dtype_eq_ignore_nullability(self.slot(), other.slot()))
     }
 
-    /// Feeds the hasher a hash that is the same for all types that are equal except for nullability.
+    /// Feeds the hasher a hash of 64 bits that is the same for types that are equal except for nullability, at every
+    /// depth. The hash of a type may differ between versions of the library.
     ///
     /// ```
     /// # use vortex_logical_types::DType;
@@ -422,8 +450,9 @@ impl DType {
         state.write_u64(plain(|hash| ffi::dtype_hash_ignore_nullability(self.slot(), hash)));
     }
 
-    /// Returns whether this type is a subset of `other`: the two are equal except for nullability, and `other` is nullable
-    /// wherever this type is. For example, `i32` is a subset of `i32?`, because each value of the first is one of the second.
+    /// Returns whether this type is a subset of `other`. It is a subset if the two are equal except for nullabilities,
+    /// and `other` is nullable in each place in which this type is. For example, `i32` is a subset of `i32?`, because
+    /// each value of the first is one of the second.
     ///
     /// ```
     /// # use vortex_logical_types::DType;
@@ -436,15 +465,16 @@ impl DType {
         self.is(other) || holds(ffi::dtype_nullability_subset(self.slot(), other.slot()))
     }
 
-    /// Returns whether `other` is a subset of this type, as [`DType::eq_with_nullability_subset`] defines it.
+    /// Returns whether `other` is a subset of this type. It is a subset if the two are equal except for nullabilities,
+    /// and this type is nullable in each place in which `other` is. For example, `i32` is a subset of `i32?`.
     #[must_use]
     pub fn eq_with_nullability_superset(&self, other: &DType) -> bool {
         self.is(other) || holds(ffi::dtype_nullability_superset(self.slot(), other.slot()))
     }
 
-    /// Returns the least type of which both types are subsets, as [`DType::eq_with_nullability_subset`] defines it, or `None`
-    /// if the two differ in more than nullability. It is nullable wherever at least one of the two is. For example, it is
-    /// `i32?` for `i32` and `i32?`.
+    /// Returns the least type of which both types are subsets, as [`DType::eq_with_nullability_subset`] defines it. It
+    /// is nullable in each place in which one of the two is. For example, it is `i32?` for `i32` and `i32?`. Returns
+    /// `None` if the types differ in more than nullabilities.
     ///
     /// ```
     /// # use vortex_logical_types::DType;
@@ -462,20 +492,20 @@ impl DType {
         or_abort(self.try_merge_nullability(other))
     }
 
-    /// Returns what [`DType::merge_nullability`] returns, or [`ErrorKind::OutOfMemory`].
+    /// Returns what [`DType::merge_nullability`] returns, or [`ErrorKind::OutOfMemory`] (0) if memory runs out.
     pub fn try_merge_nullability(&self, other: &DType) -> Result<Option<DType>, Error> {
         self.with_other(other, ffi::dtype_merge_nullability)
     }
 
-    /// Returns the greatest type that is a subset of both types, as [`DType::eq_with_nullability_subset`] defines it, or
-    /// `None` if the two differ in more than nullability. It is nullable only where both are. For example, it is `i32` for
-    /// `i32` and `i32?`.
+    /// Returns the greatest type that is a subset of both types, as [`DType::eq_with_nullability_subset`] defines it.
+    /// It is nullable only in those places in which both are. For example, it is `i32` for `i32` and `i32?`. Returns
+    /// `None` if the types differ in more than nullabilities.
     #[must_use]
     pub fn intersect_nullability(&self, other: &DType) -> Option<DType> {
         or_abort(self.try_intersect_nullability(other))
     }
 
-    /// Returns what [`DType::intersect_nullability`] returns, or [`ErrorKind::OutOfMemory`].
+    /// Returns what [`DType::intersect_nullability`] returns, or [`ErrorKind::OutOfMemory`] (0) if memory runs out.
     pub fn try_intersect_nullability(&self, other: &DType) -> Result<Option<DType>, Error> {
         self.with_other(other, ffi::dtype_intersect_nullability)
     }
@@ -491,9 +521,10 @@ impl DType {
         DType::of_found(found(|out| call(self.slot(), other, out))?)
     }
 
-    /// Returns the type, cut down to what the paths of the set lead to, or `None` if no path of the set exists in the type.
-    /// This is the schema of the columns that a reader of these paths has to open. Its fields are in the order of this type. For example, the part of `{a=i32, b={c=u8, d=u8}}` for the
-    /// path `b.c` is `{b={c=u8}}`.
+    /// Returns the part of the type to which the paths of the set lead. It is the schema of the columns that a reader
+    /// of these paths has to open. The type at the end of a path is kept whole. A struct on the way keeps only the
+    /// fields to which a path leads, in its own order. For example, the part of `{a=i32, b={c=u8, d=u8}}` for the path
+    /// `b.c` is `{b={c=u8}}`. Returns `None` if no path of the set exists in the type.
     ///
     /// ```
     /// # use vortex_logical_types::{DType, FieldPathSet};
@@ -507,7 +538,7 @@ impl DType {
         or_abort(self.try_project_paths(set))
     }
 
-    /// Returns what [`DType::project_paths`] returns, or [`ErrorKind::OutOfMemory`].
+    /// Returns what [`DType::project_paths`] returns, or [`ErrorKind::OutOfMemory`] (0) if memory runs out.
     pub fn try_project_paths(&self, set: &FieldPathSet) -> Result<Option<DType>, Error> {
         DType::of_found(found(|out| ffi::project_paths(self.slot(), &set.slot, out))?)
     }
@@ -610,7 +641,7 @@ impl DType {
         self.kind() == Kind::Union
     }
 
-    /// Returns whether it is the type of variants.
+    /// Returns whether it is the variant type, each of whose values carries its own type.
     #[must_use]
     #[inline]
     pub fn is_variant(&self) -> bool {
@@ -631,14 +662,15 @@ impl DType {
         if let Detail::Primitive(ptype) = self.whole.detail { Some(ptype) } else { None }
     }
 
-    /// Returns the precision and the scale of a decimal type, or `None` for every other type.
+    /// Returns the precision and the scale of a decimal type, or `None` for every other type. The precision is from 1
+    /// to 76. The scale isn't above the precision, and it may be negative.
     #[must_use]
     #[inline]
     pub fn as_decimal_opt(&self) -> Option<DecimalDType> {
         if let Detail::Decimal(decimal) = self.whole.detail { Some(decimal) } else { None }
     }
 
-    /// Returns the element type of a list. Returns `None` for every other type, also for a list of a fixed size.
+    /// Returns the element type of a list, or `None` for every other type, also for a fixed-size list.
     ///
     /// ```
     /// # use vortex_logical_types::DType;
@@ -653,21 +685,22 @@ impl DType {
         if self.is_list() { self.as_any_size_list_element_opt() } else { None }
     }
 
-    /// Returns the element type of a list of a fixed size. Returns `None` for every other type.
+    /// Returns the element type of a fixed-size list, or `None` for every other type.
     #[must_use]
     #[inline]
     pub fn as_fixed_size_list_element_opt(&self) -> Option<&DType> {
         if self.is_fixed_size_list() { self.as_any_size_list_element_opt() } else { None }
     }
 
-    /// Returns the element type of a list, of a fixed size or not. Returns `None` for every other type.
+    /// Returns the element type of a list or of a fixed-size list, or `None` for every other type.
     #[must_use]
     #[inline]
     pub fn as_any_size_list_element_opt(&self) -> Option<&DType> {
         or_abort(self.try_as_any_size_list_element_opt())
     }
 
-    /// Returns what [`DType::as_any_size_list_element_opt`] returns, or [`ErrorKind::OutOfMemory`].
+    /// Returns what [`DType::as_any_size_list_element_opt`] returns, or [`ErrorKind::OutOfMemory`] (0) if memory runs
+    /// out.
     #[inline]
     pub fn try_as_any_size_list_element_opt(&self) -> Result<Option<&DType>, Error> {
         if !self.is_list() && !self.is_fixed_size_list() {
@@ -676,7 +709,8 @@ impl DType {
         self.parts()?.first(|out| ffi::dtype_element(self.slot(), out)).map(Some)
     }
 
-    /// Returns how many elements the lists of a fixed size have, or `None` if the type isn't that of such lists.
+    /// Returns the size of a fixed-size list, which is how many elements each of its values has, or `None` for every
+    /// other type.
     #[must_use]
     #[inline]
     pub fn as_fixed_size_opt(&self) -> Option<u32> {
@@ -711,8 +745,16 @@ impl DType {
         self.is_extension().then_some(ExtDTypeRef { dtype: self })
     }
 
-    /// Returns the number of bytes that each value takes, or `None` if the type or a part of it is of variable width, such
-    /// as a text.
+    /// Returns the number of bytes that each value of the type takes:
+    ///
+    /// - A value of the null type takes 0 bytes, a Boolean takes 1 byte, and a number takes the bytes of its primitive
+    ///   type.
+    /// - A decimal takes the bytes of the smallest storage type, from `i8` to `i256`, for its precision. For example,
+    ///   `decimal(10,2)` takes 8 bytes, those of `i64`.
+    /// - A fixed-size list takes its size times the bytes of its element type, a struct takes the sum of the bytes of
+    ///   its fields, and an extension takes the bytes of its storage type.
+    ///
+    /// Returns `None` if the type or a part of it is of variable width, which all other types are, for example `utf8`.
     ///
     /// ```
     /// # use vortex_logical_types::DType;
@@ -723,13 +765,14 @@ impl DType {
     /// ```
     ///
     /// # Errors
-    /// [`ErrorKind::WidthOverflow`] (19) if no part of the type is of variable width, and the width of the type, or of a part
-    /// of it, is above [`usize::MAX`].
+    /// - [`ErrorKind::WidthOverflow`] (19) if the type is of fixed width and its width, or the width of a part of it,
+    ///   is above 2^64 - 1
+    /// - [`ErrorKind::OutOfMemory`] (0) if memory runs out
     pub fn element_size(&self) -> Result<Option<usize>, Error> {
         explained(|error| value(|size| ffi::dtype_element_size(self.slot(), size, error)))
     }
 
-    /// Returns the console's text of the type, from which [`FromStr`] reads the same type.
+    /// Returns the text of the type in the form of the console, from which [`FromStr`] reads the same type.
     ///
     /// ```
     /// # use vortex_logical_types::{DType, Nullability};
@@ -743,7 +786,7 @@ impl DType {
         or_abort(self.try_to_source())
     }
 
-    /// Returns the console's text of the type, or [`ErrorKind::OutOfMemory`].
+    /// Returns what [`DType::to_source`] returns, or [`ErrorKind::OutOfMemory`] (0) if memory runs out.
     pub fn try_to_source(&self) -> Result<String, Error> {
         calls::text(|buffer, length| ffi::dtype_to_text(self.slot(), buffer, length))
     }
@@ -767,14 +810,20 @@ fn fields_of<N: AsRef<str>>(fields: Vec<(N, DType)>) -> Result<Slot, Error> {
     Ok(all)
 }
 
-/// Reads the console's text of a type, such as `{a=list(i32?), "b c"=decimal(10,2)}`.
+/// Reads a type from its text in the form of the console, such as `{a=list(i32?), "b c"=decimal(10,2)}`.
 ///
 /// # Errors
-/// - [`ErrorKind::Unreadable`] with the position from which the text can't be read on, and with what was expected there
-/// - [`ErrorKind::TooDeep`], with the position of the first type that is inside more than 128 others
-/// - If a type in the text can't be made, such as `decimal(0,0)`, the error with which its constructor fails:
-///   [`DType::decimal`], [`DType::map`], [`DType::union`] or [`DType::union_with_tags`]
-/// - [`ErrorKind::OutOfMemory`]
+/// - [`ErrorKind::Unreadable`] if the text isn't spelled like a type, with the position of the byte, counted from 1, at
+///   which something else was expected, and with what was expected there
+/// - [`ErrorKind::TooDeep`] if types are nested more than 128 levels deep in the text, with the position of the first
+///   that is too deep
+/// - [`ErrorKind::PrecisionZero`] (1), [`ErrorKind::PrecisionTooLarge`] (2), [`ErrorKind::ScaleTooLarge`] (3) or
+///   [`ErrorKind::ScaleAbovePrecision`] (4) for a decimal that [`DType::decimal`] refuses, such as `decimal(0,0)`
+/// - [`ErrorKind::MapKeyNullable`] (9) for a map whose key type is nullable
+/// - [`ErrorKind::UnionEmpty`] (12) for a union without variants, [`ErrorKind::UnionTagsRepeat`] (13) for one in which
+///   a tag occurs twice, [`ErrorKind::UnionTooMany`] (14) for one with more than 256 variants without tags, and
+///   [`ErrorKind::UnionNamesRepeat`] (15) for one in which a name occurs twice
+/// - [`ErrorKind::OutOfMemory`] (0) if memory runs out
 impl FromStr for DType {
     type Err = Error;
 
@@ -783,13 +832,15 @@ impl FromStr for DType {
     }
 }
 
-/// The text that the library displays.
+/// The text that the library displays. [`FromStr`] may not read it back. For example, a name that contains a comma is
+/// written without quotes.
 impl fmt::Display for DType {
     fn fmt(&self, f: &mut fmt::Formatter<'_>) -> fmt::Result {
         f.pad(&calls::text(|buffer, length| ffi::dtype_display(self.slot(), buffer, length)).map_err(|_| fmt::Error)?)
     }
 }
 
+/// The text in the form of the console, with the name of the Rust type around it, such as `DType(utf8?)`.
 impl fmt::Debug for DType {
     fn fmt(&self, f: &mut fmt::Formatter<'_>) -> fmt::Result {
         write!(f, "DType({})", self.try_to_source().map_err(|_| fmt::Error)?)
@@ -811,12 +862,14 @@ impl Hash for DType {
     }
 }
 
+/// The primitive type, which is non-nullable.
 impl From<PType> for DType {
     fn from(ptype: PType) -> DType {
         DType::primitive(ptype, Nullability::NonNullable)
     }
 }
 
+/// Reads a type from its text. The errors are those of [`FromStr`].
 impl TryFrom<&str> for DType {
     type Error = Error;
 

@@ -37,8 +37,8 @@ struct Told {
     position: Option<usize>,
 }
 
-/// The kind of an [`Error`]: one for each error of the library, with its number, and one for each error of the interface
-/// to it, which has no number. Its `Debug` is the library's name of the error, such as `FieldNotFound`.
+/// The kind of an [`Error`]: one for each error of the library, with its number, and one for each error of the
+/// interface to it, which has no number. Its `Debug` is the library's name of the error, such as `FieldNotFound`.
 ///
 /// ```
 /// use vortex_logical_types::{DType, ErrorKind, Nullability::NonNullable};
@@ -225,15 +225,17 @@ impl Error {
         self.kind.number()
     }
 
-    /// Returns the position of the byte from which a text can't be read on. Positions are counted from 1, so it is the byte
-    /// with the index `position - 1`. It is one more than the length of the text if the text ends too early. Returns `None` if
-    /// the error isn't about a text.
+    /// Returns the position of the byte from which a text can't be read on. Positions are counted from 1, so it is the
+    /// byte with the index `position - 1`. It is one more than the length of the text if the text ends too early.
+    /// Returns `None` if the error isn't about a text.
     #[must_use]
     pub fn position(&self) -> Option<usize> {
         self.told()?.position
     }
 
-    /// Returns the number that the C interface returns for the error, such as 100 for [`ErrorKind::OutOfMemory`].
+    /// Returns the number that the C interface returns for the error: 3 to 6, 9 or 10 for an error of the interface,
+    /// and 100 more than the number of the error for one of the library. For example, it is 100 for
+    /// [`ErrorKind::OutOfMemory`].
     #[must_use]
     pub fn code(&self) -> u32 {
         self.kind.code()

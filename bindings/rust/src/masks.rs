@@ -12,8 +12,8 @@ use crate::shared::Shared;
 use std::fmt;
 use std::hash::{Hash, Hasher};
 
-/// A selection of paths. It selects all paths, or a path and every path below it, or one path alone. A path *matches* the
-/// mask if the mask selects it.
+/// A selection of paths. It selects all paths, or a path and every path below it, or one path alone. A path *matches*
+/// the mask if the mask selects it.
 ///
 /// ```
 /// use vortex_logical_types::{Field, FieldMask, FieldPath};
@@ -30,7 +30,7 @@ pub struct FieldMask {
     slot: Shared<Slot>,
 }
 
-/// Which form a [`FieldMask`] has.
+/// The kind of a [`FieldMask`].
 ///
 /// ```
 /// use vortex_logical_types::{FieldMask, MaskKind, field_path};
@@ -39,11 +39,11 @@ pub struct FieldMask {
 /// ```
 #[derive(Debug, Clone, Copy, PartialEq, Eq, Hash)]
 pub enum MaskKind {
-    /// All paths match.
+    /// The mask selects every path.
     All,
-    /// A path matches if it begins with the mask's path.
+    /// The mask selects its path and every path that begins with it.
     Prefix,
-    /// The mask's path alone matches.
+    /// The mask selects only its path.
     Exact,
 }
 
@@ -52,40 +52,40 @@ impl FieldMask {
         Ok(FieldMask { slot: Shared::try_new(slot)? })
     }
 
-    /// Returns the mask that all paths match.
+    /// Returns the mask that selects every path.
     #[must_use]
     pub fn all() -> FieldMask {
         or_abort(FieldMask::try_all())
     }
 
-    /// Returns the mask that all paths match, or [`ErrorKind::OutOfMemory`].
+    /// Returns what [`FieldMask::all`] returns, or [`ErrorKind::OutOfMemory`] (0) if memory runs out.
     pub fn try_all() -> Result<FieldMask, Error> {
         made(ffi::mask_all).and_then(FieldMask::of)
     }
 
-    /// Returns the mask that selects `path` and every path that begins with `path`.
+    /// Returns the mask that selects the path and every path that begins with it.
     #[must_use]
     pub fn prefix(path: &FieldPath) -> FieldMask {
         or_abort(FieldMask::try_prefix(path))
     }
 
-    /// Returns the mask that selects `path` and every path that begins with `path`, or [`ErrorKind::OutOfMemory`].
+    /// Returns what [`FieldMask::prefix`] returns, or [`ErrorKind::OutOfMemory`] (0) if memory runs out.
     pub fn try_prefix(path: &FieldPath) -> Result<FieldMask, Error> {
         made(|out| ffi::mask_prefix(path.slot(), out)).and_then(FieldMask::of)
     }
 
-    /// Returns the mask that this path alone matches.
+    /// Returns the mask that selects only the path.
     #[must_use]
     pub fn exact(path: &FieldPath) -> FieldMask {
         or_abort(FieldMask::try_exact(path))
     }
 
-    /// Returns the mask that this path alone matches, or [`ErrorKind::OutOfMemory`].
+    /// Returns what [`FieldMask::exact`] returns, or [`ErrorKind::OutOfMemory`] (0) if memory runs out.
     pub fn try_exact(path: &FieldPath) -> Result<FieldMask, Error> {
         made(|out| ffi::mask_exact(path.slot(), out)).and_then(FieldMask::of)
     }
 
-    /// Returns which form it has.
+    /// Returns the kind of the mask.
     #[must_use]
     pub fn kind(&self) -> MaskKind {
         match plain(|kind: &mut u32| ffi::mask_kind(&self.slot, kind)) {
@@ -95,53 +95,57 @@ impl FieldMask {
         }
     }
 
-    /// Returns the path of the mask, or `None` if its kind is [`MaskKind::All`], because such a mask has no path. For the
-    /// prefix of the root the call returns the root, although all paths match that mask too.
+    /// Returns the path of the mask, or `None` if the mask is the one of [`FieldMask::all`], which has no path. The
+    /// path of the mask that [`FieldMask::prefix`] makes of the root is the root, although this mask also selects every
+    /// path.
     #[must_use]
     pub fn path(&self) -> Option<FieldPath> {
         or_abort(self.try_path())
     }
 
-    /// Returns what [`FieldMask::path`] returns, or [`ErrorKind::OutOfMemory`].
+    /// Returns what [`FieldMask::path`] returns, or [`ErrorKind::OutOfMemory`] (0) if memory runs out.
     pub fn try_path(&self) -> Result<Option<FieldPath>, Error> {
         found(|out| ffi::mask_path(&self.slot, out))?.map(FieldPath::of).transpose()
     }
 
-    /// Returns the mask of what is selected below the first step of the mask's path:
+    /// Returns the mask of what this mask selects below the first step of its path:
     ///
-    /// | Mask | Result |
-    /// |---|---|
-    /// | all | all |
-    /// | the prefix of the root | all |
-    /// | the prefix `a` | all |
-    /// | the prefix `a.b` | the prefix `b` |
-    /// | exactly `a.b` | exactly `b` |
-    /// | exactly `a` | exactly the root |
-    /// | exactly the root | the error [`ErrorKind::ExactRoot`] |
+    /// - For the mask of [`FieldMask::all`], it is the mask of [`FieldMask::all`].
+    /// - For a mask of [`FieldMask::prefix`], it is the mask that [`FieldMask::prefix`] makes of the path without its
+    ///   first step. If the path has at most one step, it is the mask of [`FieldMask::all`].
+    /// - For a mask of [`FieldMask::exact`], it is the mask that [`FieldMask::exact`] makes of the path without its
+    ///   first step.
+    ///
+    /// For example, for the mask that [`FieldMask::prefix`] makes of `a.b`, it is the mask that [`FieldMask::prefix`]
+    /// makes of `b`.
     ///
     /// # Errors
-    /// [`ErrorKind::ExactRoot`] (20) for the mask of exactly the root, and [`ErrorKind::OutOfMemory`].
+    /// - [`ErrorKind::ExactRoot`] (20) if the mask selects only the root
+    /// - [`ErrorKind::OutOfMemory`] (0) if memory runs out
     pub fn step_into(&self) -> Result<FieldMask, Error> {
         explained(|error| made(|out| ffi::mask_step_into(&self.slot, out, error))).and_then(FieldMask::of)
     }
 
-    /// Returns the first step of the mask's path, or `None` if that path is the root.
+    /// Returns the first step of the path of the mask, or `None` if the path is the root.
     ///
     /// # Errors
-    /// [`ErrorKind::AllMask`] (21) for [`FieldMask::all`], which has no path, and [`ErrorKind::OutOfMemory`].
+    /// - [`ErrorKind::AllMask`] (21) if the mask is the one of [`FieldMask::all`], which has no path
+    /// - [`ErrorKind::OutOfMemory`] (0) if memory runs out
     pub fn starting_field(&self) -> Result<Option<Field>, Error> {
         explained(|error| {
             calls::step_found(|buffer, length| ffi::mask_starting_field(&self.slot, buffer, length, error))
         })
     }
 
-    /// Returns whether all paths match.
+    /// Returns whether the mask selects every path. The mask of [`FieldMask::all`] and the mask that
+    /// [`FieldMask::prefix`] makes of the root select every path.
     #[must_use]
     pub fn matches_all(&self) -> bool {
         holds(ffi::mask_matches_all(&self.slot))
     }
 
-    /// Returns whether the root matches.
+    /// Returns whether the mask selects the root. The mask of [`FieldMask::all`] and the masks whose path is the root
+    /// select the root.
     ///
     /// ```
     /// # use vortex_logical_types::{FieldMask, FieldPath, field_path};
@@ -159,6 +163,8 @@ impl FieldMask {
     }
 }
 
+/// Two masks are equal if they have the same kind and the same path. So the mask of [`FieldMask::all`] isn't equal to
+/// the mask that [`FieldMask::prefix`] makes of the root, although both select every path.
 impl PartialEq for FieldMask {
     fn eq(&self, other: &FieldMask) -> bool {
         self.slot.is(&other.slot) || holds(ffi::mask_eq(&self.slot, &other.slot))
@@ -174,6 +180,7 @@ impl Hash for FieldMask {
     }
 }
 
+/// The kind of the mask, with its path in the form of the console, such as `Prefix(a.b)`.
 impl fmt::Debug for FieldMask {
     fn fmt(&self, f: &mut fmt::Formatter<'_>) -> fmt::Result {
         match self.try_path().map_err(|_| fmt::Error)? {

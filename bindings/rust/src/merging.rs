@@ -49,15 +49,16 @@ impl fmt::Display for MergeConflict {
 impl std::error::Error for MergeConflict {}
 
 impl DType {
-    /// Returns the least type as which both types can be read, or `None` if there is none. A program that reads several files
-    /// as one table needs this type if the files have different columns. [`DType::merge_all`] merges more than two.
+    /// Returns the least type as which values of both types can be read, or `None` if there is no such type. A program
+    /// that reads several files as one table needs this type if the files have different columns. [`DType::merge_all`]
+    /// merges more than two.
     ///
-    /// - A struct has the fields of this type in their order, and then those of `other` that this type lacks. A field that
-    ///   both have is merged by these rules. A field that one of the two lacks is nullable.
-    /// - Lists, fixed-size lists of the same size, maps with the same flag, and extensions with the same id and the same
-    ///   metadata are merged by their parts. Maps whose merged key type would be nullable can't be merged.
-    /// - All other types are merged as [`DType::merge_nullability`] merges them. So are structs in which a name repeats,
-    ///   because their columns can't be told apart by name.
+    /// - A struct has the fields of the first type in their order, and then those that only the second has. A field
+    ///   that both have is merged by these rules. A field that only one of the two has is nullable.
+    /// - Lists, fixed-size lists of the same size, maps with the same `keys_sorted`, and extensions with the same id
+    ///   and the same metadata are merged by their parts. Maps whose merged key type would be nullable can't be merged.
+    /// - All other types are merged as [`DType::merge_nullability`] merges them. So are structs in which a name
+    ///   repeats, because their columns can't be told apart by name.
     /// - A type that isn't an extension is nullable if one of the two is, at every depth.
     ///
     /// ```
@@ -71,13 +72,15 @@ impl DType {
         or_abort(self.try_merge_columns(other))
     }
 
-    /// Returns what [`DType::merge_columns`] returns, or [`ErrorKind::OutOfMemory`].
+    /// Returns what [`DType::merge_columns`] returns, or [`ErrorKind::OutOfMemory`] (0) if memory runs out.
     pub fn try_merge_columns(&self, other: &DType) -> Result<Option<DType>, Error> {
         self.with_other(other, ffi::dtype_merge_columns)
     }
 
-    /// Returns why the two types can't be merged by [`DType::merge_columns`], or `None` if they can. The place is the first
-    /// one, in the order of the fields of this type, at which the two types have no common type.
+    /// Returns the first place at which the two types can't be merged by [`DType::merge_columns`], or `None` if they
+    /// can be merged. The conflict has the path to this place, and the types at this place in this type and in `other`.
+    /// The first place is the first one in the order of the fields of this type. A path leads only into structs, lists
+    /// and fixed-size lists, so if the keys or values of two maps can't be merged, it is the path to the maps.
     ///
     /// ```
     /// # use vortex_logical_types::{DType, field_path};
@@ -93,7 +96,7 @@ impl DType {
         or_abort(self.try_merge_conflict(other))
     }
 
-    /// Returns what [`DType::merge_conflict`] returns, or [`ErrorKind::OutOfMemory`].
+    /// Returns what [`DType::merge_conflict`] returns, or [`ErrorKind::OutOfMemory`] (0) if memory runs out.
     pub fn try_merge_conflict(&self, other: &DType) -> Result<Option<MergeConflict>, Error> {
         let (mut path, mut left, mut right) = (Slot::new(), Slot::new(), Slot::new());
         let copy = self.apart_from(other)?;
@@ -105,9 +108,9 @@ impl DType {
         Ok(Some(MergeConflict { path: FieldPath::of(path)?, left, right, index: 1 }))
     }
 
-    /// Returns the least type as which all of these types can be read, such as the schemas of several files: the first,
-    /// merged with each other by [`DType::merge_columns`]. Returns `None` if there is no type. The order of the types
-    /// decides only the order of the columns.
+    /// Returns the least type as which values of all of these types can be read, such as the schemas of several files:
+    /// the first two, merged by [`DType::merge_columns`], then the result with the third, and so on. Returns `None` if
+    /// the iterator yields no type. The order of the types decides only the order of the columns.
     ///
     /// ```
     /// # use vortex_logical_types::DType;
@@ -122,13 +125,14 @@ impl DType {
     /// ```
     ///
     /// # Errors
-    /// The conflict with the first type that can't be merged with those before it. The types behind it aren't taken from
-    /// the iterator.
+    /// The [`MergeConflict`] with the first type that can't be merged with those before it. The types behind it aren't
+    /// taken from the iterator.
     pub fn merge_all(types: impl IntoIterator<Item = impl Borrow<DType>>) -> Result<Option<DType>, MergeConflict> {
         or_abort(DType::try_merge_all(types))
     }
 
-    /// Returns what [`DType::merge_all`] returns, or [`ErrorKind::OutOfMemory`].
+    /// Returns what [`DType::merge_all`] returns, which is a type or a conflict, in `Ok`, or [`ErrorKind::OutOfMemory`]
+    /// (0) if memory runs out.
     pub fn try_merge_all(
         types: impl IntoIterator<Item = impl Borrow<DType>>,
     ) -> Result<Result<Option<DType>, MergeConflict>, Error> {

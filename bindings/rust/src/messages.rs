@@ -11,8 +11,8 @@ use crate::shared::Shared;
 use std::fmt;
 use std::hash::{Hash, Hasher};
 
-/// The message of a type. It is made from a type, or of [`Node`]s, which are its flat form. A message may describe no type.
-/// Then [`DType::from_proto`] returns the error that says what is wrong with it.
+/// The message of a type. It is made from a type, or of [`Node`]s, which are its flat form. A message may describe no
+/// type. Then [`DType::from_proto`] returns the error that says what is wrong with it.
 ///
 /// ```
 /// use vortex_logical_types::{DType, ErrorKind, Message, Node, UnknownIds};
@@ -54,9 +54,10 @@ pub enum UnknownIds {
     Allow,
 }
 
-/// A message in the flat form: its nodes in pre-order, and the bytes of its texts, one text directly after the other. Both
-/// are plain data, so a flat message can be stored or sent to another process, and a program that has decoded the bytes of a
-/// message can write the nodes by itself. [`Node`] explains the fields of a node. This is the order of the nodes:
+/// A message in the flat form: its nodes in pre-order, and the bytes of its texts, one text directly after the other.
+/// Both are plain data, so a flat message can be stored or sent to another process, and a program that has decoded the
+/// bytes of a message can write the nodes by itself. [`Node`] explains the fields of a node. This is the order of the
+/// nodes:
 ///
 /// ```text
 /// message         = the node of its kind, and then
@@ -101,28 +102,42 @@ impl Message {
         Ok(Message { slot: Shared::try_new(slot)? })
     }
 
-    /// Returns the message of these nodes and the bytes of their texts.
+    /// Returns the message that the nodes and the bytes of the texts describe.
     ///
     /// # Errors
-    /// [`ErrorKind::OutOfRange`] if they aren't the nodes and texts of one message; [`ErrorKind::NotUtf8`] if a name or an id isn't
-    /// UTF-8; [`ErrorKind::TooDeep`] if a message is nested in more than 128 others; and [`ErrorKind::OutOfMemory`].
+    /// - [`ErrorKind::NotUtf8`] if a name or an id isn't UTF-8
+    /// - [`ErrorKind::TooDeep`] if a message is nested in more than 128 others
+    /// - [`ErrorKind::OutOfRange`] if a node isn't one that a message has at its place, if nodes or bytes end too
+    ///   early, or if some are left
+    /// - [`ErrorKind::OutOfMemory`] (0) if memory runs out
+    ///
+    /// Of the first three, it is the first fault that is met in the order of the nodes.
     pub fn from_nodes(nodes: &[Node], texts: &[u8]) -> Result<Message, Error> {
         made(|out| ffi::message_from_nodes(nodes, texts, out)).and_then(Message::of)
     }
 
-    /// Returns the message of this flat form.
+    /// Returns the message that this flat form describes, as [`Message::from_nodes`] does.
     ///
     /// # Errors
-    /// As [`Message::from_nodes`].
+    /// - [`ErrorKind::NotUtf8`] if a name or an id isn't UTF-8
+    /// - [`ErrorKind::TooDeep`] if a message is nested in more than 128 others
+    /// - [`ErrorKind::OutOfRange`] if a node isn't one that a message has at its place, if nodes or bytes end too
+    ///   early, or if some are left
+    /// - [`ErrorKind::OutOfMemory`] (0) if memory runs out
+    ///
+    /// Of the first three, it is the first fault that is met in the order of the nodes.
     pub fn from_flat(flat: &FlatMessage) -> Result<Message, Error> {
         Message::from_nodes(&flat.nodes, &flat.texts)
     }
 
-    /// Returns the flat form.
+    /// Returns the flat form of the message, which [`Message::from_flat`] reads as the same message.
     ///
     /// # Errors
-    /// [`ErrorKind::OutOfRange`] if a message has more names, tags, types or bytes of a text than 32 bits can count;
-    /// [`ErrorKind::TooDeep`] if a message is nested in more than 128 others; and [`ErrorKind::OutOfMemory`].
+    /// - [`ErrorKind::TooDeep`] if a message is nested in more than 128 others
+    /// - [`ErrorKind::OutOfRange`] if a number of names, tags, types or bytes of a text is above 2^32 - 1
+    /// - [`ErrorKind::OutOfMemory`] (0) if memory runs out
+    ///
+    /// If several of these are so, it is the first of them, unless memory runs out.
     pub fn to_flat(&self) -> Result<FlatMessage, Error> {
         let (mut nodes, mut texts) = (Vec::new(), Vec::new());
         let (mut count, mut length) = (0, 0);
@@ -137,9 +152,10 @@ impl Message {
         if calls::done(code)? { Ok(FlatMessage { nodes, texts }) } else { Err(ErrorKind::OutOfRange.into()) }
     }
 
-    /// Returns the normal form of this message, which is the message that [`DType::to_proto`] returns for the type that
-    /// this message describes. All values that a message may leave out because they are the default are written out in it,
-    /// for example the metadata of an extension if it is empty.
+    /// Returns the normal form of the message. If a message describes a type, its normal form is the message that
+    /// [`DType::to_proto`] returns for this type. It has every child, flag and number, and the metadata of each
+    /// extension, even if the metadata is empty. If `unknown` is [`UnknownIds::Allow`], an extension keeps its
+    /// metadata.
     ///
     /// ```
     /// # use vortex_logical_types::{Message, Node, UnknownIds};
@@ -155,7 +171,21 @@ impl Message {
     /// ```
     ///
     /// # Errors
-    /// As [`DType::from_proto`].
+    /// If the message describes no type, the error of its first fault:
+    ///
+    /// - [`ErrorKind::TypeMissing`] (24) for a message without a kind, and one of the errors 25 to 34 in the
+    ///   [table](crate#errors-and-memory) for a number that is out of its range, for a part that is missing, or for a
+    ///   struct with more or fewer types than names. For example, it is [`ErrorKind::ListElementMissing`] (28) for a
+    ///   list without an element type.
+    /// - [`ErrorKind::PrecisionZero`] (1), [`ErrorKind::PrecisionTooLarge`] (2), [`ErrorKind::ScaleTooLarge`] (3) or
+    ///   [`ErrorKind::ScaleAbovePrecision`] (4) for a decimal that [`DType::decimal`] refuses
+    /// - [`ErrorKind::MapKeyNullable`] (9) for a map whose key type is nullable
+    /// - [`ErrorKind::UnionTypesLength`] (10) or [`ErrorKind::UnionTagsLength`] (11) for a union with more or fewer
+    ///   types or tags than names, [`ErrorKind::UnionEmpty`] (12) for one without variants,
+    ///   [`ErrorKind::UnionTagsRepeat`] (13) for one in which a tag occurs twice, and [`ErrorKind::UnionNamesRepeat`]
+    ///   (15) for one in which a name occurs twice
+    /// - [`ErrorKind::ExtensionUnregistered`] (35) for an extension, if `unknown` is [`UnknownIds::Refuse`]
+    /// - [`ErrorKind::OutOfMemory`] (0) if memory runs out
     pub fn normal(&self, unknown: UnknownIds) -> Result<Message, Error> {
         explained(|error| made(|out| ffi::message_normal(&self.slot, unknown.are_allowed(), out, error)))
             .and_then(Message::of)
@@ -168,14 +198,25 @@ impl Message {
 }
 
 impl DType {
-    /// Returns the type that the message describes.
+    /// Returns the type that the message describes. No plugin is registered, so no id of an extension is known. If
+    /// `unknown` is [`UnknownIds::Allow`], an extension keeps its metadata.
     ///
     /// # Errors
-    /// - If the message describes no type, its first fault, which is one of the errors 24 to 34 in the
-    ///   [table](crate#errors-and-memory). For example, it is [`ErrorKind::ListElementMissing`] (28) for a list without an
-    ///   element type. For a decimal it may be one of 1 to 4, for a map 9, and for a union 10 to 13 or 15.
+    /// If the message describes no type, the error of its first fault:
+    ///
+    /// - [`ErrorKind::TypeMissing`] (24) for a message without a kind, and one of the errors 25 to 34 in the
+    ///   [table](crate#errors-and-memory) for a number that is out of its range, for a part that is missing, or for a
+    ///   struct with more or fewer types than names. For example, it is [`ErrorKind::ListElementMissing`] (28) for a
+    ///   list without an element type.
+    /// - [`ErrorKind::PrecisionZero`] (1), [`ErrorKind::PrecisionTooLarge`] (2), [`ErrorKind::ScaleTooLarge`] (3) or
+    ///   [`ErrorKind::ScaleAbovePrecision`] (4) for a decimal that [`DType::decimal`] refuses
+    /// - [`ErrorKind::MapKeyNullable`] (9) for a map whose key type is nullable
+    /// - [`ErrorKind::UnionTypesLength`] (10) or [`ErrorKind::UnionTagsLength`] (11) for a union with more or fewer
+    ///   types or tags than names, [`ErrorKind::UnionEmpty`] (12) for one without variants,
+    ///   [`ErrorKind::UnionTagsRepeat`] (13) for one in which a tag occurs twice, and [`ErrorKind::UnionNamesRepeat`]
+    ///   (15) for one in which a name occurs twice
     /// - [`ErrorKind::ExtensionUnregistered`] (35) for an extension, if `unknown` is [`UnknownIds::Refuse`]
-    /// - [`ErrorKind::OutOfMemory`]
+    /// - [`ErrorKind::OutOfMemory`] (0) if memory runs out
     ///
     /// (A message is nested at most as deep as a type may be.)
     pub fn from_proto(message: &Message, unknown: UnknownIds) -> Result<DType, Error> {
@@ -183,21 +224,22 @@ impl DType {
             .and_then(DType::of)
     }
 
-    /// Returns the message that describes the type.
+    /// Returns the message that describes the type. [`DType::from_proto`] returns the same type for it. If the type has
+    /// an extension in it, it does so only with [`UnknownIds::Allow`].
     #[must_use]
     pub fn to_proto(&self) -> Message {
         or_abort(self.try_to_proto())
     }
 
-    /// Returns the message that describes the type, or [`ErrorKind::OutOfMemory`].
+    /// Returns what [`DType::to_proto`] returns, or [`ErrorKind::OutOfMemory`] (0) if memory runs out.
     pub fn try_to_proto(&self) -> Result<Message, Error> {
         made(|out| ffi::dtype_to_message(self.slot(), out)).and_then(Message::of)
     }
 }
 
 impl FieldPath {
-    /// Returns the path that the message of a path describes, whose parts have these names. `None` stands for a part that
-    /// has no kind. All items are taken from the iterator before the library is called.
+    /// Returns the path that the message of a path describes, whose parts have these names. `None` stands for a part
+    /// without a kind. All items are taken from the iterator before the library is called.
     ///
     /// ```
     /// # use vortex_logical_types::FieldPath;
@@ -207,7 +249,8 @@ impl FieldPath {
     /// ```
     ///
     /// # Errors
-    /// [`ErrorKind::PathPartMissing`] (36) if a part has no kind, and [`ErrorKind::OutOfMemory`].
+    /// - [`ErrorKind::PathPartMissing`] (36) if a part has no kind
+    /// - [`ErrorKind::OutOfMemory`] (0) if memory runs out
     pub fn from_proto<N: AsRef<str>>(parts: impl IntoIterator<Item = Option<N>>) -> Result<FieldPath, Error> {
         let mut names = Names::default();
         for part in parts {
@@ -254,12 +297,14 @@ impl Hash for Message {
     }
 }
 
+/// The message of the type, as [`DType::to_proto`] returns it.
 impl From<&DType> for Message {
     fn from(dtype: &DType) -> Message {
         dtype.to_proto()
     }
 }
 
+/// The message of the flat form. The errors are those of [`Message::from_flat`].
 impl TryFrom<&FlatMessage> for Message {
     type Error = Error;
 

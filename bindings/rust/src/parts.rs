@@ -121,39 +121,41 @@ impl<'a> StructFields<'a> {
         self.dtype.parts()?.all(|types, count| ffi::struct_types(self.dtype.slot(), types, count))
     }
 
-    /// Returns the name of the field at this index, or `None` if the index isn't below the number of fields.
+    /// Returns the name of the field at this index, which is counted from 0, or `None` if the index isn't below the
+    /// number of fields.
     #[must_use]
     #[inline]
     pub fn field_name(&self, index: usize) -> Option<&'a str> {
         or_abort(self.try_field_name(index))
     }
 
-    /// Returns what [`StructFields::field_name`] returns, or [`ErrorKind::OutOfMemory`].
+    /// Returns what [`StructFields::field_name`] returns, or [`ErrorKind::OutOfMemory`] (0) if memory runs out.
     #[inline]
     pub fn try_field_name(&self, index: usize) -> Result<Option<&'a str>, Error> {
         Ok(self.try_names()?.get(index))
     }
 
-    /// Returns the names of the fields, in their order.
+    /// Returns the names of the fields, in their order. They are read from the library together, before the first is
+    /// yielded.
     #[inline]
     pub fn names(self) -> impl ExactSizeIterator<Item = &'a str> + DoubleEndedIterator + use<'a> {
         let names = or_abort(self.try_names());
         (0..self.nfields()).map(|index| names.get(index).unwrap_or_else(|| unreachable!("{index} is a position")))
     }
 
-    /// Returns the index of the first field of this name, counted from 0, or `None` if no field has the name.
+    /// Returns the index of the first field with this name, counted from 0, or `None` if no field has the name.
     #[must_use]
     pub fn find(&self, name: &str) -> Option<usize> {
         or_abort(value(|index| ffi::struct_find(self.dtype.slot(), name.as_bytes(), index)))
     }
 
-    /// Returns the type of the first field of the name, or `None` if no field has the name.
+    /// Returns the type of the first field with this name, or `None` if no field has the name.
     #[must_use]
     pub fn field(&self, name: &str) -> Option<&'a DType> {
         or_abort(self.try_field(name))
     }
 
-    /// Returns what [`StructFields::field`] returns, or [`ErrorKind::OutOfMemory`].
+    /// Returns what [`StructFields::field`] returns, or [`ErrorKind::OutOfMemory`] (0) if memory runs out.
     pub fn try_field(&self, name: &str) -> Result<Option<&'a DType>, Error> {
         match self.find(name) {
             Some(index) => self.try_field_by_index(index),
@@ -161,14 +163,15 @@ impl<'a> StructFields<'a> {
         }
     }
 
-    /// Returns the type of the field at this index, or `None` if the index isn't below the number of fields.
+    /// Returns the type of the field at this index, which is counted from 0, or `None` if the index isn't below the
+    /// number of fields.
     #[must_use]
     #[inline]
     pub fn field_by_index(&self, index: usize) -> Option<&'a DType> {
         or_abort(self.try_field_by_index(index))
     }
 
-    /// Returns what [`StructFields::field_by_index`] returns, or [`ErrorKind::OutOfMemory`].
+    /// Returns what [`StructFields::field_by_index`] returns, or [`ErrorKind::OutOfMemory`] (0) if memory runs out.
     #[inline]
     pub fn try_field_by_index(&self, index: usize) -> Result<Option<&'a DType>, Error> {
         self.dtype.parts()?.at(index, |out| ffi::struct_field_by_index(self.dtype.slot(), index, out))
@@ -186,8 +189,9 @@ impl<'a> StructFields<'a> {
         self.names().zip(self.fields())
     }
 
-    /// Returns the struct of the fields with these names, in the order of the names, with the nullability of the type. All
-    /// names are taken from the iterator before the library is called.
+    /// Returns the struct that has the fields with these names, in the order of the names. If several fields have the
+    /// same name, the first of them is selected. The struct has the outer nullability of the original struct. All names
+    /// are taken from the iterator before the library is called.
     ///
     /// ```
     /// # use vortex_logical_types::DType;
@@ -198,8 +202,9 @@ impl<'a> StructFields<'a> {
     /// ```
     ///
     /// # Errors
-    /// [`ErrorKind::FieldNotFound`] (16) if one of the names isn't the name of a field, with the first such name and its
-    /// place among the names, counted from 0; and [`ErrorKind::OutOfMemory`].
+    /// - [`ErrorKind::FieldNotFound`] (16) if one of the names isn't the name of any field. The text of the error has
+    ///   the position of the first such name among the names, counted from 0, and the name.
+    /// - [`ErrorKind::OutOfMemory`] (0) if memory runs out
     pub fn project<N: AsRef<str>>(&self, names: impl IntoIterator<Item = N>) -> Result<DType, Error> {
         let mut projection = Names::default();
         for name in names {
@@ -215,7 +220,8 @@ impl<'a> StructFields<'a> {
         })
     }
 
-    /// Returns the struct without the field at this index, with the nullability of the type.
+    /// Returns the struct without the field at this index, which is counted from 0. It has the outer nullability of the
+    /// original struct.
     ///
     /// ```
     /// # use vortex_logical_types::DType;
@@ -226,13 +232,16 @@ impl<'a> StructFields<'a> {
     /// ```
     ///
     /// # Errors
-    /// [`ErrorKind::IndexOutOfBounds`] (17) if there is no such field, and [`ErrorKind::OutOfMemory`].
+    /// - [`ErrorKind::IndexOutOfBounds`] (17) if the index isn't below the number of fields. The text of the error has
+    ///   both numbers.
+    /// - [`ErrorKind::OutOfMemory`] (0) if memory runs out
     pub fn without_field(&self, index: usize) -> Result<DType, Error> {
         explained(|error| made(|out| ffi::struct_without_field(self.dtype.slot(), index, out, error)))
             .and_then(DType::of)
     }
 
-    /// Returns the struct of the fields of both, first those of this struct, with the nullability of this struct.
+    /// Returns the struct that has the fields of this struct followed by those of `other`. It has the outer nullability
+    /// of this struct.
     ///
     /// ```
     /// # use vortex_logical_types::DType;
@@ -244,7 +253,8 @@ impl<'a> StructFields<'a> {
     /// ```
     ///
     /// # Errors
-    /// [`ErrorKind::DuplicateNames`] (18) if a name occurs twice among the fields of both, and [`ErrorKind::OutOfMemory`].
+    /// - [`ErrorKind::DuplicateNames`] (18) if a name occurs in both structs, or twice in one of them
+    /// - [`ErrorKind::OutOfMemory`] (0) if memory runs out
     pub fn disjoint_merge(&self, other: &StructFields<'_>) -> Result<DType, Error> {
         let copy = self.dtype.apart_from(other.dtype)?;
         let other = copy.as_ref().unwrap_or(other.dtype.slot());
@@ -252,7 +262,9 @@ impl<'a> StructFields<'a> {
             .and_then(DType::of)
     }
 
-    /// Returns the fields as the library indents them, each on a line of its own.
+    /// Returns the fields as text over several lines. The first line is an opening brace, then each field has a line
+    /// that begins with two spaces, and the last line is a closing brace. A struct that is the type of a field, or the
+    /// element type of a list, is written over several lines too, with two more spaces.
     ///
     /// ```
     /// # use vortex_logical_types::DType;
@@ -266,14 +278,14 @@ impl<'a> StructFields<'a> {
         or_abort(self.try_indented())
     }
 
-    /// Returns the fields as the library indents them, or [`ErrorKind::OutOfMemory`].
+    /// Returns what [`StructFields::indented`] returns, or [`ErrorKind::OutOfMemory`] (0) if memory runs out.
     pub fn try_indented(&self) -> Result<String, Error> {
         calls::text(|buffer, length| ffi::struct_indented(self.dtype.slot(), buffer, length))
     }
 }
 
-/// The variants of a union, from [`DType::as_union_variants_opt`]. Each variant has a tag, and a value of the union has the
-/// tag of its variant.
+/// The variants of a union, from [`DType::as_union_variants_opt`]. Each variant has a tag, and a value of the union has
+/// the tag of its variant.
 ///
 /// ```
 /// use vortex_logical_types::DType;
@@ -291,7 +303,7 @@ pub struct UnionVariants<'a> {
 }
 
 impl<'a> UnionVariants<'a> {
-    /// Returns the number of variants, which isn't 0.
+    /// Returns the number of variants, which is from 1 to 256.
     #[allow(clippy::len_without_is_empty)]
     #[must_use]
     #[inline]
@@ -309,20 +321,22 @@ impl<'a> UnionVariants<'a> {
         self.dtype.parts()?.all(|types, count| ffi::union_types(self.dtype.slot(), types, count))
     }
 
-    /// Returns the name of the variant at this index, or `None` if the index isn't below the number of variants.
+    /// Returns the name of the variant at this index, which is counted from 0, or `None` if the index isn't below the
+    /// number of variants.
     #[must_use]
     #[inline]
     pub fn variant_name(&self, index: usize) -> Option<&'a str> {
         or_abort(self.try_variant_name(index))
     }
 
-    /// Returns what [`UnionVariants::variant_name`] returns, or [`ErrorKind::OutOfMemory`].
+    /// Returns what [`UnionVariants::variant_name`] returns, or [`ErrorKind::OutOfMemory`] (0) if memory runs out.
     #[inline]
     pub fn try_variant_name(&self, index: usize) -> Result<Option<&'a str>, Error> {
         Ok(self.try_names()?.get(index))
     }
 
-    /// Returns the names of the variants, in their order.
+    /// Returns the names of the variants, in their order. They are read from the library together, before the first is
+    /// yielded.
     #[inline]
     pub fn names(self) -> impl ExactSizeIterator<Item = &'a str> + DoubleEndedIterator + use<'a> {
         let names = or_abort(self.try_names());
@@ -335,19 +349,19 @@ impl<'a> UnionVariants<'a> {
         (0..self.len()).filter_map(|index| self.child_index_to_tag(index)).collect()
     }
 
-    /// Returns the index of the variant of this name, counted from 0, or `None` if no variant has the name.
+    /// Returns the index of the variant with this name, counted from 0, or `None` if no variant has the name.
     #[must_use]
     pub fn find(&self, name: &str) -> Option<usize> {
         or_abort(value(|index| ffi::union_find(self.dtype.slot(), name.as_bytes(), index)))
     }
 
-    /// Returns the type of the variant of the name, or `None` if no variant has the name.
+    /// Returns the type of the variant with this name, or `None` if no variant has the name.
     #[must_use]
     pub fn variant(&self, name: &str) -> Option<&'a DType> {
         or_abort(self.try_variant(name))
     }
 
-    /// Returns what [`UnionVariants::variant`] returns, or [`ErrorKind::OutOfMemory`].
+    /// Returns what [`UnionVariants::variant`] returns, or [`ErrorKind::OutOfMemory`] (0) if memory runs out.
     pub fn try_variant(&self, name: &str) -> Result<Option<&'a DType>, Error> {
         match self.find(name) {
             Some(index) => self.try_variant_by_index(index),
@@ -355,14 +369,15 @@ impl<'a> UnionVariants<'a> {
         }
     }
 
-    /// Returns the type of the variant at this index, or `None` if the index isn't below the number of variants.
+    /// Returns the type of the variant at this index, which is counted from 0, or `None` if the index isn't below the
+    /// number of variants.
     #[must_use]
     #[inline]
     pub fn variant_by_index(&self, index: usize) -> Option<&'a DType> {
         or_abort(self.try_variant_by_index(index))
     }
 
-    /// Returns what [`UnionVariants::variant_by_index`] returns, or [`ErrorKind::OutOfMemory`].
+    /// Returns what [`UnionVariants::variant_by_index`] returns, or [`ErrorKind::OutOfMemory`] (0) if memory runs out.
     #[inline]
     pub fn try_variant_by_index(&self, index: usize) -> Result<Option<&'a DType>, Error> {
         self.dtype.parts()?.at(index, |out| ffi::union_variant_by_index(self.dtype.slot(), index, out))
@@ -380,19 +395,20 @@ impl<'a> UnionVariants<'a> {
         self.names().zip(self.variants())
     }
 
-    /// Returns the index of the variant that has the tag, or `None` if no variant has it.
+    /// Returns the index of the variant with this tag, counted from 0, or `None` if no variant has the tag.
     #[must_use]
     pub fn tag_to_child_index(&self, tag: u8) -> Option<usize> {
         or_abort(value(|index| ffi::union_tag_to_child_index(self.dtype.slot(), tag, index)))
     }
 
-    /// Returns the tag of the variant at this index, or `None` if the index isn't below the number of variants.
+    /// Returns the tag of the variant at this index, which is counted from 0, or `None` if the index isn't below the
+    /// number of variants.
     #[must_use]
     pub fn child_index_to_tag(&self, index: usize) -> Option<u8> {
         or_abort(value(|tag| ffi::union_child_index_to_tag(self.dtype.slot(), index, tag)))
     }
 
-    /// Returns whether the tags are 0, 1, 2 and so on, in order.
+    /// Returns whether the tags are 0, 1, 2 and so on in the order of the variants.
     ///
     /// ```
     /// # use vortex_logical_types::DType;
@@ -423,34 +439,34 @@ pub struct MapDType<'a> {
 }
 
 impl<'a> MapDType<'a> {
-    /// Returns the type of the keys.
+    /// Returns the key type of the map.
     #[must_use]
     #[inline]
     pub fn key_dtype(&self) -> &'a DType {
         or_abort(self.try_key_dtype())
     }
 
-    /// Returns the type of the keys, or [`ErrorKind::OutOfMemory`].
+    /// Returns what [`MapDType::key_dtype`] returns, or [`ErrorKind::OutOfMemory`] (0) if memory runs out.
     #[inline]
     pub fn try_key_dtype(&self) -> Result<&'a DType, Error> {
         self.dtype.parts()?.first(|out| ffi::dtype_key(self.dtype.slot(), out))
     }
 
-    /// Returns the type of the values.
+    /// Returns the value type of the map.
     #[must_use]
     #[inline]
     pub fn value_dtype(&self) -> &'a DType {
         or_abort(self.try_value_dtype())
     }
 
-    /// Returns the type of the values, or [`ErrorKind::OutOfMemory`].
+    /// Returns what [`MapDType::value_dtype`] returns, or [`ErrorKind::OutOfMemory`] (0) if memory runs out.
     #[inline]
     pub fn try_value_dtype(&self) -> Result<&'a DType, Error> {
         self.dtype.parts()?.second(|out| ffi::dtype_value(self.dtype.slot(), out))
     }
 
-    /// Returns the type of the entries: a non-nullable struct with the fields `key` and `value`. For example, for
-    /// `map(utf8, i32?, keys_sorted=true)` it is `{key=utf8, value=i32?}`.
+    /// Returns the type of the entries of the map: the non-nullable struct with the fields `key` and `value`. For
+    /// example, for `map(utf8, i32?, keys_sorted=true)` it is `{key=utf8, value=i32?}`.
     ///
     /// ```
     /// # use vortex_logical_types::DType;
@@ -461,12 +477,12 @@ impl<'a> MapDType<'a> {
     /// ```
     ///
     /// # Errors
-    /// [`ErrorKind::OutOfMemory`].
+    /// - [`ErrorKind::OutOfMemory`] (0) if memory runs out
     pub fn entries_dtype(&self) -> Result<DType, Error> {
         made(|out| ffi::dtype_entries(self.dtype.slot(), out)).and_then(DType::of)
     }
 
-    /// Returns whether the keys of each map are declared sorted.
+    /// Returns whether the keys of each map are declared to be sorted, which nothing checks.
     #[must_use]
     pub fn keys_sorted(&self) -> bool {
         holds(ffi::dtype_keys_sorted(self.dtype.slot()))
@@ -490,27 +506,27 @@ pub struct ExtDTypeRef<'a> {
 }
 
 impl<'a> ExtDTypeRef<'a> {
-    /// Returns the id.
+    /// Returns the id of the extension.
     #[must_use]
     #[inline]
     pub fn id(&self) -> &'a str {
         or_abort(self.try_id())
     }
 
-    /// Returns the id, or [`ErrorKind::OutOfMemory`].
+    /// Returns what [`ExtDTypeRef::id`] returns, or [`ErrorKind::OutOfMemory`] (0) if memory runs out.
     #[inline]
     pub fn try_id(&self) -> Result<&'a str, Error> {
         self.dtype.parts()?.id(|buffer, length| ffi::dtype_id(self.dtype.slot(), buffer, length))
     }
 
-    /// Returns the bytes of the metadata.
+    /// Returns the metadata of the extension. It is any number of bytes, also none.
     #[must_use]
     #[inline]
     pub fn metadata_bytes(&self) -> &'a [u8] {
         or_abort(self.try_metadata_bytes())
     }
 
-    /// Returns the bytes of the metadata, or [`ErrorKind::OutOfMemory`].
+    /// Returns what [`ExtDTypeRef::metadata_bytes`] returns, or [`ErrorKind::OutOfMemory`] (0) if memory runs out.
     #[inline]
     pub fn try_metadata_bytes(&self) -> Result<&'a [u8], Error> {
         remembered(&self.dtype.parts()?.metadata, || {
@@ -520,14 +536,14 @@ impl<'a> ExtDTypeRef<'a> {
         .map(Vec::as_slice)
     }
 
-    /// Returns the type in which values are stored.
+    /// Returns the storage type of the extension, which is the type in which its values are stored.
     #[must_use]
     #[inline]
     pub fn storage_dtype(&self) -> &'a DType {
         or_abort(self.try_storage_dtype())
     }
 
-    /// Returns the type in which values are stored, or [`ErrorKind::OutOfMemory`].
+    /// Returns what [`ExtDTypeRef::storage_dtype`] returns, or [`ErrorKind::OutOfMemory`] (0) if memory runs out.
     #[inline]
     pub fn try_storage_dtype(&self) -> Result<&'a DType, Error> {
         self.dtype.parts()?.first(|out| ffi::dtype_storage(self.dtype.slot(), out))
@@ -539,8 +555,8 @@ fn are_equal_inside(one: &DType, other: &DType) -> bool {
     if one.nullability() == other.nullability() { one == other } else { one.as_nullable() == other.as_nullable() }
 }
 
-/// Two views are equal if they have the same fields: the same names and types, in the same order. The nullability of the
-/// struct isn't compared.
+/// Two views are equal if they have the same fields: the same names and types, in the same order. The nullability of
+/// the struct isn't compared.
 impl PartialEq for StructFields<'_> {
     fn eq(&self, other: &StructFields<'_>) -> bool {
         are_equal_inside(self.dtype, other.dtype)
@@ -549,8 +565,8 @@ impl PartialEq for StructFields<'_> {
 
 impl Eq for StructFields<'_> {}
 
-/// Two views are equal if they have the same variants: the same names, types and tags, in the same order. The nullability
-/// of the union isn't compared.
+/// Two views are equal if they have the same variants: the same names, types and tags, in the same order. The
+/// nullability of the union isn't compared.
 impl PartialEq for UnionVariants<'_> {
     fn eq(&self, other: &UnionVariants<'_>) -> bool {
         are_equal_inside(self.dtype, other.dtype)
@@ -559,8 +575,8 @@ impl PartialEq for UnionVariants<'_> {
 
 impl Eq for UnionVariants<'_> {}
 
-/// Two views are equal if they have the same key and value types, and both or none have sorted keys. The nullability of the
-/// map isn't compared.
+/// Two views are equal if they have the same key and value types, and both or none have sorted keys. The nullability of
+/// the map isn't compared.
 impl PartialEq for MapDType<'_> {
     fn eq(&self, other: &MapDType<'_>) -> bool {
         are_equal_inside(self.dtype, other.dtype)

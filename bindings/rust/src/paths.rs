@@ -15,8 +15,8 @@ use std::hash::{Hash, Hasher};
 use std::str::FromStr;
 use std::sync::OnceLock;
 
-/// A step of a path: into a field of a struct, or into the element of a list. The element is before all names, and names
-/// are ordered by their bytes.
+/// A step of a path: into a field of a struct, or into the element of a list. The element is before all names, and
+/// names are ordered by their bytes.
 ///
 /// ```
 /// use vortex_logical_types::{Field, field_path};
@@ -33,7 +33,7 @@ pub enum Field {
 }
 
 impl Field {
-    /// Returns the name, or `None` if it is the step into the element.
+    /// Returns the name, or `None` if it is the step to the element.
     #[must_use]
     pub fn as_name(&self) -> Option<&str> {
         match self {
@@ -42,7 +42,7 @@ impl Field {
         }
     }
 
-    /// Returns whether it is a name.
+    /// Returns whether it is the step to a field, which has a name.
     #[must_use]
     pub fn is_named(&self) -> bool {
         self.as_name().is_some()
@@ -72,12 +72,14 @@ impl fmt::Display for Field {
     }
 }
 
+/// The step to the field with this name.
 impl From<&str> for Field {
     fn from(name: &str) -> Field {
         Field::Name(name.to_owned())
     }
 }
 
+/// The step to the field with this name.
 impl From<String> for Field {
     fn from(name: String) -> Field {
         Field::Name(name)
@@ -133,36 +135,37 @@ impl FieldPath {
         &self.whole.slot
     }
 
-    /// Returns the path of no step.
+    /// Returns the root, which is the path without steps.
     #[must_use]
     pub fn root() -> FieldPath {
         or_abort(FieldPath::try_root())
     }
 
-    /// Returns the path of no step, or [`ErrorKind::OutOfMemory`].
+    /// Returns what [`FieldPath::root`] returns, or [`ErrorKind::OutOfMemory`] (0) if memory runs out.
     pub fn try_root() -> Result<FieldPath, Error> {
         made(ffi::path_root).and_then(FieldPath::of)
     }
 
-    /// Returns the path of one step, into the field of this name.
+    /// Returns the path of one step, which is the step to the field with this name. The name may contain any
+    /// characters. For example, the path of the name `a.b` has one step, and not two.
     #[must_use]
     pub fn from_name(name: &str) -> FieldPath {
         or_abort(FieldPath::try_from_name(name))
     }
 
-    /// Returns the path of one step, into the field of this name, or [`ErrorKind::OutOfMemory`].
+    /// Returns what [`FieldPath::from_name`] returns, or [`ErrorKind::OutOfMemory`] (0) if memory runs out.
     pub fn try_from_name(name: &str) -> Result<FieldPath, Error> {
         FieldPath::of_steps(name.as_bytes(), &[name.len()])
     }
 
-    /// Returns the path of one step.
+    /// Returns the path of this one step.
     #[must_use]
     pub fn from_field(field: impl Into<Field>) -> FieldPath {
         or_abort(FieldPath::try_from_iter([field.into()]))
     }
 
-    /// Returns the path of these steps, or [`ErrorKind::OutOfMemory`]. All items are taken from the iterator before the library
-    /// is called.
+    /// Returns the path of these steps, or [`ErrorKind::OutOfMemory`] (0) if memory runs out. All items are taken from
+    /// the iterator before the library is called.
     pub fn try_from_iter(parts: impl IntoIterator<Item = impl Into<Field>>) -> Result<FieldPath, Error> {
         let mut steps = Names::default();
         for part in parts {
@@ -189,14 +192,14 @@ impl FieldPath {
         made(|out| ffi::path_from_steps(names, lengths, out)).and_then(FieldPath::of)
     }
 
-    /// Returns the steps. They are remembered from the first call, which allocates.
+    /// Returns the steps, from the root on. They are made at the first call, which allocates, and are remembered.
     #[must_use]
     #[inline]
     pub fn parts(&self) -> &[Field] {
         or_abort(self.try_parts())
     }
 
-    /// Returns the steps, or [`ErrorKind::OutOfMemory`].
+    /// Returns what [`FieldPath::parts`] returns, or [`ErrorKind::OutOfMemory`] (0) if memory runs out.
     #[inline]
     pub fn try_parts(&self) -> Result<&[Field], Error> {
         remembered(&self.whole.steps, || {
@@ -214,13 +217,13 @@ impl FieldPath {
         calls::step_found(|buffer, length| ffi::path_step(self.slot(), 0, buffer, length))
     }
 
-    /// Returns the steps, from the root on. `parts` returns the same as a slice.
+    /// Returns an iterator over the steps, from the root on, which [`FieldPath::parts`] returns as a slice.
     #[inline]
     pub fn iter(&self) -> std::slice::Iter<'_, Field> {
         self.parts().iter()
     }
 
-    /// Returns the path with the steps of `other` behind its own.
+    /// Returns the path of the steps of this path followed by those of `other`.
     ///
     /// ```
     /// # use vortex_logical_types::field_path;
@@ -231,12 +234,12 @@ impl FieldPath {
         or_abort(self.try_join(other))
     }
 
-    /// Returns what [`FieldPath::join`] returns, or [`ErrorKind::OutOfMemory`].
+    /// Returns what [`FieldPath::join`] returns, or [`ErrorKind::OutOfMemory`] (0) if memory runs out.
     pub fn try_join(&self, other: &FieldPath) -> Result<FieldPath, Error> {
         FieldPath::of_parts(self.try_parts()?.iter().chain(other.try_parts()?))
     }
 
-    /// Returns the path without its last step, or `None` for the root.
+    /// Returns the path without its last step, or `None` if the path is the root, which has no steps.
     ///
     /// ```
     /// # use vortex_logical_types::{FieldPath, field_path};
@@ -248,7 +251,7 @@ impl FieldPath {
         or_abort(self.try_parent())
     }
 
-    /// Returns what [`FieldPath::parent`] returns, or [`ErrorKind::OutOfMemory`].
+    /// Returns what [`FieldPath::parent`] returns, or [`ErrorKind::OutOfMemory`] (0) if memory runs out.
     pub fn try_parent(&self) -> Result<Option<FieldPath>, Error> {
         match self.try_parts()?.split_last() {
             Some((_, parts)) => FieldPath::of_parts(parts.iter()).map(Some),
@@ -269,7 +272,7 @@ impl FieldPath {
         other.len() <= self.len() && self.overlap(other)
     }
 
-    /// Returns whether there is no step, as [`FieldPath::is_root`] does.
+    /// Returns whether the path is the root, which has no steps, as [`FieldPath::is_root`] does.
     #[must_use]
     #[inline]
     pub fn is_empty(&self) -> bool {
@@ -283,20 +286,21 @@ impl FieldPath {
         self.whole.length
     }
 
-    /// Returns whether there is no step.
+    /// Returns whether the path is the root, which has no steps.
     #[must_use]
     #[inline]
     pub fn is_root(&self) -> bool {
         self.is_empty()
     }
 
-    /// Returns the path with one more step.
+    /// Returns the path with one more step at its end: a step to the field with this name, or the step to the element
+    /// of a list.
     #[must_use]
     pub fn push(self, field: impl Into<Field>) -> FieldPath {
         or_abort(self.try_push(field))
     }
 
-    /// Returns the path with one more step, or [`ErrorKind::OutOfMemory`].
+    /// Returns what [`FieldPath::push`] returns, or [`ErrorKind::OutOfMemory`] (0) if memory runs out.
     pub fn try_push(&self, field: impl Into<Field>) -> Result<FieldPath, Error> {
         match field.into() {
             Field::Name(name) => made(|out| ffi::path_push_name(self.slot(), name.as_bytes(), out)),
@@ -305,7 +309,8 @@ impl FieldPath {
         .and_then(FieldPath::of)
     }
 
-    /// Returns whether the first step is this name. For the root it returns false.
+    /// Returns true if the first step of the path is the step to the field with this name. Returns false if it is the
+    /// step to another field, or if the path is the root.
     ///
     /// ```
     /// # use vortex_logical_types::{FieldPath, field_path};
@@ -315,12 +320,12 @@ impl FieldPath {
     /// ```
     ///
     /// # Errors
-    /// [`ErrorKind::Precondition`] if the first step is the element.
+    /// [`ErrorKind::Precondition`] if the first step is the step to the element
     pub fn starts_with_name(&self, name: &str) -> Result<bool, Error> {
         calls::done(ffi::path_starts_with_name(self.slot(), name.as_bytes()))
     }
 
-    /// Returns the path without its first step, or `None` for the root, which has no step.
+    /// Returns the path without its first step, or `None` if the path is the root, which has no steps.
     ///
     /// ```
     /// # use vortex_logical_types::{FieldPath, field_path};
@@ -332,14 +337,15 @@ impl FieldPath {
         or_abort(self.try_step_into())
     }
 
-    /// Returns what [`FieldPath::step_into`] returns, or [`ErrorKind::OutOfMemory`].
+    /// Returns what [`FieldPath::step_into`] returns, or [`ErrorKind::OutOfMemory`] (0) if memory runs out.
     pub fn try_step_into(&self) -> Result<Option<FieldPath>, Error> {
         found(|out| ffi::path_step_into(self.slot(), out))?.map(FieldPath::of).transpose()
     }
 
-    /// Returns the type at the path, or `None` if the path doesn't exist in the type. The root leads to the whole type, a name
-    /// to the first field of this name in a struct, and the element to the element type of a list. Nullability on the way
-    /// changes nothing.
+    /// Returns the type at the path in the type `dtype`. The root leads to the whole type, a name to the first field
+    /// with this name in a struct, and the element to the element type of a list or of a fixed-size list. No step leads
+    /// into a type of another kind. The nullability of the types on the way doesn't matter. Returns `None` if there is
+    /// no type at the path.
     ///
     /// ```
     /// # use vortex_logical_types::{DType, field_path};
@@ -353,18 +359,19 @@ impl FieldPath {
         or_abort(self.try_resolve(dtype))
     }
 
-    /// Returns what [`FieldPath::resolve`] returns, or [`ErrorKind::OutOfMemory`].
+    /// Returns what [`FieldPath::resolve`] returns, or [`ErrorKind::OutOfMemory`] (0) if memory runs out.
     pub fn try_resolve(&self, dtype: &DType) -> Result<Option<DType>, Error> {
         DType::of_found(found(|out| ffi::path_resolve(dtype.slot(), self.slot(), out))?)
     }
 
-    /// Returns whether there is a type at the path.
+    /// Returns whether there is a type at the path in the type `dtype`. [`FieldPath::resolve`] explains where a path
+    /// leads.
     #[must_use]
     pub fn exists_in(&self, dtype: &DType) -> bool {
         holds(ffi::path_exists_in(dtype.slot(), self.slot()))
     }
 
-    /// Returns whether one of the paths is a prefix of the other.
+    /// Returns whether one of the two paths is a prefix of the other, which is also true of equal paths.
     ///
     /// ```
     /// # use vortex_logical_types::field_path;
@@ -382,22 +389,25 @@ impl FieldPath {
         Ok(self.clone())
     }
 
-    /// Returns the console's text of the path, from which [`FromStr`] reads the same path: `a.[].b`, or `.` for the root.
+    /// Returns the text of the path in the form of the console, from which [`FromStr`] reads the same path, such as
+    /// `a.[].b`, or `.` for the root.
     #[must_use]
     pub fn to_source(&self) -> String {
         or_abort(self.try_to_source())
     }
 
-    /// Returns the console's text of the path, or [`ErrorKind::OutOfMemory`].
+    /// Returns what [`FieldPath::to_source`] returns, or [`ErrorKind::OutOfMemory`] (0) if memory runs out.
     pub fn try_to_source(&self) -> Result<String, Error> {
         calls::text(|buffer, length| ffi::path_to_text(self.slot(), buffer, length))
     }
 }
 
-/// Reads the console's text of a path, such as `a.[]."b c"`, or `.` for the root.
+/// Reads a path from its text in the form of the console, such as `a.[]."b c"`, or `.` for the root.
 ///
 /// # Errors
-/// [`ErrorKind::Unreadable`] with the position, and [`ErrorKind::OutOfMemory`].
+/// - [`ErrorKind::Unreadable`] if the text isn't spelled like a path, with the position of the byte, counted from 1, at
+///   which something else was expected, and with what was expected there
+/// - [`ErrorKind::OutOfMemory`] (0) if memory runs out
 impl FromStr for FieldPath {
     type Err = Error;
 
@@ -406,13 +416,15 @@ impl FromStr for FieldPath {
     }
 }
 
-/// The text that the library displays, such as `$a.[].$b`.
+/// The text that the library displays, such as `$a.[].$b`. [`FromStr`] doesn't read this form. It reads the one that
+/// [`FieldPath::to_source`] returns.
 impl fmt::Display for FieldPath {
     fn fmt(&self, f: &mut fmt::Formatter<'_>) -> fmt::Result {
         f.pad(&calls::text(|buffer, length| ffi::path_display(self.slot(), buffer, length)).map_err(|_| fmt::Error)?)
     }
 }
 
+/// The text in the form of the console, with the name of the Rust type around it, such as `FieldPath(a.[].b)`.
 impl fmt::Debug for FieldPath {
     fn fmt(&self, f: &mut fmt::Formatter<'_>) -> fmt::Result {
         write!(f, "FieldPath({})", self.try_to_source().map_err(|_| fmt::Error)?)
@@ -450,6 +462,7 @@ impl<'a> IntoIterator for &'a FieldPath {
     }
 }
 
+/// Reads a path from its text. The errors are those of [`FromStr`].
 impl TryFrom<&str> for FieldPath {
     type Error = Error;
 
@@ -464,6 +477,7 @@ impl Hash for FieldPath {
     }
 }
 
+/// The path of this one step.
 impl From<Field> for FieldPath {
     fn from(field: Field) -> FieldPath {
         FieldPath::from_field(field)

@@ -1,7 +1,8 @@
 // SPDX-License-Identifier: Apache-2.0
 // SPDX-FileCopyrightText: Copyright the Vortex contributors
 
-//! Values without parts: nullability, primitive types, decimals, kinds of types. They are plain Rust, and no call is made.
+//! Values without parts: nullability, primitive types, decimals, kinds of types. They are plain Rust, and no call is
+//! made.
 use crate::error::Error;
 #[cfg(doc)]
 use crate::error::ErrorKind;
@@ -34,12 +35,14 @@ impl Nullability {
     }
 }
 
+/// `Nullable` for true, and `NonNullable` for false.
 impl From<bool> for Nullability {
     fn from(is_nullable: bool) -> Nullability {
         if is_nullable { Nullability::Nullable } else { Nullability::NonNullable }
     }
 }
 
+/// True for `Nullable`, and false for `NonNullable`.
 impl From<Nullability> for bool {
     fn from(nullability: Nullability) -> bool {
         nullability.is_nullable()
@@ -109,7 +112,7 @@ impl PType {
         PType::F64,
     ];
 
-    /// Returns the number that a message has for it, 0 to 10.
+    /// Returns the number that a message has for the primitive type, from 0 to 10.
     #[must_use]
     pub fn number(&self) -> u32 {
         *self as u32
@@ -143,7 +146,7 @@ impl PType {
         self >= PType::F16
     }
 
-    /// Returns how many bytes a value takes.
+    /// Returns the number of bytes that a value takes: 1, 2, 4 or 8.
     #[must_use]
     pub fn byte_width(&self) -> usize {
         match self {
@@ -154,7 +157,7 @@ impl PType {
         }
     }
 
-    /// Returns how many bits a value takes.
+    /// Returns the number of bits that a value takes: 8, 16, 32 or 64.
     #[must_use]
     pub fn bit_width(&self) -> usize {
         self.byte_width() * 8
@@ -202,7 +205,8 @@ fn named<T: Copy + fmt::Display>(all: &[T], text: &str, expected: &str) -> Resul
 /// Reads the name that `Display` writes, such as `u8`.
 ///
 /// # Errors
-/// [`ErrorKind::Unreadable`] at byte 1 if no primitive type has the name.
+/// [`ErrorKind::Unreadable`] with the position 1 if no primitive type has the name, and [`ErrorKind::OutOfMemory`] (0)
+/// if memory runs out for the text of this error
 impl FromStr for PType {
     type Err = Error;
 
@@ -211,6 +215,7 @@ impl FromStr for PType {
     }
 }
 
+/// Reads the name of a primitive type. The errors are those of [`FromStr`].
 impl TryFrom<&str> for PType {
     type Error = Error;
 
@@ -219,8 +224,8 @@ impl TryFrom<&str> for PType {
     }
 }
 
-/// The precision and the scale of a decimal type: how many digits a value has at most, and how many of them are behind the
-/// point.
+/// The precision and the scale of a decimal type: how many digits a value has at most, and how many of them are behind
+/// the point.
 ///
 /// ```
 /// use vortex_logical_types::DType;
@@ -236,14 +241,15 @@ pub struct DecimalDType {
 }
 
 impl DecimalDType {
-    /// Returns the greatest number of digits, from 1 to 76.
+    /// Returns the precision, which is how many digits a value has at most. It is from 1 to 76.
     #[must_use]
     pub fn precision(&self) -> u8 {
         self.precision
     }
 
-    /// Returns the number of digits behind the point. If it is negative, the value is a multiple of a power of ten. For
-    /// example, with the scale -2 it is a multiple of 100.
+    /// Returns the scale, which is how many digits are behind the point. It isn't above the precision, and it may be
+    /// negative: then the value is a multiple of a power of ten. For example, with the scale -2 it is a multiple of
+    /// 100.
     #[must_use]
     pub fn scale(&self) -> i8 {
         self.scale
@@ -331,7 +337,8 @@ impl fmt::Display for Kind {
 /// Reads the name that `Display` writes, such as `list`.
 ///
 /// # Errors
-/// [`ErrorKind::Unreadable`] at byte 1 if no kind has the name.
+/// [`ErrorKind::Unreadable`] with the position 1 if no kind has the name, and [`ErrorKind::OutOfMemory`] (0) if memory
+/// runs out for the text of this error
 impl FromStr for Kind {
     type Err = Error;
 
@@ -340,6 +347,7 @@ impl FromStr for Kind {
     }
 }
 
+/// Reads the name of a kind. The errors are those of [`FromStr`].
 impl TryFrom<&str> for Kind {
     type Error = Error;
 

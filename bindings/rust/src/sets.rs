@@ -37,8 +37,8 @@ use std::sync::OnceLock;
 /// # Ok::<(), vortex_logical_types::Error>(())
 /// ```
 ///
-/// A set isn't an iterator of its own. `for path in &set` yields its paths, and `for path in set.into_cover()` those of its
-/// cover. (In `vortex-array`, `for path in set` yields the cover, which is fewer paths than the set has.)
+/// A set isn't an iterator of its own. `for path in &set` yields its paths, and `for path in set.into_cover()` those of
+/// its cover. (In `vortex-array`, `for path in set` yields the cover, which is fewer paths than the set has.)
 ///
 /// ```compile_fail,E0277
 /// # use vortex_logical_types::FieldPathSet;
@@ -92,31 +92,32 @@ impl FieldPathSet {
         or_abort(FieldPathSet::try_new())
     }
 
-    /// Returns the empty set, or [`ErrorKind::OutOfMemory`].
+    /// Returns the empty set, or [`ErrorKind::OutOfMemory`] (0) if memory runs out.
     pub fn try_new() -> Result<FieldPathSet, Error> {
         made(ffi::set_new).map(FieldPathSet::of)
     }
 
-    /// Returns the set of these paths, or [`ErrorKind::OutOfMemory`]. All items are taken from the iterator before the first
-    /// path is inserted.
+    /// Returns the set of these paths, or [`ErrorKind::OutOfMemory`] (0) if memory runs out. All items are taken from
+    /// the iterator before the first path is inserted.
     pub fn try_from_iter(paths: impl IntoIterator<Item = impl Borrow<FieldPath>>) -> Result<FieldPathSet, Error> {
         let mut set = FieldPathSet::try_new()?;
         set.try_extend(paths)?;
         Ok(set)
     }
 
-    /// Inserts a path. If it is there already, nothing changes.
+    /// Inserts the path. If the set contains the path already, nothing changes.
     pub fn insert(&mut self, path: impl Borrow<FieldPath>) {
         or_abort(self.try_insert(path));
     }
 
-    /// Inserts a path. If memory runs out, the call returns [`ErrorKind::OutOfMemory`] and the set is unchanged.
+    /// Inserts the path, as [`FieldPathSet::insert`] does. If memory runs out, the call returns
+    /// [`ErrorKind::OutOfMemory`] (0), and the set is unchanged.
     pub fn try_insert(&mut self, path: impl Borrow<FieldPath>) -> Result<(), Error> {
         inserted(ffi::set_insert(self.changed(), path.borrow().slot()))
     }
 
-    /// Inserts paths in order, after the iterator has yielded all of them. If memory runs out, the call returns
-    /// [`ErrorKind::OutOfMemory`], and the paths that were inserted before stay in the set.
+    /// Inserts the paths, in order, after the iterator has yielded all of them. If memory runs out, the call returns
+    /// [`ErrorKind::OutOfMemory`] (0), and the paths that it inserted before stay in the set.
     pub fn try_extend(&mut self, paths: impl IntoIterator<Item = impl Borrow<FieldPath>>) -> Result<(), Error> {
         let mut given = Vec::new();
         for path in paths {
@@ -149,8 +150,8 @@ impl FieldPathSet {
         self.len() == 0
     }
 
-    /// Returns the set of the paths that these texts are, in the form of the console. All items are taken from the iterator
-    /// before the first path is inserted.
+    /// Returns the set of the paths that these texts are, in the form of the console. All items are taken from the
+    /// iterator before the first path is inserted.
     ///
     /// ```
     /// # use vortex_logical_types::FieldPathSet;
@@ -161,7 +162,9 @@ impl FieldPathSet {
     /// ```
     ///
     /// # Errors
-    /// [`ErrorKind::Unreadable`] with the position in the first text that can't be read, and [`ErrorKind::OutOfMemory`].
+    /// - [`ErrorKind::Unreadable`] if a text isn't spelled like a path. The position of the error is one in the first
+    ///   such text.
+    /// - [`ErrorKind::OutOfMemory`] (0) if memory runs out
     pub fn parse(texts: impl IntoIterator<Item = impl AsRef<str>>) -> Result<FieldPathSet, Error> {
         let mut paths = Vec::new();
         for text in texts {
@@ -170,7 +173,8 @@ impl FieldPathSet {
         FieldPathSet::try_from_iter(paths)
     }
 
-    /// Returns whether each path of this set is in `other`.
+    /// Returns whether each path of this set is in `other` too. The paths themselves are compared, and not what they
+    /// select. For example, the set of `a.b` isn't a subset of the set of `a`.
     ///
     /// ```
     /// # use vortex_logical_types::FieldPathSet;
@@ -190,13 +194,14 @@ impl FieldPathSet {
         Ok(self.is_subset(other))
     }
 
-    /// Returns whether each path of `other` is in this set.
+    /// Returns whether each path of `other` is in this set too, as [`FieldPathSet::is_subset`] compares them.
     #[must_use]
     pub fn is_superset(&self, other: &FieldPathSet) -> bool {
         other.is_subset(self)
     }
 
-    /// Returns whether no path is in both sets.
+    /// Returns whether no path is in both sets. The paths themselves are compared, and not what they select. For
+    /// example, the sets of `a` and of `a.b` are disjoint.
     #[must_use]
     pub fn is_disjoint(&self, other: &FieldPathSet) -> bool {
         if ptr::eq(self, other) { self.is_empty() } else { holds(ffi::set_is_disjoint(&self.slot, &other.slot)) }
@@ -207,7 +212,8 @@ impl FieldPathSet {
         Ok(self.is_disjoint(other))
     }
 
-    /// Returns the set of the paths that are in this set, in `other` or in both. `one | other` of references is the same.
+    /// Returns the set of the paths that are in one of the two sets or in both. `one | other` of references is the
+    /// same.
     ///
     /// ```
     /// # use vortex_logical_types::FieldPathSet;
@@ -220,7 +226,7 @@ impl FieldPathSet {
         or_abort(self.try_union(other))
     }
 
-    /// Returns what [`FieldPathSet::union`] returns, or [`ErrorKind::OutOfMemory`].
+    /// Returns what [`FieldPathSet::union`] returns, or [`ErrorKind::OutOfMemory`] (0) if memory runs out.
     pub fn try_union(&self, other: &FieldPathSet) -> Result<FieldPathSet, Error> {
         if ptr::eq(self, other) {
             return self.try_clone();
@@ -228,8 +234,8 @@ impl FieldPathSet {
         made(|out| ffi::set_union(&self.slot, &other.slot, out)).map(FieldPathSet::of)
     }
 
-    /// Returns the paths of the set, each once, in no promised order. They are made at the first call, which allocates, and
-    /// are remembered until a path is inserted.
+    /// Returns the paths of the set, each once, in no particular order. They are made at the first call, which
+    /// allocates, and are remembered until a path is inserted.
     ///
     /// ```
     /// # use vortex_logical_types::{FieldPath, FieldPathSet};
@@ -242,7 +248,7 @@ impl FieldPathSet {
         or_abort(self.try_iter())
     }
 
-    /// Returns the paths of the set, each once, or [`ErrorKind::OutOfMemory`].
+    /// Returns what [`FieldPathSet::iter`] returns, or [`ErrorKind::OutOfMemory`] (0) if memory runs out.
     pub fn try_iter(&self) -> Result<slice::Iter<'_, FieldPath>, Error> {
         let members = remembered(&self.members, || {
             let mut paths = made(|out| ffi::set_members(&self.slot, out)).map(Paths::of)?;
@@ -255,8 +261,9 @@ impl FieldPathSet {
         Ok(members.iter())
     }
 
-    /// Returns the cover, in no promised order: those paths of the set of which no other path of the set is a prefix. For
-    /// example, the cover of `a.b`, `x` and `a` is `a` and `x`.
+    /// Returns the cover of the set. The cover contains those paths of the set of which no other path of the set is a
+    /// prefix. For example, the cover of `a.b`, `x` and `a` contains `a` and `x`. Each path is returned once, in no
+    /// particular order.
     ///
     /// ```
     /// # use vortex_logical_types::FieldPathSet;
@@ -269,7 +276,7 @@ impl FieldPathSet {
         or_abort(self.try_cover())
     }
 
-    /// Returns the cover, or [`ErrorKind::OutOfMemory`].
+    /// Returns what [`FieldPathSet::cover`] returns, or [`ErrorKind::OutOfMemory`] (0) if memory runs out.
     pub fn try_cover(&self) -> Result<Paths, Error> {
         made(|out| ffi::set_cover(&self.slot, out)).map(Paths::of)
     }
@@ -288,7 +295,7 @@ impl FieldPathSet {
         self.cover()
     }
 
-    /// Returns the paths of the set that don't exist in the type, in no promised order.
+    /// Returns those paths of the set that don't exist in the type `dtype`, each once, in no particular order.
     ///
     /// ```
     /// # use vortex_logical_types::{DType, FieldPathSet};
@@ -301,13 +308,13 @@ impl FieldPathSet {
         or_abort(self.try_unresolved(dtype))
     }
 
-    /// Returns the paths of the set that don't exist in the type, or [`ErrorKind::OutOfMemory`].
+    /// Returns what [`FieldPathSet::unresolved`] returns, or [`ErrorKind::OutOfMemory`] (0) if memory runs out.
     pub fn try_unresolved(&self, dtype: &DType) -> Result<Paths, Error> {
         made(|out| ffi::set_unresolved(&self.slot, dtype.slot(), out)).map(Paths::of)
     }
 
-    /// Returns how the paths of the set continue after this path, or `None` if no path of the set begins with it. Nothing is
-    /// copied.
+    /// Returns how paths of the set continue after this path, or `None` if no path of the set begins with this path.
+    /// Nothing is copied.
     ///
     /// ```
     /// # use vortex_logical_types::{Below, FieldPath, FieldPathSet};
@@ -325,8 +332,8 @@ impl FieldPathSet {
         holds(ffi::set_below(&self.slot, path.slot(), is_end, has_element, name_count)).then_some(below)
     }
 
-    /// Returns the names with which paths of the set continue after this path, or `None` if no path of the set begins with
-    /// it.
+    /// Returns the names with which paths of the set continue after this path, each once, in no particular order, or
+    /// `None` if no path of the set begins with this path.
     ///
     /// ```
     /// # use vortex_logical_types::{FieldPathSet, field_path};
@@ -339,7 +346,7 @@ impl FieldPathSet {
         or_abort(self.try_names_below(path))
     }
 
-    /// Returns what [`FieldPathSet::names_below`] returns, or [`ErrorKind::OutOfMemory`].
+    /// Returns what [`FieldPathSet::names_below`] returns, or [`ErrorKind::OutOfMemory`] (0) if memory runs out.
     pub fn try_names_below(&self, path: &FieldPath) -> Result<Option<Vec<String>>, Error> {
         let Some(paths) = found(|out| ffi::set_names_below(&self.slot, path.slot(), out))?.map(Paths::of) else {
             return Ok(None);
@@ -353,7 +360,7 @@ impl FieldPathSet {
         Ok(Some(names))
     }
 
-    /// Returns a copy, or [`ErrorKind::OutOfMemory`].
+    /// Returns a copy of the set, or [`ErrorKind::OutOfMemory`] (0) if memory runs out.
     pub fn try_clone(&self) -> Result<FieldPathSet, Error> {
         made(|out| ffi::set_copy(&self.slot, out)).map(FieldPathSet::of)
     }
@@ -454,8 +461,8 @@ impl Paths {
         FieldPath::moved(|out| ffi::paths_take(&mut self.list, index, out))
     }
 
-    /// Returns the next path, or `None` at the end. If memory runs out, the call returns [`ErrorKind::OutOfMemory`], and the
-    /// next call returns the path that this one didn't.
+    /// Takes the next path out of the list and returns it, or returns `None` at the end. If memory runs out, the call
+    /// returns [`ErrorKind::OutOfMemory`] (0), and the next call returns the path that this one didn't.
     pub fn try_next(&mut self) -> Result<Option<FieldPath>, Error> {
         if self.next == self.end {
             return Ok(None);

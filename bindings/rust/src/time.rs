@@ -11,7 +11,8 @@ const DATE: &str = "vortex.date";
 const TIME: &str = "vortex.time";
 const TIMESTAMP: &str = "vortex.timestamp";
 
-/// The unit in which dates, times and timestamps count. The order is that of the numbers, 0 to 4, which their metadata has.
+/// The unit in which dates, times and timestamps count. The order is that of the numbers, 0 to 4, which their metadata
+/// has.
 #[derive(Debug, Clone, Copy, PartialEq, Eq, PartialOrd, Ord, Hash)]
 #[allow(missing_docs)]
 pub enum TimeUnit {
@@ -27,7 +28,7 @@ impl TimeUnit {
     pub const ALL: [TimeUnit; 5] =
         [TimeUnit::Nanoseconds, TimeUnit::Microseconds, TimeUnit::Milliseconds, TimeUnit::Seconds, TimeUnit::Days];
 
-    /// Returns the number that the metadata of an extension has for it, 0 to 4.
+    /// Returns the number that the metadata of an extension has for the unit, from 0 to 4.
     #[must_use]
     pub fn number(&self) -> u8 {
         *self as u8
@@ -109,7 +110,7 @@ fn parts<'a>(extension: &ExtDTypeRef<'a>) -> Result<Option<(TimeUnit, Option<&'a
 }
 
 impl DType {
-    /// Returns the type of dates: `vortex.date` over `i32` for days, or over `i64` for milliseconds.
+    /// Returns the type of dates: the extension `vortex.date` over `i32` for days, or over `i64` for milliseconds.
     ///
     /// ```
     /// use vortex_logical_types::{DType, Nullability::Nullable, TimeUnit};
@@ -121,22 +122,24 @@ impl DType {
     /// ```
     ///
     /// # Errors
-    /// [`ErrorKind::OutOfRange`] for another unit, and [`ErrorKind::OutOfMemory`].
+    /// - [`ErrorKind::OutOfRange`] for another unit
+    /// - [`ErrorKind::OutOfMemory`] (0) if memory runs out
     pub fn date(unit: TimeUnit, nullability: Nullability) -> Result<DType, Error> {
         over(DATE, &[unit.number()], unit.of_dates(), nullability)
     }
 
-    /// Returns the type of times of a day: `vortex.time` over `i32` for seconds and milliseconds, or over `i64` for
-    /// microseconds and nanoseconds.
+    /// Returns the type of times of a day: the extension `vortex.time` over `i32` for seconds and milliseconds, or over
+    /// `i64` for microseconds and nanoseconds.
     ///
     /// # Errors
-    /// [`ErrorKind::OutOfRange`] for days, and [`ErrorKind::OutOfMemory`].
+    /// - [`ErrorKind::OutOfRange`] for days
+    /// - [`ErrorKind::OutOfMemory`] (0) if memory runs out
     pub fn time(unit: TimeUnit, nullability: Nullability) -> Result<DType, Error> {
         over(TIME, &[unit.number()], unit.of_times(), nullability)
     }
 
-    /// Returns the type of timestamps, `vortex.timestamp` over `i64`, with a time zone such as `Europe/Berlin` or `+01:00`. The
-    /// empty text stands for no time zone.
+    /// Returns the type of timestamps, the extension `vortex.timestamp` over `i64`, with a time zone such as
+    /// `Europe/Berlin` or `+01:00`. The empty text stands for no time zone.
     ///
     /// ```
     /// use vortex_logical_types::{DType, Nullability::NonNullable, TimeUnit};
@@ -147,7 +150,8 @@ impl DType {
     /// ```
     ///
     /// # Errors
-    /// [`ErrorKind::OutOfRange`] for days, and for a time zone of more than 65,535 bytes; and [`ErrorKind::OutOfMemory`].
+    /// - [`ErrorKind::OutOfRange`] for days, and for a time zone of more than 65,535 bytes
+    /// - [`ErrorKind::OutOfMemory`] (0) if memory runs out
     pub fn timestamp(unit: TimeUnit, zone: &str, nullability: Nullability) -> Result<DType, Error> {
         let length = u16::try_from(zone.len()).map_err(|_| ErrorKind::OutOfRange)?;
         let mut metadata = reserved(3 + zone.len())?;
@@ -165,7 +169,7 @@ impl DType {
         crate::calls::or_abort(self.try_time_unit())
     }
 
-    /// Returns what [`DType::time_unit`] returns, or [`ErrorKind::OutOfMemory`].
+    /// Returns what [`DType::time_unit`] returns, or [`ErrorKind::OutOfMemory`] (0) if memory runs out.
     pub fn try_time_unit(&self) -> Result<Option<TimeUnit>, Error> {
         Ok(self.time_parts()?.map(|(unit, _)| unit))
     }
@@ -177,7 +181,7 @@ impl DType {
         crate::calls::or_abort(self.try_time_zone())
     }
 
-    /// Returns what [`DType::time_zone`] returns, or [`ErrorKind::OutOfMemory`].
+    /// Returns what [`DType::time_zone`] returns, or [`ErrorKind::OutOfMemory`] (0) if memory runs out.
     pub fn try_time_zone(&self) -> Result<Option<&str>, Error> {
         Ok(self.time_parts()?.and_then(|(_, zone)| zone))
     }

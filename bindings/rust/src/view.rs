@@ -10,7 +10,8 @@ use crate::error::ErrorKind;
 use crate::parts::{ExtDTypeRef, MapDType, StructFields, UnionVariants};
 use crate::scalars::{DecimalDType, Kind, Nullability, PType};
 
-/// What a type is, with its parts by reference, from [`DType::view`]. The variants are those of `DType` in `vortex-array`.
+/// What a type is, with its parts by reference, from [`DType::view`]. The variants are those of `DType` in
+/// `vortex-array`.
 ///
 /// ```
 /// use vortex_logical_types::{DType, Nullability, View};
@@ -59,14 +60,16 @@ pub enum View<'a> {
 }
 
 impl DType {
-    /// Returns what the type is, with its parts by reference, so that one can match it.
+    /// Returns what the type is, with its parts by reference, so that one can match it. The nullability that a variant
+    /// of the view has is the outer nullability of the type.
     #[must_use]
     #[inline]
     pub fn view(&self) -> View<'_> {
         or_abort(self.try_view())
     }
 
-    /// Returns what the type is, or [`ErrorKind::OutOfMemory`]. Only the view of a list allocates, and only the first time.
+    /// Returns what [`DType::view`] returns, or [`ErrorKind::OutOfMemory`] (0) if memory runs out. Only the view of a
+    /// list allocates, and only the first time.
     #[inline]
     pub fn try_view(&self) -> Result<View<'_>, Error> {
         let n = self.nullability();

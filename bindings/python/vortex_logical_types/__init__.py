@@ -12,13 +12,13 @@ DType('{id=u64, lines=list({sku=utf8})}')
 >>> sorted(path.to_source() for path in wanted.cover())
 ['id', 'lines.[]']
 
-A type or a path is made from its text in the *form of the console*, a program of this library. `to_source` returns the text
-in this form, and `repr` shows it in quotes, so `DType(dtype.to_source()) == dtype`. Where a docstring speaks of the text of
-a type or path, it means this one. `str` returns the text that the proved library prints, which may not be read back. For
-example, `str` shows a name that contains a comma without quotes.
+A type or a path is made from its text in the *form of the console*, a program of this library. `to_source` returns the
+text in this form, and `repr` shows it in quotes, so `DType(dtype.to_source()) == dtype`. Where a docstring speaks of
+the text of a type or path, it means this one. `str` returns the text that the proved library prints, which may not be
+read back. For example, `str` shows a name that contains a comma without quotes.
 
-In the form of the console, a type is written in one of these ways. A `?` behind a type makes it nullable. `null`, which is
-always nullable, and extensions, which have the nullability of their storage type, never have one.
+In the form of the console, a type is written in one of these ways. A `?` behind a type makes it nullable. `null`, which
+is always nullable, and extensions, which have the nullability of their storage type, never have one.
 
     null, bool, utf8, binary, variant, u8 to u64, i8 to i64, f16, f32, f64
     decimal(10,-2)                      a decimal with its precision and scale
@@ -32,20 +32,22 @@ always nullable, and extensions, which have the nullability of their storage typ
 
 Blanks, ends of lines and comments, which go from `#` to the end of the line, may stand between the parts of a type.
 
-A path is steps with a `.` between them, each a name or `[]` for the element of a list, such as `lines.[].sku`. The root is
-`.` alone. A name that consists of letters, digits, `_` and characters beyond ASCII is written without quotes, and any other
-in double quotes. So is a name with a typographic quote, or with one of the characters beyond ASCII that a list of the
-library calls special, such as a no-break space. In quotes a backslash begins an escape: one of two quotes, a tab, a newline,
-a carriage return or a backslash, as in Python, or `x` with the two hexadecimal digits of a byte.
+A path is steps with a `.` between them, each a name or `[]` for the element of a list, such as `lines.[].sku`. The root
+is `.` alone. A name that consists of letters, digits, `_` and characters beyond ASCII is written without quotes, and
+any other in double quotes. So is a name with a typographic quote, or with one of the characters beyond ASCII that a
+list of the library calls special, such as a no-break space. In quotes a backslash begins an escape: one of two quotes,
+a tab, a newline, a carriage return or a backslash, as in Python, or `x` with the two hexadecimal digits of a byte.
 
-A call that the library refuses raises a `VortexError`, whose text is the library's own. The docstring of `VortexError` says
-which class of exceptions comes when, and that of `ErrorKind` lists the kinds with the library's numbers.
+A call that the library refuses raises a `VortexError`, whose text is the library's own. The docstring of `VortexError`
+explains which class of exceptions is raised when, and that of `ErrorKind` lists the kinds with the library's numbers.
+If memory runs out, a call that allocates raises `OutOfMemory` (0), which the docstrings of the calls don't repeat.
 
 >>> orders.project(["id", "note"])
 Traceback (most recent call last):
 vortex_logical_types.FieldNotFound: field 1 of the projection not found: note
 
-An argument of the wrong type raises a `TypeError` that names the parameter.
+An argument of the wrong type raises a `TypeError` that names the parameter, and a text with a lone surrogate raises a
+`UnicodeEncodeError`. The docstrings of the calls don't repeat this either.
 
 Objects may be shared between threads. They can be copied by `copy`, and pickled, for example to send them to another
 process:
@@ -98,8 +100,8 @@ __all__ = [
 
 
 def _make_public() -> None:
-    """Makes each public class tell that it is of this module, from which it is imported. So pickles and tracebacks don't
-    name the modules that the package is made of."""
+    """Makes each public class tell that it is of this module, from which it is imported. So pickles and tracebacks
+    don't name the modules that the package is made of."""
     for it in (globals()[name] for name in __all__):
         for cls in (it, *vars(View).values()) if it is View else (it,):
             if isinstance(cls, type):

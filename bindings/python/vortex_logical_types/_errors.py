@@ -12,8 +12,8 @@ from ._arguments import instance_given, number_given, text_given
 
 
 class ErrorKind(enum.Enum):
-    """The kind of an error. The value of a kind of the library's errors is the library's number, from 0 to 36, and that of
-    a kind of the interface's errors is a text. A kind's text is its name in small letters.
+    """The kind of an error. The value of a kind of the library's errors is the library's number, from 0 to 36, and that
+    of a kind of the interface's errors is a text. A kind's text is its name in small letters.
 
     >>> ErrorKind.FIELD_NOT_FOUND.number, ErrorKind(16), str(ErrorKind.TOO_DEEP), ErrorKind.TOO_DEEP.number
     (16, <ErrorKind.FIELD_NOT_FOUND: 16>, 'too_deep', None)
@@ -122,8 +122,8 @@ class ErrorKind(enum.Enum):
 
 
 class VortexError(Exception):
-    """A call failed. `kind` is the kind of the error, and `number` is the library's number of it, from 0 to 36, or None for
-    an error of the interface. The text of the exception is the library's own text, with its data:
+    """A call failed. `kind` is the kind of the error, and `number` is the library's number of it, from 0 to 36, or None
+    for an error of the interface. The text of the exception is the library's own text, with its data:
 
     >>> try:
     ...     DType("{id=u64, note=utf8?}").project(["id", "x"])
@@ -162,9 +162,9 @@ class OutOfMemory(VortexError, MemoryError):
 
 
 class Unreadable(VortexError, ValueError):
-    """A text can't be read. Its text says what was expected, and `position` is the byte from which the text can't be read
-    on. The bytes of the text in UTF-8 are counted from 1, and the position is one more than their number if the text ends
-    too early.
+    """A text can't be read. Its text says what was expected, and `position` is the byte from which the text can't be
+    read on. The bytes of the text in UTF-8 are counted from 1, and the position is one more than their number if the
+    text ends too early.
 
     >>> try:
     ...     FieldPath("a..b")

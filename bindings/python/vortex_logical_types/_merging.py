@@ -18,9 +18,9 @@ class MergeConflict(ValueError):
     """Why types can't be read as one type: a place, and the two types there. `DType.merge_conflict` returns it, and
     `DType.merge_all` raises it.
 
-    `path` is the path to the place, `left` is the type there in the first type, or in the types that were merged before, and
-    `right` is the type there in the one that doesn't fit. `index` says which of the types that is, counted from 0. Of two
-    types it is 1.
+    `path` is the path to the place, `left` is the type there in the first type, or in the types that were merged
+    before, and `right` is the type there in the one that doesn't fit. `index` says which of the types that is, counted
+    from 0. Of two types it is 1.
 
     >>> try:
     ...     DType.merge_all([DType("{customer={id=u64}}"), DType("{at=i64}"), DType("{customer={id=utf8}}")])

@@ -29,17 +29,18 @@ class FlatMessage(NamedTuple):
 
 
 class Message(Object):
-    """The message of a type. `to_proto` of a type returns one, and `Message(nodes, texts)` makes one of its nodes and of the
-    bytes of their texts. Use it in a program that has decoded the bytes of a message by itself. For example, this is the
-    message of a struct with one name, a text of two bytes, and one type, the primitive type 3:
+    """The message of a type. `to_proto` of a type returns one, and `Message(nodes, texts)` makes one of its nodes and
+    of the bytes of their texts. Use it in a program that has decoded the bytes of a message by itself. For example,
+    this is the message of a struct with one name, a text of two bytes, and one type, the primitive type 3:
 
     >>> nodes = [Node(kind=10, names=1, types=1), Node(kind=14, number=2), Node(kind=3, value=3)]
     >>> message = Message(nodes, b"id")
     >>> DType.from_proto(message), message == DType("{id=u64}").to_proto()
     (DType('{id=u64}'), True)
 
-    It raises `LibraryError`: `OUT_OF_RANGE` if the nodes and texts aren't those of one message, `TOO_DEEP` if a message is
-    nested in more than 128 others, and `NOT_UTF8` if a name or an id isn't UTF-8.
+    Raises `LibraryError`: `NOT_UTF8` if a name or an id isn't UTF-8, `TOO_DEEP` if a message is nested in more than 128
+    others, and `OUT_OF_RANGE` if a node isn't one that a message has at its place, if nodes or bytes end too early, or
+    if some are left. The first fault that is met in the order of the nodes is raised.
     """
 
     __slots__ = ()
@@ -51,14 +52,18 @@ class Message(Object):
 
     @classmethod
     def from_nodes(cls: type[T], nodes: Iterable[Node], texts: bytes) -> T:
-        """Returns the message with these nodes and with the bytes of their texts, as `Message(nodes, texts)` does."""
+        """Returns the message that the nodes and the bytes of the texts describe, as `Message(nodes, texts)` does.
+        Raises `LibraryError`: `NOT_UTF8` if a name or an id isn't UTF-8, `TOO_DEEP` if a message is nested in more than
+        128 others, and `OUT_OF_RANGE` if a node isn't one that a message has at its place, if nodes or bytes end too
+        early, or if some are left."""
         # (The parameters of the class of such an object are those of `Message`.)
         make: Callable[..., T] = cls
         return make(nodes, texts)
 
     @classmethod
     def from_flat(cls: type[T], flat: FlatMessage) -> T:
-        """Returns the message with this flat form. Raises the same errors as `from_nodes`."""
+        """Returns the message that this flat form describes. Raises the same errors as `from_nodes`, and `LibraryError`
+        (`OUT_OF_RANGE`) if `flat.nodes` isn't a whole number of nodes, each of which has 28 bytes."""
         it = instance_given(flat, FlatMessage, "flat")
         nodes, texts = bytes_given(it.nodes, "flat.nodes"), bytes_given(it.texts, "flat.texts")
         count, rest = divmod(len(nodes), ctypes.sizeof(Node))
@@ -67,7 +72,9 @@ class Message(Object):
         return _of_nodes(cls, (Node * count).from_buffer_copy(nodes), texts)
 
     def to_flat(self) -> FlatMessage:
-        """Returns the flat form of the message. `Message.from_flat` makes the same message of it."""
+        """Returns the flat form of the message. `Message.from_flat` makes the same message of it. Raises
+        `LibraryError`: `TOO_DEEP` if a message is nested in more than 128 others, and otherwise `OUT_OF_RANGE` if a
+        number of names, tags, types or bytes of a text is above 2**32 - 1."""
         nodes, texts = (Node * 0)(), ctypes.create_string_buffer(0)
         count, length = ctypes.c_size_t(), ctypes.c_size_t()
         while True:
@@ -80,8 +87,9 @@ class Message(Object):
         return FlatMessage(bytes(nodes), texts.raw)
 
     def normal(self, allow_unknown: bool = False) -> Message:
-        """Returns the message that `to_proto` writes for the type that this message describes. It has every child,
-        flag and number, and the metadata of each extension. Raises the same errors as `DType.from_proto`.
+        """Returns the normal form of the message. If a message describes a type, its normal form is the message that
+        `to_proto` returns for this type. It has every child, flag and number, and the metadata of each extension, even
+        if the metadata is empty. `allow_unknown` and the errors are those of `DType.from_proto`.
 
         For example, this extension has no metadata, and its normal form has metadata of no bytes:
 

@@ -38,7 +38,8 @@ Step = Union[str, Element]
 
 class FieldPath(Object, Sequence[Step]):
     """A path into a type. `FieldPath("a.[].b")` reads a text in the form of the console, in which the root is `.`, and
-    `FieldPath(path)` copies a path.
+    `FieldPath(path)` copies a path. A text that isn't spelled like a path raises `Unreadable` (`UNREADABLE`), whose
+    `position` is the byte, counted from 1, at which something else was expected.
 
     A path is a sequence of steps, each of them a name or `ELEMENT`. `/` appends one step, and a slice is a path:
 
@@ -62,12 +63,13 @@ class FieldPath(Object, Sequence[Step]):
 
     @staticmethod
     def root() -> FieldPath:
-        """Returns the path without steps."""
+        """Returns the root, which is the path without steps."""
         return made(FieldPath, native.vlt_path_root)
 
     @staticmethod
     def from_name(name: str) -> FieldPath:
-        """Returns the path of one step, which is a name. For example, that of `a.b` has one step, and not two."""
+        """Returns the path of one step, which is the step to the field with this name. The name may contain any
+        characters. For example, the path of the name `a.b` has one step, and not two."""
         return FieldPath.from_steps([instance_given(name, str, "name")])
 
     @staticmethod
@@ -82,8 +84,8 @@ class FieldPath(Object, Sequence[Step]):
 
     @staticmethod
     def from_proto(parts: Iterable[Optional[str]]) -> FieldPath:
-        """Returns the path that a path message describes. `parts` has the name in each part of the message, or None
-        for a part without a kind. For such a part it raises `LibraryError` (`PATH_PART_MISSING`).
+        """Returns the path that the message of a path describes. `parts` has the name in each part of the message, or
+        None for a part without a kind. Raises `LibraryError` (`PATH_PART_MISSING`, 36) if a part has no kind.
 
         >>> FieldPath.from_proto(["a", "b"])
         FieldPath('a.b')
@@ -113,8 +115,8 @@ class FieldPath(Object, Sequence[Step]):
     def __getitem__(self, index: slice) -> FieldPath: ...
 
     def __getitem__(self, index: Union[int, slice]) -> Union[Step, FieldPath]:
-        """Returns the step with this index, which is counted from the end if it is negative. Returns a path for a slice.
-        Raises `IndexError` if the path has no such step."""
+        """Returns the step with this index, which is counted from the end if it is negative. Returns a path for a
+        slice. Raises `IndexError` if the path has no such step."""
         if isinstance(index, slice):
             return FieldPath.from_steps(self._steps()[index])
         given, count = number_given(index, "index"), len(self)
@@ -127,21 +129,22 @@ class FieldPath(Object, Sequence[Step]):
 
     @property
     def parts(self) -> list[Step]:
-        """The steps of the path, in order."""
+        """The steps of the path, from the root on, each of them a name or `ELEMENT`."""
         return [*self._steps()]
 
     @property
     def parent(self) -> Optional[FieldPath]:
-        """The path without its last step, or None if it is the root."""
+        """The path without its last step, or None if the path is the root, which has no steps."""
         return None if self.is_root else self[:-1]
 
     @property
     def is_root(self) -> bool:
-        """Whether the path has no steps."""
+        """Whether the path is the root, which has no steps."""
         return len(self) == 0
 
     def push(self, step: Step) -> FieldPath:
-        """Returns the path with one more step at its end.
+        """Returns the path with one more step at its end: a step to the field with this name, or `ELEMENT` for the step
+        to the element of a list.
 
         >>> FieldPath("a").push("b.c")
         FieldPath('a."b.c"')
@@ -155,7 +158,8 @@ class FieldPath(Object, Sequence[Step]):
         return self.push(step) if step is ELEMENT or isinstance(step, str) else NotImplemented
 
     def join(self, other: Union[FieldPath, str]) -> FieldPath:
-        """Returns the path of the steps of both. A text is read, so `path.join("a.b")` appends two steps.
+        """Returns the path of the steps of this path followed by those of `other`. A text is read as `FieldPath(text)`
+        reads it, and raises the same errors. So `path.join("a.b")` appends two steps.
 
         >>> FieldPath("a").join("b.c")
         FieldPath('a.b.c')
@@ -163,7 +167,9 @@ class FieldPath(Object, Sequence[Step]):
         return FieldPath.from_steps([*self._steps(), *path_given(other, "other")])
 
     def starts_with(self, other: Union[FieldPath, str]) -> bool:
-        """Returns whether the other path is a prefix of this one, or the same path.
+        """Returns whether the path begins with the steps of `other`, that is, whether `other` is a prefix of it. Each
+        path begins with the root and with itself. A text is read as `FieldPath(text)` reads it, and raises the same
+        errors.
 
         >>> FieldPath("a.b").starts_with("a"), FieldPath("a.b").starts_with("b")
         (True, False)
@@ -172,7 +178,7 @@ class FieldPath(Object, Sequence[Step]):
         return self._steps()[: len(steps)] == steps
 
     def step_into(self) -> Optional[FieldPath]:
-        """Returns the path without its first step, or None if it is the root.
+        """Returns the path without its first step, or None if the path is the root, which has no steps.
 
         >>> FieldPath("a.b").step_into()
         FieldPath('b')
@@ -180,13 +186,17 @@ class FieldPath(Object, Sequence[Step]):
         return found(FieldPath, native.vlt_path_step_into, self._slot)
 
     def starts_with_name(self, name: str) -> bool:
-        """Returns whether the first step is this name. Raises `LibraryError` (`PRECONDITION`) if that step goes into
-        an element."""
+        """Returns true if the first step of the path is the step to the field with this name. Returns false if it is
+        the step to another field, or if the path is the root. Raises `LibraryError` (`PRECONDITION`) if the first step
+        is the step to the element."""
         given = text_given(name, "name")
         return is_done(native.vlt_path_starts_with_name(self._slot, given, len(given)))
 
     def resolve(self, dtype: DType) -> Optional[DType]:
-        """Returns the type at the path in `dtype`, or None if there is none.
+        """Returns the type at the path in the type `dtype`. The root leads to the whole type, a name to the first field
+        with this name in a struct, and the element to the element type of a list or of a fixed-size list. No step leads
+        into a type of another kind. The nullability of the types on the way doesn't matter. Returns None if there is no
+        type at the path.
 
         >>> FieldPath("a.[].b").resolve(DType("{a=list({b=utf8?})}"))
         DType('utf8?')
@@ -195,12 +205,13 @@ class FieldPath(Object, Sequence[Step]):
         return found(DType, native.vlt_path_resolve, given._slot, self._slot)
 
     def exists_in(self, dtype: DType) -> bool:
-        """Returns whether there is a type at the path in `dtype`."""
+        """Returns whether there is a type at the path in the type `dtype`. The docstring of `resolve` explains where a
+        path leads."""
         given = instance_given(dtype, DType, "dtype")
         return is_done(native.vlt_path_exists_in(given._slot, self._slot))
 
     def overlap(self, other: FieldPath) -> bool:
-        """Returns whether one of the two paths is a prefix of the other.
+        """Returns whether one of the two paths is a prefix of the other, which is also true of equal paths.
 
         >>> FieldPath("a.b").overlap(FieldPath("a")), FieldPath("a.b").overlap(FieldPath("a.c"))
         (True, False)

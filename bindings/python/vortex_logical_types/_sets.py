@@ -38,7 +38,8 @@ class Below(NamedTuple):
 
 
 def _of_sets(operator: Callable[[FieldPathSet, FieldPathSet], R]) -> Callable[[FieldPathSet, object], R]:
-    """Makes an operator of a set take each set of paths, Python's own too, and return NotImplemented for what is none."""
+    """Makes an operator of a set take each set of paths, Python's own too, and return NotImplemented for what is
+    none."""
 
     @functools.wraps(operator)
     def operate(self: FieldPathSet, other: object) -> R:
@@ -52,8 +53,8 @@ def _of_sets(operator: Callable[[FieldPathSet, FieldPathSet], R]) -> Callable[[F
 
 
 class FieldPathSet(Object, AbstractSet[FieldPath]):
-    """A set of paths, for example `FieldPathSet(["a.b", FieldPath.root()])`. Iterating over it yields each of its
-    paths once, in no promised order.
+    """A set of paths, for example `FieldPathSet(["a.b", FieldPath.root()])`. Iterating over it yields each of its paths
+    once, in no particular order.
 
     It is a `collections.abc.Set` that paths can be added to, so it isn't hashable. Paths can't be removed: `difference`
     and `-` make another set. As with Python's own sets, operators take sets, of which each member has to be a
@@ -67,6 +68,9 @@ class FieldPathSet(Object, AbstractSet[FieldPath]):
 
     These are operations on the paths themselves. For example, the sets of `a` and of `a.x` are disjoint, although each
     field that `a.x` leads to is part of the one that `a` leads to.
+
+    Each method reads a path that is passed as a text as `FieldPath(text)` reads it. A text that isn't spelled like a
+    path raises `Unreadable` (`UNREADABLE`), and the set is unchanged.
     """
 
     __slots__ = ()
@@ -79,7 +83,7 @@ class FieldPathSet(Object, AbstractSet[FieldPath]):
         it._move_to(self)
 
     def insert(self, path: Union[FieldPath, str]) -> None:
-        """Inserts the path. If it is in the set already, nothing changes."""
+        """Inserts the path. If the set contains the path already, nothing changes."""
         it = path_given(path, "path")
         is_done(native.vlt_set_insert(self._slot, it._slot))
 
@@ -88,7 +92,8 @@ class FieldPathSet(Object, AbstractSet[FieldPath]):
         self.insert(path)
 
     def extend(self, paths: Iterable[Union[FieldPath, str]]) -> None:
-        """Inserts the paths, in order. All of them are taken from `paths` before the first is inserted."""
+        """Inserts the paths, in order. All of them are taken from `paths` before the first is inserted. If memory runs
+        out, the call raises `OutOfMemory` (0), and the paths that it inserted before stay in the set."""
         if isinstance(paths, FieldPathSet):
             members = made(Paths, native.vlt_set_members, paths._slot)
             is_done(native.vlt_set_extend_from_list(self._slot, members._slot))
@@ -102,13 +107,15 @@ class FieldPathSet(Object, AbstractSet[FieldPath]):
             is_done(native.vlt_set_extend(self._slot, slots, len(part), ctypes.c_size_t()))
 
     def update(self, *paths: Iterable[Union[FieldPath, str]]) -> None:
-        """Inserts the paths of each of these iterables. All are taken from them before the first is inserted."""
+        """Inserts the paths of each of these iterables, as `extend` does. All are taken from them before the first is
+        inserted."""
         for it in [_set_given(it, "paths") for it in paths]:
             self.extend(it)
 
     def __contains__(self, path: object) -> bool:
-        """Returns whether the set contains the path. It contains nothing but paths, so for another object the answer
-        is false. Raises `Unreadable` for a text that isn't one of a path."""
+        """Returns whether the set contains the path. It contains nothing but paths, so for an object that is neither a
+        path nor a text the call returns false. Raises `Unreadable` (`UNREADABLE`) for a text that isn't spelled like a
+        path."""
         if not isinstance(path, (str, FieldPath)):
             return False
         it = path_given(path, "path")
@@ -195,15 +202,17 @@ class FieldPathSet(Object, AbstractSet[FieldPath]):
         return self.difference(it).union(it.difference(self))
 
     def issubset(self, other: Iterable[Union[FieldPath, str]]) -> bool:
-        """Returns whether each path of this set is in the other."""
+        """Returns whether each path of this set is in `other` too. The paths themselves are compared, and not what they
+        select. For example, the set of `a.b` isn't a subset of the set of `a`."""
         return self <= _set_given(other, "other")
 
     def issuperset(self, other: Iterable[Union[FieldPath, str]]) -> bool:
-        """Returns whether each path of the other set is in this one."""
+        """Returns whether each path of `other` is in this set too, as `issubset` compares them."""
         return _set_given(other, "other") <= self
 
     def isdisjoint(self, other: Iterable[Union[FieldPath, str]]) -> bool:
-        """Returns whether no path is in both sets."""
+        """Returns whether no path is in both sets. The paths themselves are compared, and not what they select. For
+        example, the sets of `a` and of `a.b` are disjoint."""
         it = _set_given(other, "other")
         return len(self) == 0 if self is it else is_done(native.vlt_set_is_disjoint(self._slot, it._slot))
 
@@ -212,14 +221,15 @@ class FieldPathSet(Object, AbstractSet[FieldPath]):
         return self is other or is_done(native.vlt_set_is_subset(self._slot, other._slot))
 
     def members(self) -> list[FieldPath]:
-        """Returns the paths of the set, each once, in no promised order."""
+        """Returns the paths of the set as a list. Each path is in the list once, in no particular order."""
         return made(Paths, native.vlt_set_members, self._slot).all()
 
     def __iter__(self) -> Iterator[FieldPath]:
         return iter(self.members())
 
     def cover(self) -> list[FieldPath]:
-        """Returns the cover: those paths of the set of which no other path of the set is a prefix.
+        """Returns the cover of the set, as a list. The cover contains those paths of the set of which no other path of
+        the set is a prefix. Each path is in the list once, in no particular order.
 
         >>> sorted(FieldPathSet(["a", "a.b", "c.d"]).cover())
         [FieldPath('a'), FieldPath('c.d')]
@@ -227,7 +237,8 @@ class FieldPathSet(Object, AbstractSet[FieldPath]):
         return made(Paths, native.vlt_set_cover, self._slot).all()
 
     def unresolved(self, dtype: DType) -> list[FieldPath]:
-        """Returns the paths of the set that don't exist in the type.
+        """Returns the list of those paths of the set that don't exist in the type `dtype`. Each path is in the list
+        once, in no particular order.
 
         >>> FieldPathSet(["a", "a.b", "c"]).unresolved(DType("{a={b=i8}}"))
         [FieldPath('c')]
@@ -236,7 +247,7 @@ class FieldPathSet(Object, AbstractSet[FieldPath]):
         return made(Paths, native.vlt_set_unresolved, self._slot, given._slot).all()
 
     def below(self, path: Union[FieldPath, str]) -> Optional[Below]:
-        """Returns how the paths of the set continue after `path`, or None if none of them begins with `path`.
+        """Returns how paths of the set continue after `path`, or None if no path of the set begins with `path`.
 
         >>> FieldPathSet(["a.b", "a.c.d"]).below("a")
         Below(is_end=False, has_element=False, name_count=2)
@@ -248,8 +259,8 @@ class FieldPathSet(Object, AbstractSet[FieldPath]):
         return Below(is_end.value, has_element.value, count.value)
 
     def names_below(self, path: Union[FieldPath, str]) -> Optional[list[str]]:
-        """Returns the names with which paths of the set continue after `path`, or None if none of them begins with
-        `path`.
+        """Returns the list of the names with which paths of the set continue after `path`, or None if no path of the
+        set begins with `path`. Each name is in the list once, in no particular order.
 
         >>> sorted(FieldPathSet(["a.b", "a.c.d"]).names_below("a"))
         ['b', 'c']

@@ -56,13 +56,29 @@ class DType(Object):
     >>> [name for name, dtype in orders if dtype.kind is Kind.STRUCT]
     ['customer']
 
-    What is asked of a type of another kind has one rule. A property that only types of one kind have, such as `names` or
-    `element`, is None. A method that only types of one kind have, such as `field` or `find_variant`, raises `LibraryError`
-    (`PRECONDITION`). `len`, `in`, `[]` and iteration raise `TypeError` for a type that is no struct. For example,
-    `DType("i32").names` is None, and `len(DType("i32"))` raises `TypeError`. A type is always true in an `if`, also a struct
-    without fields.
+    What is asked of a type of another kind has one rule. A property that only types of one kind have, such as `names`
+    or `element`, is None. A method that only types of one kind have, such as `field` or `find_variant`, raises
+    `LibraryError` (`PRECONDITION`). `len`, `in`, `[]` and iteration raise `TypeError` for a type that isn't a struct.
+    For example, `DType("i32").names` is None, and `len(DType("i32"))` raises `TypeError`. A type is always true in an
+    `if`, also a struct without fields.
 
     `view` returns the parts of a type of any kind as an object for `match`.
+
+    A type without parts, such as `i32`, has 0 levels, and every other type has one more than the deepest of its parts.
+    For example, `list(list(i32))` has 2 levels. No type has more than 128.
+
+    A text from which no type can be made raises an error:
+
+    - `Unreadable` (`UNREADABLE`) if the text isn't spelled like a type. Its `position` is the byte, counted from 1, at
+      which something else was expected.
+    - `Unreadable` (`TOO_DEEP`) if types are nested more than 128 levels deep in the text, with the position of the
+      first that is too deep
+    - `LibraryError` for a decimal that `decimal` refuses, such as `decimal(0,0)`: `PRECISION_ZERO` (1),
+      `PRECISION_TOO_LARGE` (2), `SCALE_TOO_LARGE` (3) or `SCALE_ABOVE_PRECISION` (4)
+    - `LibraryError` for a map whose key type is nullable: `MAP_KEY_NULLABLE` (9)
+    - `LibraryError` for a union that `union` refuses: `UNION_EMPTY` (12) if it has no variants, `UNION_TAGS_REPEAT`
+      (13) if a tag occurs twice, `UNION_TOO_MANY` (14) if it has more than 256 variants without tags, or
+      `UNION_NAMES_REPEAT` (15) if a name occurs twice
     """
 
     __slots__ = ()
@@ -77,29 +93,37 @@ class DType(Object):
 
     @staticmethod
     def null() -> DType:
-        """Returns the type `null`."""
+        """Returns the null type, which is always nullable."""
         return made(DType, native.vlt_dtype_null)
 
     @staticmethod
     def bool_(nullable: bool = False) -> DType:
-        """Returns the type of booleans."""
+        """Returns the type of booleans. The type is nullable if `nullable` is true."""
         return made(DType, native.vlt_dtype_bool, flag_given(nullable, "nullable"))
 
     @staticmethod
     def primitive(ptype: PType, nullable: bool = False) -> DType:
-        """Returns the type with this primitive type, for example `i32`."""
+        """Returns the type of this primitive type, for example `i32`. The type is nullable if `nullable` is true."""
         given = instance_given(ptype, PType, "ptype").value
         return made(DType, native.vlt_dtype_primitive, given, flag_given(nullable, "nullable"))
 
     @staticmethod
     def decimal(precision: int, scale: int, nullable: bool = False) -> DType:
-        """Returns the decimal type with this precision and scale. Raises `LibraryError` (`PRECISION_ZERO`,
-        `PRECISION_TOO_LARGE`, `SCALE_TOO_LARGE` or `SCALE_ABOVE_PRECISION`) if the precision isn't from 1 to 76, or if the
-        scale is above 76 or above the precision, and `OUT_OF_RANGE` if the precision isn't from 0 to 255 or the scale
-        isn't from -128 to 127.
+        """Returns the decimal type of this precision and this scale. The precision is how many digits a value has at
+        most, and the scale is how many of them are behind the point. The type is nullable if `nullable` is true.
 
         >>> DType.decimal(10, 2)
         DType('decimal(10,2)')
+
+        Raises `LibraryError`:
+
+        - `OUT_OF_RANGE` if the precision isn't from 0 to 255, or if the scale isn't from -128 to 127
+        - `PRECISION_ZERO` (1) if the precision is 0
+        - `PRECISION_TOO_LARGE` (2) if the precision is above 76
+        - `SCALE_TOO_LARGE` (3) if the scale is above 76
+        - `SCALE_ABOVE_PRECISION` (4) if the scale is above the precision
+
+        If several of these are so, it is the first of them.
         """
         given = number_given(precision, "precision"), number_given(scale, "scale")
         is_nullable = flag_given(nullable, "nullable")
@@ -109,30 +133,32 @@ class DType(Object):
 
     @staticmethod
     def utf8(nullable: bool = False) -> DType:
-        """Returns the type of UTF-8 strings."""
+        """Returns the type of UTF-8 strings. The type is nullable if `nullable` is true."""
         return made(DType, native.vlt_dtype_utf8, flag_given(nullable, "nullable"))
 
     @staticmethod
     def binary(nullable: bool = False) -> DType:
-        """Returns the type of byte strings."""
+        """Returns the type of byte strings. The type is nullable if `nullable` is true."""
         return made(DType, native.vlt_dtype_binary, flag_given(nullable, "nullable"))
 
     @staticmethod
     def variant(nullable: bool = False) -> DType:
-        """Returns the type `variant`. Each of its values carries its own type."""
+        """Returns the variant type. Each of its values carries its own type. The type is nullable if `nullable` is
+        true."""
         return made(DType, native.vlt_dtype_variant, flag_given(nullable, "nullable"))
 
     @staticmethod
     def list_(element: DType, nullable: bool = False) -> DType:
-        """Returns the list type with this element type. Raises `LibraryError` (`TOO_DEEP`) if the element type
-        has 128 levels."""
+        """Returns the list type with this element type. Its values are lists of any length. The list type is nullable
+        if `nullable` is true. Raises `LibraryError` (`TOO_DEEP`) if the element type has 128 levels."""
         given = instance_given(element, DType, "element")
         return made(DType, native.vlt_dtype_list, given._slot, flag_given(nullable, "nullable"))
 
     @staticmethod
     def fixed_size_list(element: DType, size: int, nullable: bool = False) -> DType:
-        """Returns the fixed-size list type with this element type and size. Raises `LibraryError` (`OUT_OF_RANGE`)
-        if the size isn't from 0 to 2**32 - 1, and `TOO_DEEP` if the element type has 128 levels.
+        """Returns the fixed-size list type with this element type. Its values are lists of exactly `size` elements. The
+        list type is nullable if `nullable` is true. Raises `LibraryError`: `OUT_OF_RANGE` if the size isn't from 0 to
+        2**32 - 1, and otherwise `TOO_DEEP` if the element type has 128 levels.
 
         >>> DType.fixed_size_list(DType("f32"), 3)
         DType('fixed_size_list(f32)[3]')
@@ -145,8 +171,9 @@ class DType(Object):
 
     @staticmethod
     def map_(key: DType, value: DType, keys_sorted: bool = False, nullable: bool = False) -> DType:
-        """Returns the map type with these key and value types. Raises `LibraryError` (`MAP_KEY_NULLABLE`) if the key
-        type is nullable, and `TOO_DEEP` if one of the two types has 128 levels.
+        """Returns the map type with these key and value types. `keys_sorted` declares that the keys of each map are
+        sorted, which nothing checks. The map type is nullable if `nullable` is true. Raises `LibraryError`: `TOO_DEEP`
+        if one of the two types has 128 levels, and otherwise `MAP_KEY_NULLABLE` (9) if the key type is nullable.
 
         >>> DType.map_(DType("utf8"), DType("i32?"))
         DType('map(utf8, i32?, keys_sorted=false)')
@@ -158,8 +185,9 @@ class DType(Object):
 
     @staticmethod
     def struct(fields: Parts, nullable: bool = False) -> DType:
-        """Returns the struct type with these fields, which are a mapping of names to types, or pairs of a name and a
-        type. Raises `LibraryError` (`TOO_DEEP`) if the type of a field has 128 levels.
+        """Returns the struct type of these fields, in order, which are a mapping of names to types, or pairs of a name
+        and a type. The struct type is nullable if `nullable` is true. Raises `LibraryError` (`TOO_DEEP`) if the type of
+        a field has 128 levels.
 
         >>> DType.struct({"a": DType("i8")}) == DType.struct([("a", DType("i8"))])
         True
@@ -169,15 +197,23 @@ class DType(Object):
 
     @staticmethod
     def union(variants: Parts, nullable: bool = False, tags: Optional[bytes] = None) -> DType:
-        """Returns the union type with these variants, which are a mapping of names to types, or pairs of a name and a
-        type, and with these tags, one byte for each variant, for example `bytes([5, 9])`. Without `tags` the tags are 0,
-        1, 2 and so on. Raises `LibraryError` if the variants and tags don't make a union: `UNION_TAGS_LENGTH` if there are
-        more or fewer tags than variants, `UNION_EMPTY` if there is no variant, `UNION_TAGS_REPEAT`, `UNION_TOO_MANY` if
-        there are more than 256 variants without tags, and `UNION_NAMES_REPEAT`; and `TOO_DEEP` if the type of a variant
-        has 128 levels.
+        """Returns the union type with these variants, in order, which are a mapping of names to types, or pairs of a
+        name and a type. `tags` has the tag of each variant, one byte for each, for example `bytes([5, 9])`. Without
+        `tags` the tags are 0, 1, 2 and so on. The union type is nullable if `nullable` is true.
 
         >>> DType.union({"a": DType("i8"), "b": DType("utf8")}, tags=bytes([5, 9]))
         DType('union(a@5=i8, b@9=utf8)')
+
+        Raises `LibraryError`:
+
+        - `TOO_DEEP` if the type of a variant has 128 levels
+        - `UNION_TOO_MANY` (14) if there are more than 256 variants without tags
+        - `UNION_TAGS_LENGTH` (11) if there are more or fewer tags than variants
+        - `UNION_EMPTY` (12) if there are no variants
+        - `UNION_TAGS_REPEAT` (13) if a tag occurs twice
+        - `UNION_NAMES_REPEAT` (15) if a name occurs twice
+
+        If several of these are so, it is the first of them.
         """
         given, is_nullable = _parts_given(variants, "variants"), flag_given(nullable, "nullable")
         if tags is None:
@@ -187,8 +223,8 @@ class DType(Object):
 
     @staticmethod
     def extension(id: str, metadata: bytes, storage: DType) -> DType:
-        """Returns the extension type with this id, this metadata and this storage type. Raises `LibraryError`
-        (`TOO_DEEP`) if the storage type has 128 levels.
+        """Returns the extension type with this id, this metadata and this storage type. It is nullable if the storage
+        type is. Raises `LibraryError` (`TOO_DEEP`) if the storage type has 128 levels.
 
         >>> DType.extension("app.color", b"rgb", DType("u32"))
         DType('app.color[0x726762](u32)')
@@ -199,8 +235,8 @@ class DType(Object):
 
     @staticmethod
     def date(unit: TimeUnit, nullable: bool = False) -> DType:
-        """Returns the type of dates: the extension `vortex.date` over `i32` for days, or over `i64` for milliseconds. Raises
-        `LibraryError` (`OUT_OF_RANGE`) for another unit.
+        """Returns the type of dates: the extension `vortex.date` over `i32` for days, or over `i64` for milliseconds.
+        The type is nullable if `nullable` is true. Raises `LibraryError` (`OUT_OF_RANGE`) for another unit.
 
         >>> DType.date(TimeUnit.DAYS, nullable=True)
         DType('vortex.date[0x04](i32?)')
@@ -209,15 +245,16 @@ class DType(Object):
 
     @staticmethod
     def time(unit: TimeUnit, nullable: bool = False) -> DType:
-        """Returns the type of times of a day: the extension `vortex.time` over `i32` for seconds and milliseconds, or over `i64`
-        for microseconds and nanoseconds. Raises `LibraryError` (`OUT_OF_RANGE`) for days."""
+        """Returns the type of times of a day: the extension `vortex.time` over `i32` for seconds and milliseconds, or
+        over `i64` for microseconds and nanoseconds. The type is nullable if `nullable` is true. Raises `LibraryError`
+        (`OUT_OF_RANGE`) for days."""
         return DType._of_time(_time.TIME, unit, nullable)
 
     @staticmethod
     def timestamp(unit: TimeUnit, zone: str = "", nullable: bool = False) -> DType:
         """Returns the type of timestamps, the extension `vortex.timestamp` over `i64`, with a time zone such as
-        `Europe/Berlin` or `+01:00`. The empty text stands for no time zone. Raises `LibraryError` (`OUT_OF_RANGE`) for
-        days, and for a time zone of more than 65,535 bytes.
+        `Europe/Berlin` or `+01:00`. The empty text stands for no time zone. The type is nullable if `nullable` is true.
+        Raises `LibraryError` (`OUT_OF_RANGE`) for days, and for a time zone of more than 65,535 bytes.
 
         >>> paid = DType.timestamp(TimeUnit.MICROSECONDS, "UTC")
         >>> paid.time_unit, paid.time_zone
@@ -266,30 +303,35 @@ class DType(Object):
 
     @property
     def is_nullable(self) -> bool:
-        """Whether the type is nullable. An extension type is nullable if its storage type is."""
+        """Whether the type is nullable, so that its values may be null. The null type is always nullable, and an
+        extension is nullable if its storage type is."""
         return is_done(native.vlt_dtype_is_nullable(self._slot))
 
     @property
     def can_be_nonnullable(self) -> bool:
-        """Whether the type can be made non-nullable. This is true of all types except `null` and extension types
-        over it."""
+        """Whether the type can be made non-nullable. The null type can't, and an extension can't if its storage type
+        can't. Every other type can."""
         return is_done(native.vlt_dtype_can_be_nonnullable(self._slot))
 
     def with_nullability(self, nullable: bool) -> DType:
-        """Returns the type, made nullable or non-nullable. Raises `LibraryError` (`PRECONDITION`) if it can't be made
-        non-nullable."""
+        """Returns the type with the outer nullability that `nullable` states: nullable if it is true, and non-nullable
+        if it is false. The types inside it keep their nullabilities. For an extension, the outer nullability is that of
+        its storage type. Raises `LibraryError` (`PRECONDITION`) if `nullable` is false and the type can't be made
+        non-nullable, which `can_be_nonnullable` tests."""
         return made(DType, native.vlt_dtype_with_nullability, self._slot, flag_given(nullable, "nullable"))
 
     def as_nullable(self) -> DType:
-        """Returns the type, made nullable."""
+        """Returns the type, made nullable. The types inside it keep their nullabilities."""
         return self.with_nullability(True)
 
     def as_nonnullable(self) -> DType:
-        """Returns the type, made non-nullable. Raises `LibraryError` (`PRECONDITION`) if it can't be."""
+        """Returns the type, made non-nullable. The types inside it keep their nullabilities. Raises `LibraryError`
+        (`PRECONDITION`) if the type can't be made non-nullable, which `can_be_nonnullable` tests."""
         return self.with_nullability(False)
 
     def union_nullability(self, nullable: bool) -> DType:
-        """Returns the type, which is nullable if it was nullable or if `nullable` is true.
+        """Returns the type, which is nullable if it was nullable or if `nullable` is true. The types inside it keep
+        their nullabilities.
 
         >>> DType("i8?").union_nullability(False)
         DType('i8?')
@@ -304,7 +346,8 @@ class DType(Object):
 
     @property
     def decimal_parts(self) -> Optional[tuple[int, int]]:
-        """The precision and the scale of a decimal type, or None for another type."""
+        """The precision and the scale of a decimal type, or None for another type. The precision is from 1 to 76. The
+        scale isn't above the precision, and it may be negative."""
         precision, scale = ctypes.c_uint8(), ctypes.c_int8()
         return (precision.value, scale.value) if is_done(
             native.vlt_dtype_decimal_parts(self._slot, precision, scale)) else None
@@ -312,12 +355,13 @@ class DType(Object):
     @property
     @remembered
     def element(self) -> Optional[DType]:
-        """The element type of a list or a fixed-size list, or None for another type."""
+        """The element type of a list or of a fixed-size list, or None for another type."""
         return found(DType, native.vlt_dtype_element, self._slot)
 
     @property
     def fixed_size(self) -> Optional[int]:
-        """The size of a fixed-size list, or None for another type."""
+        """The size of a fixed-size list, which is how many elements each of its values has, or None for another
+        type."""
         return number(ctypes.c_uint32, native.vlt_dtype_fixed_size, self._slot)
 
     @property
@@ -334,12 +378,13 @@ class DType(Object):
 
     @property
     def keys_sorted(self) -> Optional[bool]:
-        """Whether the keys of a map are declared sorted, or None for another type."""
+        """Whether the keys of each map are declared to be sorted, which nothing checks, or None for another type."""
         return is_done(native.vlt_dtype_keys_sorted(self._slot)) if self.kind is Kind.MAP else None
 
     @property
     def entries(self) -> Optional[DType]:
-        """The type of the entries of a map, a struct of a key and a value, or None for another type.
+        """The type of the entries of a map, which is the non-nullable struct with the fields `key` and `value`, or None
+        for another type.
 
         >>> DType("map(utf8, i32?, keys_sorted=false)").entries
         DType('{key=utf8, value=i32?}')
@@ -349,41 +394,52 @@ class DType(Object):
     @property
     @remembered
     def storage(self) -> Optional[DType]:
-        """The storage type of an extension type, or None for another type."""
+        """The storage type of an extension, which is the type in which its values are stored, or None for another
+        type."""
         return found(DType, native.vlt_dtype_storage, self._slot)
 
     @property
     def id(self) -> Optional[str]:
-        """The id of an extension type, or None for another type."""
+        """The id of an extension, or None for another type."""
         return text_found(native.vlt_dtype_id, self._slot)
 
     @property
     def metadata(self) -> Optional[bytes]:
-        """The metadata of an extension type, or None for another type."""
+        """The metadata of an extension, which may have no bytes, or None for another type."""
         return bytes_found(native.vlt_dtype_metadata, self._slot)
 
     @property
     def time_unit(self) -> Optional[TimeUnit]:
-        """The unit of a date, a time or a timestamp. It is None for every type that `date`, `time` and `timestamp` don't
-        return, for example for one of these extensions with metadata of another form."""
+        """The unit of a date, a time or a timestamp. It is None for every type that `date`, `time` and `timestamp`
+        don't return, for example for one of these extensions with metadata of another form."""
         it = _time.parts_of(self)
         return None if it is None else it[0]
 
     @property
     def time_zone(self) -> Optional[str]:
-        """The time zone of a timestamp, which is the empty text if it has none. It is None for every type that `timestamp`
-        doesn't return."""
+        """The time zone of a timestamp, which is the empty text if it has none. It is None for every type that
+        `timestamp` doesn't return."""
         it = _time.parts_of(self)
         return None if it is None else it[1]
 
     @property
     def element_size(self) -> Optional[int]:
-        """The number of bytes that each value takes, or None if a part of the type is of variable width, such as a
-        text. Raises `LibraryError` (`WIDTH_OVERFLOW`) if the type or a part of it is wider than a number of 64 bits can
-        say.
+        """The number of bytes that each value of the type takes:
+
+        - A value of the null type takes 0 bytes, a Boolean takes 1 byte, and a number takes the bytes of its primitive
+          type.
+        - A decimal takes the bytes of the smallest storage type, from `i8` to `i256`, for its precision. For example,
+          `decimal(10,2)` takes 8 bytes, those of `i64`.
+        - A fixed-size list takes its size times the bytes of its element type, a struct takes the sum of the bytes of
+          its fields, and an extension takes the bytes of its storage type.
+
+        It is None if the type or a part of it is of variable width, which all other types are, for example `utf8`.
 
         >>> DType("fixed_size_list(i32)[3]").element_size, DType("utf8").element_size
         (12, None)
+
+        Raises `LibraryError` (`WIDTH_OVERFLOW`, 19) if the type is of fixed width and its width, or the width of a part
+        of it, is above 2**64 - 1.
         """
         return number(ctypes.c_size_t, native.vlt_dtype_element_size, self._slot)
 
@@ -428,12 +484,14 @@ class DType(Object):
         return iter(self._fields())
 
     def __contains__(self, name: object) -> bool:
-        """Returns whether the struct has a field with this name. No field has another name than a text."""
+        """Returns whether the struct has a field with this name. No field has another name than a text. Raises
+        `TypeError` if the type isn't a struct."""
         self._fields()
         return isinstance(name, str) and self.find(name) is not None
 
     def __getitem__(self, name: str) -> DType:
-        """Returns the type of the first field with this name. Raises `KeyError` if there is none."""
+        """Returns the type of the first field with this name. Raises `KeyError` if no field has the name, and
+        `TypeError` if the type isn't a struct."""
         self._fields()
         it = self.field(name)
         if it is None:
@@ -441,34 +499,39 @@ class DType(Object):
         return it
 
     def field_name(self, index: int) -> Optional[str]:
-        """Returns the name of the field with this index, which is counted from 0, or None if there is none. Raises
-        `LibraryError` (`PRECONDITION`) if the type is no struct."""
+        """Returns the name of the field at this index, which is counted from 0, or None if the index isn't below the
+        number of fields. Raises `IndexError` if the index is negative, and `LibraryError` (`PRECONDITION`) if the type
+        isn't a struct."""
         return text_found(native.vlt_struct_field_name, self._slot, position_given(index, "index"))
 
     def field_by_index(self, index: int) -> Optional[DType]:
-        """Returns the type of the field with this index, which is counted from 0, or None if there is none. Raises
-        `LibraryError` (`PRECONDITION`) if the type is no struct."""
+        """Returns the type of the field at this index, which is counted from 0, or None if the index isn't below the
+        number of fields. Raises `IndexError` if the index is negative, and `LibraryError` (`PRECONDITION`) if the type
+        isn't a struct."""
         return found(DType, native.vlt_struct_field_by_index, self._slot, position_given(index, "index"))
 
     def find(self, name: str) -> Optional[int]:
-        """Returns the index of the first field with this name, or None. Raises `LibraryError` (`PRECONDITION`) if the
-        type is no struct."""
+        """Returns the index of the first field with this name, counted from 0, or None if no field has the name. Raises
+        `LibraryError` (`PRECONDITION`) if the type isn't a struct."""
         given = text_given(name, "name")
         return number(ctypes.c_size_t, native.vlt_struct_find, self._slot, given, len(given))
 
     def field(self, name: str) -> Optional[DType]:
-        """Returns the type of the first field with this name, or None. Raises `LibraryError` (`PRECONDITION`) if the
-        type is no struct."""
+        """Returns the type of the first field with this name, or None if no field has the name. Raises `LibraryError`
+        (`PRECONDITION`) if the type isn't a struct."""
         given = text_given(name, "name")
         return found(DType, native.vlt_struct_field, self._slot, given, len(given))
 
     def project(self, names: Iterable[str]) -> DType:
-        """Returns the struct of the fields with these names, in the order of the names. Raises `FieldNotFound`, which
-        is a `KeyError` too, if a name isn't the name of a field, and `LibraryError` (`PRECONDITION`) if the type is no
-        struct.
+        """Returns the struct that has the fields with these names, in the order of the names. If several fields have
+        the same name, the first of them is selected. The struct has the outer nullability of the original struct.
 
         >>> DType("{a=i8, b=i16, c=i32}").project(["c", "a"])
         DType('{c=i32, a=i8}')
+
+        Raises `FieldNotFound` (16), which is a `KeyError` too, if one of the names isn't the name of any field. The
+        text of the error has the position of the first such name among the names, counted from 0, and the name. Raises
+        `LibraryError` (`PRECONDITION`) if the type isn't a struct.
         """
         given = items_given(names, "names", "str", text_given, (Object,))
         try:
@@ -482,8 +545,10 @@ class DType(Object):
         return number(ctypes.c_size_t, native.vlt_struct_find, self._slot, name, len(name)) is not None
 
     def without_field(self, index: int) -> DType:
-        """Returns the struct without the field with this index. Raises `IndexOutOfBounds`, which is an `IndexError`
-        too, if no field is there, and `LibraryError` (`PRECONDITION`) if the type is no struct.
+        """Returns the struct without the field at this index, which is counted from 0. It has the outer nullability of
+        the original struct. Raises `IndexOutOfBounds` (17), which is an `IndexError` too, if the index isn't below the
+        number of fields, with both numbers in its text. Raises `IndexError` if the index is negative, and
+        `LibraryError` (`PRECONDITION`) if the type isn't a struct.
 
         >>> DType("{a=i8, b=i16}").without_field(0)
         DType('{b=i16}')
@@ -491,8 +556,9 @@ class DType(Object):
         return made(DType, native.vlt_struct_without_field, self._slot, position_given(index, "index"))
 
     def disjoint_merge(self, other: DType) -> DType:
-        """Returns the struct of the fields of both. Raises `LibraryError` (`DUPLICATE_NAMES`) if a name occurs twice
-        among them, and `PRECONDITION` if one of the two types is no struct.
+        """Returns the struct that has the fields of this struct followed by those of `other`. It has the outer
+        nullability of this struct. Raises `LibraryError`: `PRECONDITION` if one of the two types isn't a struct, and
+        `DUPLICATE_NAMES` (18) if a name occurs in both structs, or twice in one of them.
 
         >>> DType("{a=i8}").disjoint_merge(DType("{b=i16}"))
         DType('{a=i8, b=i16}')
@@ -501,15 +567,17 @@ class DType(Object):
         return made(DType, native.vlt_struct_disjoint_merge, self._slot, it._slot)
 
     def indented(self) -> str:
-        """Returns the text of the fields with a line for each field. Raises `LibraryError` (`PRECONDITION`) if the
-        type is no struct."""
+        """Returns the fields as text over several lines. The first line is an opening brace, then each field has a line
+        that begins with two spaces, and the last line is a closing brace. A struct that is the type of a field, or the
+        element type of a list, is written over several lines too, with two more spaces. Raises `LibraryError`
+        (`PRECONDITION`) if the type isn't a struct."""
         return text(native.vlt_struct_indented, self._slot)
 
     # Variants of a union.
 
     @property
     def nvariants(self) -> Optional[int]:
-        """The number of variants of a union, or None for another type."""
+        """The number of variants of a union, which is from 1 to 256, or None for another type."""
         return number(ctypes.c_size_t, native.vlt_union_len, self._slot) if self.kind is Kind.UNION else None
 
     @property
@@ -525,39 +593,42 @@ class DType(Object):
 
     @property
     def tags(self) -> Optional[bytes]:
-        """The tags of a union, in the order of its variants, or None for another type."""
+        """The tags of a union, one byte for each variant, in the order of the variants, or None for another type."""
         return None if self.nvariants is None else bytes(self.child_index_to_tag(it) or 0 for it in range(self.nvariants))
 
     def variant_name(self, index: int) -> Optional[str]:
-        """Returns the name of the variant with this index, which is counted from 0, or None if there is none. Raises
-        `LibraryError` (`PRECONDITION`) if the type is no union."""
+        """Returns the name of the variant at this index, which is counted from 0, or None if the index isn't below the
+        number of variants. Raises `IndexError` if the index is negative, and `LibraryError` (`PRECONDITION`) if the
+        type isn't a union."""
         return text_found(native.vlt_union_variant_name, self._slot, position_given(index, "index"))
 
     def variant_by_index(self, index: int) -> Optional[DType]:
-        """Returns the type of the variant with this index, which is counted from 0, or None if there is none. Raises
-        `LibraryError` (`PRECONDITION`) if the type is no union."""
+        """Returns the type of the variant at this index, which is counted from 0, or None if the index isn't below the
+        number of variants. Raises `IndexError` if the index is negative, and `LibraryError` (`PRECONDITION`) if the
+        type isn't a union."""
         return found(DType, native.vlt_union_variant_by_index, self._slot, position_given(index, "index"))
 
     def find_variant(self, name: str) -> Optional[int]:
-        """Returns the index of the variant with this name, or None. Raises `LibraryError` (`PRECONDITION`) if the type
-        is no union."""
+        """Returns the index of the variant with this name, counted from 0, or None if no variant has the name. Raises
+        `LibraryError` (`PRECONDITION`) if the type isn't a union."""
         given = text_given(name, "name")
         return number(ctypes.c_size_t, native.vlt_union_find, self._slot, given, len(given))
 
     def variant_of(self, name: str) -> Optional[DType]:
-        """Returns the type of the variant with this name, or None. Raises `LibraryError` (`PRECONDITION`) if the type
-        is no union."""
+        """Returns the type of the variant with this name, or None if no variant has the name. Raises `LibraryError`
+        (`PRECONDITION`) if the type isn't a union."""
         given = text_given(name, "name")
         return found(DType, native.vlt_union_variant, self._slot, given, len(given))
 
     def child_index_to_tag(self, index: int) -> Optional[int]:
-        """Returns the tag of the variant with this index, which is counted from 0, or None if there is none. Raises
-        `LibraryError` (`PRECONDITION`) if the type is no union."""
+        """Returns the tag of the variant at this index, which is counted from 0, or None if the index isn't below the
+        number of variants. Raises `IndexError` if the index is negative, and `LibraryError` (`PRECONDITION`) if the
+        type isn't a union."""
         return number(ctypes.c_uint8, native.vlt_union_child_index_to_tag, self._slot, position_given(index, "index"))
 
     def tag_to_child_index(self, tag: int) -> Optional[int]:
-        """Returns the index of the variant with this tag, or None. Raises `LibraryError` (`PRECONDITION`) if the
-        type is no union.
+        """Returns the index of the variant with this tag, counted from 0, or None if no variant has the tag, also if
+        the tag isn't from 0 to 255. Raises `LibraryError` (`PRECONDITION`) if the type isn't a union.
 
         >>> DType("union(a@5=i8, b@9=utf8)").tag_to_child_index(9)
         1
@@ -570,7 +641,7 @@ class DType(Object):
 
     @property
     def is_consecutive(self) -> Optional[bool]:
-        """Whether the tags of a union are 0, 1, 2 and so on, in this order, or None for another type."""
+        """Whether the tags of a union are 0, 1, 2 and so on in the order of the variants, or None for another type."""
         return is_done(native.vlt_union_is_consecutive(self._slot)) if self.kind is Kind.UNION else None
 
     # Comparisons.
@@ -593,12 +664,13 @@ class DType(Object):
         return self is it or is_done(native.vlt_dtype_eq_ignore_nullability(self._slot, it._slot))
 
     def hash_ignore_nullability(self) -> int:
-        """Returns a hash that is the same for types that are equal except for nullability."""
+        """Returns a hash, from 0 to 2**64 - 1, that is the same for types that are equal except for nullability, at
+        every depth. The hash of a type may differ between versions of the library."""
         return number(ctypes.c_uint64, native.vlt_dtype_hash_ignore_nullability, self._slot) or 0
 
     def eq_with_nullability_subset(self, other: DType) -> bool:
-        """Returns whether this type is a subset of the other: the two are equal except for nullability, and the
-        other is nullable wherever this type is.
+        """Returns whether this type is a subset of `other`. It is a subset if the two are equal except for
+        nullabilities, and `other` is nullable in each place in which this type is.
 
         >>> DType("{a=i8}").eq_with_nullability_subset(DType("{a=i8?}"))
         True
@@ -607,12 +679,14 @@ class DType(Object):
         return self is it or is_done(native.vlt_dtype_nullability_subset(self._slot, it._slot))
 
     def eq_with_nullability_superset(self, other: DType) -> bool:
-        """Returns whether the other type is a subset of this one."""
+        """Returns whether `other` is a subset of this type. It is a subset if the two are equal except for
+        nullabilities, and this type is nullable in each place in which `other` is."""
         it = instance_given(other, DType, "other")
         return self is it or is_done(native.vlt_dtype_nullability_superset(self._slot, it._slot))
 
     def merge_nullability(self, other: DType) -> Optional[DType]:
-        """Returns the least type of which both types are subsets, or None if they differ in more than nullability.
+        """Returns the least type of which both types are subsets, as `eq_with_nullability_subset` defines it. It is
+        nullable in each place in which one of the two is. Returns None if the types differ in more than nullabilities.
 
         >>> DType("{a=i8, b=i8?}").merge_nullability(DType("{a=i8?, b=i8}"))
         DType('{a=i8?, b=i8?}')
@@ -623,7 +697,8 @@ class DType(Object):
         return found(DType, native.vlt_dtype_merge_nullability, self._slot, it._slot)
 
     def intersect_nullability(self, other: DType) -> Optional[DType]:
-        """Returns the greatest type that is a subset of both, or None if they differ in more than nullability.
+        """Returns the greatest type that is a subset of both types, as `eq_with_nullability_subset` defines it. It is
+        nullable only in those places in which both are. Returns None if the types differ in more than nullabilities.
 
         >>> DType("{a=i8, b=i8?}").intersect_nullability(DType("{a=i8?, b=i8}"))
         DType('{a=i8, b=i8}')
@@ -632,14 +707,17 @@ class DType(Object):
         return found(DType, native.vlt_dtype_intersect_nullability, self._slot, it._slot)
 
     def merge_columns(self, other: DType) -> Optional[DType]:
-        """Returns the least type as which both types can be read, or None if there is none. A program that reads several
-        files as one table needs this type if the files have different columns. `merge_all` merges more than two types.
+        """Returns the least type as which values of both types can be read, or None if there is no such type. A program
+        that reads several files as one table needs this type if the files have different columns. `merge_all` merges
+        more than two types.
 
-        A struct has the fields of this type in their order, and then those of `other` that this type lacks. A field that
-        both have is merged in the same way, and a field that one of the two lacks is nullable. Lists, fixed-size lists of
-        the same size, maps with the same flag, and extensions with the same id and the same metadata are merged by their
-        parts, except maps whose merged key type would be nullable. All other types are merged as `merge_nullability`
-        merges them, also structs in which a name repeats. A type that isn't an extension is nullable if one of the two is.
+        - A struct has the fields of the first type in their order, and then those that only the second has. A field
+          that both have is merged by these rules. A field that only one of the two has is nullable.
+        - Lists, fixed-size lists of the same size, maps with the same `keys_sorted`, and extensions with the same id
+          and the same metadata are merged by their parts. Maps whose merged key type would be nullable can't be merged.
+        - All other types are merged as `merge_nullability` merges them. So are structs in which a name repeats, because
+          their columns can't be told apart by name.
+        - A type that isn't an extension is nullable if one of the two is, at every depth.
 
         >>> DType("{a=i32, b=utf8}").merge_columns(DType("{c=u8, a=i32?}"))
         DType('{a=i32?, b=utf8?, c=u8?}')
@@ -647,8 +725,11 @@ class DType(Object):
         return _merging.merged_columns(self, instance_given(other, DType, "other"))
 
     def merge_conflict(self, other: DType) -> Optional[MergeConflict]:
-        """Returns why `merge_columns` returns None for these types, or None if it returns a type. The place is the first
-        one, in the order of the fields of this type, at which the two types have no common type.
+        """Returns the first place at which the two types can't be merged by `merge_columns`, or None if they can be
+        merged. The conflict has the path to this place, and the types at this place in this type and in `other`. The
+        first place is the first one in the order of the fields of this type. A path leads only into structs, lists and
+        fixed-size lists, so if the keys or values of two maps can't be merged, it is the path to the maps. The conflict
+        is returned, and not raised.
 
         >>> conflict = DType("{customer={id=u64}}").merge_conflict(DType("{customer={id=utf8, city=utf8}}"))
         >>> conflict.path, conflict.left, conflict.right
@@ -658,10 +739,11 @@ class DType(Object):
 
     @staticmethod
     def merge_all(types: Iterable[DType]) -> Optional[DType]:
-        """Returns the least type as which all of these types can be read, such as the schemas of several files: the first,
-        merged with each other by `merge_columns`. Returns None if there is no type. The order of the types decides only
-        the order of the columns. All types are taken from `types` before the first two are merged. Raises `MergeConflict`
-        if a type can't be merged with those before it.
+        """Returns the least type as which values of all of these types can be read, such as the schemas of several
+        files: the first two, merged by `merge_columns`, then the result with the third, and so on. Returns None if
+        `types` has no type. The order of the types decides only the order of the columns. All types are taken from
+        `types` before the first two are merged. Raises `MergeConflict` with the first type that can't be merged with
+        those before it.
 
         >>> DType.merge_all(DType(it) for it in ("{id=u64}", "{note=utf8, id=u64}", "{id=u64?}"))
         DType('{id=u64?, note=utf8?}')
@@ -669,8 +751,9 @@ class DType(Object):
         return _merging.merged_all(types)
 
     def project_paths(self, paths: FieldPathSet) -> Optional[DType]:
-        """Returns the part of the type that a reader of these paths opens, or None if none of them exists in the
-        type.
+        """Returns the part of the type to which the paths of the set lead. It is the schema of the columns that a
+        reader of these paths has to open. The type at the end of a path is kept whole. A struct on the way keeps only
+        the fields to which a path leads, in its own order. Returns None if no path of the set exists in the type.
 
         >>> DType("{a=i8, b={c=i8, d=i8}}").project_paths(FieldPathSet(["b.c", "e"]))
         DType('{b={c=i8}}')
@@ -680,9 +763,9 @@ class DType(Object):
 
     @staticmethod
     def from_arrow(source: object) -> DType:
-        """Returns the type of an Arrow schema, field or type, of a table or a data frame, or of anything else that has the
-        method `__arrow_c_schema__` or `__arrow_c_stream__`, such as those of pyarrow, polars, DuckDB and nanoarrow. It also
-        takes a capsule that such a method returned. What is read stays as it is.
+        """Returns the type of an Arrow schema, field or type, of a table or a data frame, or of anything else that has
+        the method `__arrow_c_schema__` or `__arrow_c_stream__`, such as those of pyarrow, polars, DuckDB and nanoarrow.
+        It also takes a capsule that such a method returned. What is read stays as it is.
 
         The type of a table or a data frame is a struct of its columns. Arrow marks most types as nullable, so they are
         nullable here too: for example, `pyarrow.int32()` is read as `i32?`.
@@ -690,18 +773,30 @@ class DType(Object):
         >>> DType.from_arrow(DType("{id=u64, city=utf8?}"))
         DType('{id=u64, city=utf8?}')
 
-        Views, large types, dictionaries and run-end encoded types are read as plain types, and dates, times and timestamps
-        as those of `date`, `time` and `timestamp`. Raises `LibraryError` (`ARROW`) if a field has no type here, such as a
-        duration, with the path of the field and its format in the text of the error, and other `LibraryError`s for a type
-        that this library refuses, such as a decimal with 77 digits.
+        Views, large types, dictionaries and run-end encoded types are read as plain types, and dates, times and
+        timestamps as those of `date`, `time` and `timestamp`.
+
+        Raises `LibraryError`:
+
+        - `ARROW` if a field has no type here, such as a duration. The text of the error begins with the path of the
+          field and has its format. It is also raised if the schema or the stream was released, or if the stream has no
+          schema.
+        - `TOO_DEEP` if the type has more than 128 levels
+        - `PRECISION_ZERO` (1), `PRECISION_TOO_LARGE` (2), `SCALE_TOO_LARGE` (3) or `SCALE_ABOVE_PRECISION` (4) for a
+          decimal that `decimal` refuses, such as one with 77 digits
+        - `MAP_KEY_NULLABLE` (9) for a map whose key type is nullable
+        - `UNION_TAGS_LENGTH` (11) for a union with more or fewer type ids than children, `UNION_EMPTY` (12) for one
+          without children, `UNION_TAGS_REPEAT` (13) for one in which a type id occurs twice, and `UNION_NAMES_REPEAT`
+          (15) for one in which a name occurs twice
         """
         return _arrow.read(DType, source)
 
     @staticmethod
     def from_arrow_address(address: int) -> DType:
-        """Returns the type of the `struct ArrowSchema` at this address, for libraries that export it by its address: GDAL
-        through `ctypes`, and pyarrow by `_export_to_c`. Who made the struct releases it afterwards. Raises the errors of
-        `from_arrow`, and `OUT_OF_RANGE` for an address at which no struct can be.
+        """Returns the type of the `struct ArrowSchema` at this address, for libraries that export it by its address:
+        GDAL through `ctypes`, and pyarrow by `_export_to_c`. Who made the struct releases it afterwards. Raises the
+        errors of `from_arrow`, and `LibraryError` (`OUT_OF_RANGE`) for an address at which no struct can be: one that
+        isn't from 1 to 2**64 - 1, or that isn't a multiple of 8.
 
         If something else is at the address, the interpreter may crash, which no call can test.
         """
@@ -716,18 +811,31 @@ class DType(Object):
 
     @staticmethod
     def from_proto(message: Message, allow_unknown: bool = False) -> DType:
-        """Returns the type that a message describes. For a message that describes no type it raises `LibraryError` of the
-        message's first fault, for example `TYPE_MISSING` for a message without a kind. An extension raises
-        `EXTENSION_UNREGISTERED`, unless `allow_unknown` is true: then it is kept with its metadata.
+        """Returns the type that the message describes. No plugin is registered, so no id of an extension is known. If
+        `allow_unknown` is true, an extension keeps its metadata.
 
         >>> DType.from_proto(Message([Node(kind=7, has_first=1), Node(kind=5)], b""))
         DType('list(utf8)')
+
+        If the message describes no type, it raises `LibraryError` with the kind of the message's first fault:
+
+        - `TYPE_MISSING` (24) for a message without a kind, and one of the kinds 25 to 34 in the docstring of
+          `ErrorKind` for a number that is out of its range, for a part that is missing, or for a struct with more or
+          fewer types than names
+        - `PRECISION_ZERO` (1), `PRECISION_TOO_LARGE` (2), `SCALE_TOO_LARGE` (3) or `SCALE_ABOVE_PRECISION` (4) for a
+          decimal that `decimal` refuses
+        - `MAP_KEY_NULLABLE` (9) for a map whose key type is nullable
+        - `UNION_TYPES_LENGTH` (10) or `UNION_TAGS_LENGTH` (11) for a union with more or fewer types or tags than names,
+          `UNION_EMPTY` (12) for one without variants, `UNION_TAGS_REPEAT` (13) for one in which a tag occurs twice, and
+          `UNION_NAMES_REPEAT` (15) for one in which a name occurs twice
+        - `EXTENSION_UNREGISTERED` (35) for an extension, if `allow_unknown` is false
         """
         given = instance_given(message, Message, "message")
         return made(DType, native.vlt_message_to_dtype, given._slot, flag_given(allow_unknown, "allow_unknown"))
 
     def to_proto(self) -> Message:
-        """Returns the message that describes the type.
+        """Returns the message that describes the type. `from_proto` returns the same type for it. If the type has an
+        extension in it, `allow_unknown` must be true for that.
 
         >>> DType("utf8?").to_proto()
         Message([Node(kind=5, nullable=1)], b'')

@@ -979,8 +979,8 @@ VLT_MUST_USE vlt_result vlt_path_resolve(const vlt_dtype *dtype, const vlt_path 
  * Results: VLT_DONE, VLT_NONE, VLT_KIND or VLT_SAME_SLOT. */
 VLT_MUST_USE vlt_result vlt_path_exists_in(const vlt_dtype *dtype, const vlt_path *path);
 
-/* Writes the path to `buffer` as the library displays it, for example `$a.[].$b`. `vlt_path_from_text` doesn't read
- * this form. It reads the one that `vlt_path_to_text` writes.
+/* Writes the path to `buffer` as the library displays it, for example `$a.[].$b`. The text of the root is empty. This
+ * isn't the form that `vlt_path_from_text` reads, which `vlt_path_to_text` writes.
  *
  * Results: VLT_DONE, VLT_KIND, VLT_SMALL, VLT_RANGE or VLT_LIBRARY. */
 VLT_MUST_USE vlt_result vlt_path_display(const vlt_path *path, uint8_t *buffer, size_t buffer_len, size_t *length);

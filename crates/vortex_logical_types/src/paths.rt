@@ -245,8 +245,8 @@ pub extern "C" fn vlt_core_path_exists_in(dtype: &mut Slot, path: &mut Slot) -> 
     if path.exists_in(dtype) { OK } else { NONE }
 }
 
-/// Writes the path to `buffer` as the library displays it, for example `$a.[].$b`. `vlt_path_from_text` doesn't read
-/// this form. It reads the one that `vlt_path_to_text` writes.
+/// Writes the path to `buffer` as the library displays it, for example `$a.[].$b`. The text of the root is empty. This
+/// isn't the form that `vlt_path_from_text` reads, which `vlt_path_to_text` writes.
 #[unsafe(no_mangle)]
 pub extern "C" fn vlt_core_path_display(
     alloc: Global,

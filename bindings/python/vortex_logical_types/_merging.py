@@ -19,8 +19,8 @@ class MergeConflict(ValueError):
     `DType.merge_all` raises it.
 
     `path` is the path to the place, `left` is the type there in the first type, or in the types that were merged
-    before, and `right` is the type there in the one that doesn't fit. `index` says which of the types that is, counted
-    from 0. Of two types it is 1.
+    before, and `right` is the type there in the one that doesn't fit. `index` is the index of that type among all of
+    the types, counted from 0. Of two types it is 1.
 
     >>> try:
     ...     DType.merge_all([DType("{customer={id=u64}}"), DType("{at=i64}"), DType("{customer={id=utf8}}")])

@@ -416,8 +416,8 @@ impl FromStr for FieldPath {
     }
 }
 
-/// The text that the library displays, such as `$a.[].$b`. [`FromStr`] doesn't read this form. It reads the one that
-/// [`FieldPath::to_source`] returns.
+/// The text that the library displays, such as `$a.[].$b`. The text of the root is empty. This isn't the form that
+/// [`FromStr`] reads, which [`FieldPath::to_source`] returns.
 impl fmt::Display for FieldPath {
     fn fmt(&self, f: &mut fmt::Formatter<'_>) -> fmt::Result {
         f.pad(&calls::text(|buffer, length| ffi::path_display(self.slot(), buffer, length)).map_err(|_| fmt::Error)?)

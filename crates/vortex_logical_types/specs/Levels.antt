@@ -2,7 +2,7 @@
 -- SPDX-FileCopyrightText: Copyright the Vortex contributors
 
 -- How many levels of parts a type has. A choice of ours: no export makes a type of more than 128 levels, so that dropping a
--- type can't exhaust the stack. (Of the exports that read a type from a text, no contract says this.)
+-- type can't exhaust the stack.
 use Rattle.std.specs.Prelude.{◌≡◌, ◌⊎◌, ◌+◌, ◌<◌, ℕ, List, [], ◌∷◌, max}
 use Rattle.dtype_types.specs.tree.Tree.{Tree, Holder, Items, list, fixed_size_list, map_of, struct, union, extension, no_items, item}
 

@@ -171,7 +171,7 @@ typedef enum {
     VLT_ERROR_INDEX_OUT_OF_BOUNDS = 117,
     /* Two structs can't be merged, because a name occurs in both of them, or twice in one of them. */
     VLT_ERROR_DUPLICATE_NAMES = 118,
-    /* The width of a value in bytes is above `usize::MAX`. */
+    /* The width of a value in bytes is above `SIZE_MAX`. */
     VLT_ERROR_WIDTH_OVERFLOW = 119,
     /* A field mask that selects only the root can't be stepped into. */
     VLT_ERROR_EXACT_ROOT = 120,

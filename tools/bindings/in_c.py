@@ -135,8 +135,8 @@ def filled(opening, parts, closing, indent=""):
 
 
 def comment(doc):
-    """Doc comments as one comment of C."""
-    doc = [it.replace("*/", "* /") for it in doc]
+    """Doc comments as one comment of C, with C's word for the greatest length."""
+    doc = [it.replace("*/", "* /").replace("usize::MAX", "SIZE_MAX") for it in doc]
     if len(doc) == 1:
         return [f"/* {doc[0]} */"]
     lines = [f"{'/*' if at == 0 else ' *'} {it}".rstrip() for at, it in enumerate(doc)]

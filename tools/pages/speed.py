@@ -35,6 +35,7 @@ read a message: read/*
 write a message: write/*
 copy or set nullability of a struct: copy/wide/* copy/deep/* with_nullability/wide/* with_nullability/deep/*
 merge structs (written by hand with vortex-array, which has no such call): merge/wide/* merge/deep/* merge_equal/wide/* merge_equal/deep/*
+merge columns of a struct with its own in another order (written by hand with vortex-array): merge_columns/*
 copy, merge, or set nullability of 64 nested lists or extensions: copy/*/64 with_nullability/*/64 merge/*/64 merge_equal/*/64
 path sets, insert or copy: set/from_iter/* set/copy/*
 path sets, contains: set/contains/*

@@ -2,7 +2,7 @@
 -- SPDX-FileCopyrightText: Copyright the Vortex contributors
 
 -- What readers of formats need.
-use Rattle.std.proofs.Common.{◌≡◌, ℕ, suc, ◌+◌, ◌<◌, Bool, true, false, List, length, get_or, drop, refl, ap, ◌∙◌, arith, drop-cons}
+use Rattle.std.proofs.Common.{◌≡◌, ℕ, suc, ◌+◌, ◌<◌, Bool, true, false, List, ◌∷◌, length, get_or, drop, refl, ap, ◌∙◌, arith, drop-cons}
 use Rattle.std.specs.Str.{is_utf8, IsUtf8}
 use Rattle.std.proofs.lemmas.List.Sums.{prefix_len-le-length}
 use Rattle.std.proofs.lemmas.Str.{is_utf8-from_IsUtf8, IsUtf8-from_is_utf8}
@@ -23,10 +23,14 @@ utf8_false bs h = false_unless (is_utf8 bs) (λ e. h (IsUtf8-from_is_utf8 bs e))
 
 pub ruleset utf8 = (utf8_true, utf8_false)
 
+-- the items from one on
+pub drop_next : (xs : List ℕ) (i : ℕ) → i < length xs → drop i xs ≡ get_or xs i 0 ∷ drop (i + 1) xs
+drop_next xs i lt =
+    let one : suc i ≡ i + 1 = omega arith in
+    drop-cons xs i 0 lt ∙ ap (λ (k : ℕ). get_or xs i 0 ∷ drop k xs) one
+
 -- one more digit is read
 pub number_step : (n i : ℕ) (word : List ℕ) → i < length word → number_after n (drop i word) ≡ (digit_after n (get_or word i 0) >>= λ m. number_after m (drop (i + 1) word))
-number_step n i word lt =
-    let one : suc i ≡ i + 1 = omega arith in
-    ap (number_after n) (drop-cons word i 0 lt) ∙ ap (λ (k : ℕ). digit_after n (get_or word i 0) >>= λ m. number_after m (drop k word)) one
+number_step n i word lt = ap (number_after n) (drop_next word i lt)
 
 pub ruleset numbers = (number_step)

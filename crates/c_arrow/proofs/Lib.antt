@@ -1,5 +1,10 @@
 -- SPDX-License-Identifier: Apache-2.0
 -- SPDX-FileCopyrightText: Copyright the Vortex contributors
 
+pub mod FaultFacts
+pub mod Flags
+pub mod IdLists
 pub mod Leaves
+pub mod Pairs
 pub mod Sound
+pub mod Tags

@@ -2,5 +2,11 @@
 -- SPDX-FileCopyrightText: Copyright the Vortex contributors
 
 pub mod Faults
+pub mod Flags
 pub mod Formats
+pub mod FormatsWritten
+pub mod Ids
+pub mod Keys
 pub mod Numbers
+pub mod Temporal
+pub mod Views

@@ -2,8 +2,8 @@
 // SPDX-FileCopyrightText: Copyright the Vortex contributors
 
 // Why a schema has no type here, or a type no schema.
-ghost use Rattle.std.specs.Prelude.{◌≡◌};
-ghost use Rattle.c_arrow.specs.Faults.{IsMemory};
+ghost use Rattle.std.specs.Prelude.{◌≡◌, ◌∷◌, [], ◌++◌, IfOk, map};
+ghost use Rattle.c_arrow.specs.Faults.{IsFault, IsMemory, IsWithin, problem_of_number, refused as refused_spec};
 ghost use Rattle.c_arrow.specs.declared.fault.ArrowFault.TheVariants.{OutOfMemory, Library, Refused};
 
 use dtype_base::VortexError;
@@ -86,7 +86,10 @@ pub enum Problem {
 
 impl Problem {
     // Returns the problem that a node tells, or `None` for a number that no node has.
-    pub(crate) fn of_number(number: u32) -> Option<Problem> {
+    #[tactic(auto, unfolding(crate::specs::Faults::problem_of_number))]
+    pub(crate) fn of_number(number: u32) -> Option<Problem>
+        ensures { result ≡ problem_of_number number }
+    {
         match number {
             1 => Some(Problem::Released),
             2 => Some(Problem::NoFormat),
@@ -114,7 +117,9 @@ impl Problem {
 
 impl ArrowFault {
     // Returns the fault that the field with this format is refused.
-    pub(crate) fn refused(alloc: Global, format: &[u8], problem: Problem) -> ArrowFault {
+    pub(crate) fn refused(alloc: Global, format: &[u8], problem: Problem) -> ArrowFault
+        ensures { IsFault result (refused_spec [] format.now problem) }
+    {
         match Vec::from_slice(alloc, format) {
             Ok(format) => ArrowFault::Refused(Refusal {
                 names: Vec::new(alloc),
@@ -126,7 +131,9 @@ impl ArrowFault {
     }
 
     // Returns the same fault of a field with this name, as its parent sees it.
-    pub(crate) fn within(self, alloc: Global, name: &[u8]) -> ArrowFault {
+    pub(crate) fn within(self, alloc: Global, name: &[u8]) -> ArrowFault
+        ensures { IsWithin name.now self result }
+    {
         match self {
             ArrowFault::Refused(mut refusal) => match pushed(alloc, &mut refusal.names, name) {
                 Ok(()) => ArrowFault::Refused(refusal),
@@ -138,7 +145,9 @@ impl ArrowFault {
 }
 
 // Adds a name.
-fn pushed(alloc: Global, names: &mut Vec<Vec<u8>>, name: &[u8]) -> Result<(), AllocError> {
+fn pushed(alloc: Global, names: &mut Vec<Vec<u8>>, name: &[u8]) -> Result<(), AllocError>
+    ensures { IfOk result (λ _. map (λ n. n.items) names.new.items ≡ map (λ n. n.items) names.old.items ++ name.now ∷ []) }
+{
     let name = Vec::from_slice(alloc, name)?;
     names.push(name)?;
     Ok(())

@@ -2,7 +2,7 @@
 // SPDX-FileCopyrightText: Copyright the Vortex contributors
 
 // What the format of a field says.
-ghost use Rattle.std.specs.Prelude.{◌≡◌};
+ghost use Rattle.std.specs.Prelude.{◌≡◌, drop};
 ghost use Rattle.dtype_text.specs.Leaves.{text_at};
 ghost use Rattle.dtype_text.specs.Read.{shown};
 ghost use Rattle.c_arrow.specs.Formats.{format_of, nested_of as nested_spec, nested_word_of as nested_word_spec, parametric_of as parametric_spec, time_of as time_spec, timestamp_of as timestamp_spec, union_of as union_spec, word_in, word_of as word_spec};
@@ -200,7 +200,9 @@ fn timestamp_of(bytes: &[u8]) -> Option<Format>
 }
 
 /// Returns what is behind the first four bytes of a format: the type ids of a union, or the time zone of a timestamp.
-pub(crate) fn parameter(format: &[u8]) -> &[u8] {
+pub(crate) fn parameter(format: &[u8]) -> &[u8]
+    ensures { result.now ≡ drop 4 format.now }
+{
     match format {
         [_, _, _, _, rest @ ..] => rest,
         _ => &[],

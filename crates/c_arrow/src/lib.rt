@@ -11,6 +11,9 @@
 //! - The type that `dtype_of` returns is valid and has at most 128 levels, whatever the nodes and the texts are.
 //! - What a format says is exactly what the table in `specs/Formats` says, and numbers in formats are exactly those of
 //!   `specs/Numbers`. For example, `+w:3` is a fixed-size list of 3 elements, and `w:-1` is no format.
+//! - What metadata says of an extension, the type ids of a union, the types of dates, times and timestamps, and how each of
+//!   these is written are exactly what `specs/Keys`, `specs/Ids`, `specs/Temporal` and `specs/FormatsWritten` define. For
+//!   example, a date in days is `vortex.date` over `i32` with the metadata 4, and the format `tdD`.
 //! - Both functions return for all nodes, texts and types, without an overflow or an index out of range. At most 300 fields
 //!   are read inside one another.
 //!
@@ -26,6 +29,7 @@ pub use writer::nodes_of;
 
 mod fault;
 mod format;
+mod formats_written;
 mod ids;
 mod keys;
 mod node;

@@ -2,6 +2,8 @@
 // SPDX-FileCopyrightText: Copyright the Vortex contributors
 
 // The nodes of the flat form.
+ghost use Rattle.std.specs.Prelude.{◌≡◌};
+ghost use Rattle.c_arrow.specs.Flags.{flags_of as flags_spec, has_sorted_keys as sorted_keys_spec, is_nullable as nullable_spec};
 
 /// One field of a schema in Arrow's C data interface. The node of a field is followed by the nodes of its children, each
 /// with what belongs to it, and then by those of the type of its dictionary's values. The bytes of its format, its name
@@ -34,16 +36,24 @@ const NULLABLE: u64 = 2;
 const KEYS_SORTED: u64 = 4;
 
 impl ArrowNode {
-    pub(crate) fn is_nullable(&self) -> bool {
+    #[tactic(auto, using(crate::proofs::Flags::flags))]
+    pub(crate) fn is_nullable(&self) -> bool
+        ensures { result ≡ nullable_spec self.now.flags }
+    {
         self.flags & NULLABLE != 0
     }
 
-    pub(crate) fn has_sorted_keys(&self) -> bool {
+    #[tactic(auto, using(crate::proofs::Flags::flags))]
+    pub(crate) fn has_sorted_keys(&self) -> bool
+        ensures { result ≡ sorted_keys_spec self.now.flags }
+    {
         self.flags & KEYS_SORTED != 0
     }
 }
 
 /// Returns the flags of a field.
-pub(crate) fn flags_of(is_nullable: bool, has_sorted_keys: bool) -> u64 {
+pub(crate) fn flags_of(is_nullable: bool, has_sorted_keys: bool) -> u64
+    ensures { result ≡ flags_spec is_nullable has_sorted_keys }
+{
     NULLABLE * u64::from(is_nullable) + KEYS_SORTED * u64::from(has_sorted_keys)
 }

@@ -3,11 +3,14 @@
 
 // Nodes and texts from types.
 use crate::fault::{ArrowFault, Problem};
+use crate::formats_written::{
+    check_nul, decimal_format, fixed_size_format, letter_of, union_format,
+};
 use crate::keys::extension_metadata;
 use crate::node::{ArrowNode, flags_of};
 use crate::reader::MAX_LEVELS;
 use crate::temporal::Temporal;
-use dtype_base::{DecimalDType, Nullability, PType};
+use dtype_base::{DecimalDType, Nullability};
 use dtype_types::{DType, ExtDTypeRef, MapDType, StructFields, UnionVariants};
 use std::alloc::Global;
 
@@ -24,13 +27,6 @@ struct Label<'a> {
     name: &'a [u8],
     metadata: &'a [u8],
 }
-
-// The greatest precision of a decimal that is written without the width of its values.
-const SHORT_PRECISION: u8 = 38;
-// The greatest size and the greatest length of metadata that Arrow's signed numbers of 32 bits have.
-const MAX_SIZE: u32 = 2147483647;
-// The greatest type id.
-const MAX_ID: u8 = 127;
 
 /// Returns the nodes and the texts of the schema of the type. The name of the root is empty.
 ///
@@ -233,13 +229,7 @@ impl Flat {
         decimal: &DecimalDType,
         n: Nullability,
     ) -> Result<(), ArrowFault> {
-        let (precision, scale) = (decimal.precision(), decimal.scale());
-        let width = if precision > SHORT_PRECISION {
-            ",256"
-        } else {
-            ""
-        };
-        let format = format!(in alloc; "d:{precision},{scale}{width}")?;
+        let format = decimal_format(alloc, *decimal)?;
         self.leaf(label, format.as_bytes(), n)
     }
 
@@ -251,10 +241,7 @@ impl Flat {
         size: u32,
         n: Nullability,
     ) -> Result<(), ArrowFault> {
-        if size > MAX_SIZE {
-            return Err(ArrowFault::refused(alloc, &[], Problem::Size));
-        }
-        let format = format!(in alloc; "+w:{size}")?;
+        let format = fixed_size_format(alloc, size)?;
         self.node(
             label,
             format.as_bytes(),
@@ -340,45 +327,5 @@ impl Flat {
             self.child(alloc, name.as_str().as_bytes(), dtype, levels)?;
         }
         Ok(())
-    }
-}
-
-// Returns the format of a union with these tags.
-fn union_format(alloc: Global, tags: &[u8]) -> Result<String, ArrowFault> {
-    let mut format = String::from_str(alloc, "+us:")?;
-    let mut separator = "";
-    for tag in tags {
-        if *tag > MAX_ID {
-            return Err(ArrowFault::refused(alloc, &[], Problem::Tag));
-        }
-        let id = format!(in alloc; "{separator}{tag}")?;
-        format.push_str(id.as_str())?;
-        separator = ",";
-    }
-    Ok(format)
-}
-
-// Fails if there is a NUL byte.
-fn check_nul(alloc: Global, text: &[u8]) -> Result<(), ArrowFault> {
-    if text.iter().any(|byte| *byte == 0) {
-        return Err(ArrowFault::refused(alloc, &[], Problem::Nul));
-    }
-    Ok(())
-}
-
-// Returns the format of a primitive type.
-fn letter_of(ptype: PType) -> &'static str {
-    match ptype {
-        PType::U8 => "C",
-        PType::U16 => "S",
-        PType::U32 => "I",
-        PType::U64 => "L",
-        PType::I8 => "c",
-        PType::I16 => "s",
-        PType::I32 => "i",
-        PType::I64 => "l",
-        PType::F16 => "e",
-        PType::F32 => "f",
-        PType::F64 => "g",
     }
 }

@@ -24,7 +24,8 @@ pub data Fault : Type 0 where
   library : VortexError → Fault
   refused : List (List ℕ) → List ℕ → Problem → Fault
 
--- the fault of a field with this name, as its parent sees it
+-- The fault of a field with this name, as its parent sees it: the name is added to those of a refusal. For example, a refusal with
+-- the name `item` is one with the names `item` and `a` for the parent of the field `a`.
 abbrev pub within : List ℕ → Fault → Fault
 within name (refused names format problem) = refused (names ++ name ∷ []) format problem
 within name out_of_range = out_of_range

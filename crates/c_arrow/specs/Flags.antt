@@ -5,11 +5,11 @@
 use Rattle.std.specs.Prelude.{ℕ, ◌+◌, ◌==◌, Bool, true, false}
 use Rattle.std.specs.Int.{bit_at}
 
--- flag 2: the field is nullable
+-- flag 2: the field is nullable. For example, it is with the flags 3.
 abbrev pub is_nullable : ℕ → Bool
 is_nullable flags = bit_at flags 1 == 1
 
--- flag 4: the keys of the map are sorted
+-- flag 4: the keys of the map are sorted. For example, they are with the flags 6.
 abbrev pub has_sorted_keys : ℕ → Bool
 has_sorted_keys flags = bit_at flags 2 == 1
 

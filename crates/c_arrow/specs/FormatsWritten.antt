@@ -11,7 +11,7 @@ use Rattle.c_arrow.specs.Faults.{Fault, refused}
 use Rattle.c_arrow.specs.declared.fault.Problem.{Problem}
 use Rattle.c_arrow.specs.declared.fault.Problem.TheVariants as problem
 
--- the format of a primitive type
+-- the format of a primitive type, for example `i` of i32
 unfoldable pub letter_of : PType → List ℕ
 letter_of p.U8 = codes "C"
 letter_of p.U16 = codes "S"
@@ -25,7 +25,7 @@ letter_of p.F16 = codes "e"
 letter_of p.F32 = codes "f"
 letter_of p.F64 = codes "g"
 
--- the width of a decimal with more than 38 digits
+-- the width of the values, in bits, which is written of a decimal with more than 38 digits
 abbrev pub width_of : ℕ → List ℕ
 width_of precision = if nat_lt 38 precision then codes ",256" else []
 
@@ -41,11 +41,12 @@ no_schema what = Err (refused [] [] what)
 unfoldable pub fixed_size_format : ℕ → Result (List ℕ) Fault
 fixed_size_format size = if nat_le size 2147483647 then Ok (codes "+w:" ++ decimal size) else no_schema problem.Size
 
--- numbers with commas between them, the first behind this text
+-- Numbers with commas between them, the first behind this text. For example, they are `0,5` of 0 and 5 behind no text.
 abbrev pub joined : List ℕ → List ℕ → List ℕ
 joined before [] = []
 joined before (n ∷ ns) = before ++ (decimal n ++ joined (codes ",") ns)
 
+-- whether a tag is a type id of Arrow
 abbrev pub is_id : ℕ → Bool
 is_id tag = nat_le tag 127
 

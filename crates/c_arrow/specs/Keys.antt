@@ -22,12 +22,12 @@ name_key = codes "ARROW:extension:name"
 abbrev pub metadata_key : List ℕ
 metadata_key = codes "ARROW:extension:metadata"
 
--- a count or a length, which is a signed number and not negative
+-- A count or a length: a signed number that isn't negative, so its highest byte is below 128. For example, 20, 0, 0, 0 is 20.
 unfoldable pub count_at : List ℕ → Option (ℕ × List ℕ)
 count_at (a ∷ b ∷ c ∷ d ∷ rest) = if nat_lt d 128 then Some (from_le_bytes w32 (a ∷ b ∷ c ∷ d ∷ []), rest) else None
 count_at _ = None
 
--- a text with its length before it
+-- a text with its length before it, and the bytes behind the text
 unfoldable pub text_at : List ℕ → Option (List ℕ × List ℕ)
 text_at bytes = do
   n ← count_at bytes

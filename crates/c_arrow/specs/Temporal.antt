@@ -14,7 +14,7 @@ use Rattle.dtype_text.specs.TypeParts.{is_text}
 use Rattle.c_arrow.specs.declared.temporal.Unit.{Unit}
 use Rattle.c_arrow.specs.declared.temporal.Unit.TheVariants as unit
 
--- the byte that stands for a unit in the metadata
+-- the byte that stands for a unit in the metadata, for example 4 for days
 unfoldable pub byte_of : Unit → ℕ
 byte_of unit.Nanoseconds = 0
 byte_of unit.Microseconds = 1
@@ -32,7 +32,7 @@ unit_of_byte b =
     else if b == 4 then Some unit.Days
     else None
 
--- the storage type of dates: i32 for days and i64 for milliseconds
+-- the storage type of dates: i32 for days and i64 for milliseconds. Arrow has no dates of other units.
 unfoldable pub date_ptype : Unit → PType
 date_ptype unit.Days = p.I32
 date_ptype unit.Milliseconds = p.I64
@@ -40,7 +40,7 @@ date_ptype unit.Seconds = p.I64
 date_ptype unit.Microseconds = p.I64
 date_ptype unit.Nanoseconds = p.I64
 
--- the storage type of times: i32 for seconds and milliseconds, i64 for microseconds and nanoseconds
+-- The storage type of times: i32 for seconds and milliseconds, i64 for microseconds and nanoseconds. Arrow has no times in days.
 unfoldable pub time_ptype : Unit → PType
 time_ptype unit.Seconds = p.I32
 time_ptype unit.Milliseconds = p.I32
@@ -50,11 +50,11 @@ time_ptype unit.Days = p.I64
 
 -- ---- types of formats
 
--- a date. For example, that of days is `vortex.date` over i32 with the metadata 4.
+-- A date. For example, that of days is `vortex.date` over i32 with the metadata 4.
 unfoldable pub date_tree : Unit → Nullability → Tree
 date_tree u n = extension (codes "vortex.date") (byte_of u ∷ []) (primitive (date_ptype u) n)
 
--- a time
+-- A time. For example, that of seconds is `vortex.time` over i32 with the metadata 3.
 unfoldable pub time_tree : Unit → Nullability → Tree
 time_tree u n = extension (codes "vortex.time") (byte_of u ∷ []) (primitive (time_ptype u) n)
 
@@ -62,20 +62,21 @@ time_tree u n = extension (codes "vortex.time") (byte_of u ∷ []) (primitive (t
 abbrev pub zoned : Unit → List ℕ → List ℕ
 zoned u zone = byte_of u ∷ (to_le_bytes w16 (length zone) ++ zone)
 
--- a timestamp with this time zone, if that is UTF-8 and at most 65535 bytes long
+-- A timestamp with this time zone, if that is UTF-8 and at most 65535 bytes long. For example, that of milliseconds and `UTC` is
+-- `vortex.timestamp` over i64 with the metadata 2, 3, 0 and `UTC`.
 unfoldable pub timestamp_tree : Unit → List ℕ → Nullability → Option Tree
 timestamp_tree u zone n =
     if nat_lt (length zone) (2 ^ 16) && is_utf8 zone then Some (extension (codes "vortex.timestamp") (zoned u zone) (primitive p.I64 n)) else None
 
 -- ---- formats of types
 
--- the formats of dates with this unit and this storage type
+-- the format of a date with this unit and this storage type, for example `tdD` of days over i32
 unfoldable pub date_letters : Unit → PType → Option (List ℕ)
 date_letters unit.Days p.I32 = Some (codes "tdD")
 date_letters unit.Milliseconds p.I64 = Some (codes "tdm")
 date_letters _ _ = None
 
--- the formats of times
+-- the format of a time
 unfoldable pub time_letters : Unit → PType → Option (List ℕ)
 time_letters unit.Seconds p.I32 = Some (codes "tts")
 time_letters unit.Milliseconds p.I32 = Some (codes "ttm")
@@ -83,7 +84,7 @@ time_letters unit.Microseconds p.I64 = Some (codes "ttu")
 time_letters unit.Nanoseconds p.I64 = Some (codes "ttn")
 time_letters _ _ = None
 
--- the formats of timestamps, without the time zone
+-- the format of a timestamp, without the time zone
 unfoldable pub timestamp_letters : Unit → PType → Option (List ℕ)
 timestamp_letters unit.Seconds p.I64 = Some (codes "tss:")
 timestamp_letters unit.Milliseconds p.I64 = Some (codes "tsm:")
@@ -95,13 +96,15 @@ timestamp_letters _ _ = None
 abbrev pub is_zone : ℕ → ℕ → List ℕ → Bool
 is_zone low high zone = from_le_bytes w16 (low ∷ high ∷ []) == length zone && is_utf8 zone
 
--- the unit in the metadata, and the time zone, if there is one
+-- The unit in the metadata, and the time zone, if there is one. For example, the bytes 3, 3, 0 and `UTC` are seconds and `UTC`, and
+-- the byte 4 alone is days without a time zone.
 unfoldable pub unit_and_zone : List ℕ → Option (Unit × Option (List ℕ))
 unit_and_zone (u ∷ []) = unit_of_byte u >>= λ it. Some (it, None)
 unit_and_zone (u ∷ low ∷ high ∷ zone) = if is_zone low high zone then (unit_of_byte u >>= λ it. Some (it, Some zone)) else None
 unit_and_zone _ = None
 
--- the format, without the time zone, of an extension with this id, unit and storage type, and with a time zone or without
+-- The format, without the time zone, of an extension with this id, unit and storage type, and with a time zone or without. For
+-- example, it is `tts` of `vortex.time` with seconds over i32 and without a time zone.
 unfoldable pub letters_of : List ℕ → Unit → PType → Bool → Option (List ℕ)
 letters_of id u ptype has_zone =
     if is_text id (codes "vortex.date") && not has_zone then date_letters u ptype
@@ -115,6 +118,7 @@ pub record Written : Type 0 where
   pub zone : List ℕ
   pub nullability : Nullability
 
+-- the time zone, which is no bytes if there is none
 abbrev pub or_empty : Option (List ℕ) → List ℕ
 or_empty None = []
 or_empty (Some bytes) = bytes

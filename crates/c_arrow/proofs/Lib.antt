@@ -8,3 +8,5 @@ pub mod Leaves
 pub mod Pairs
 pub mod Sound
 pub mod Tags
+pub mod Writing
+pub mod WritingCalls

@@ -1,6 +1,7 @@
 -- SPDX-License-Identifier: Apache-2.0
 -- SPDX-FileCopyrightText: Copyright the Vortex contributors
 
+pub mod Added
 pub mod Faults
 pub mod Flags
 pub mod Formats
@@ -8,5 +9,7 @@ pub mod FormatsWritten
 pub mod Ids
 pub mod Keys
 pub mod Numbers
+pub mod Schema
 pub mod Temporal
 pub mod Views
+pub mod Write

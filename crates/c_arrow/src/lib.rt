@@ -14,12 +14,14 @@
 //! - What metadata says of an extension, the type ids of a union, the types of dates, times and timestamps, and how each of
 //!   these is written are exactly what `specs/Keys`, `specs/Ids`, `specs/Temporal` and `specs/FormatsWritten` define. For
 //!   example, a date in days is `vortex.date` over `i32` with the metadata 4, and the format `tdD`.
+//! - `nodes_of` returns exactly the nodes and the texts of the schema that `specs/Write` defines, or exactly the fault that
+//!   it defines, with the path of the part that has no Arrow type. Only a failed allocation may come first.
 //! - Both functions return for all nodes, texts and types, without an overflow or an index out of range. At most 300 fields
 //!   are read inside one another.
 //!
 //! What is tested in `tests_arrow` and not proved: which type a schema has beyond its formats, for example which flag makes
-//! it nullable, and which child is the key of a map; which fault is returned, with which path; which nodes and texts are
-//! written of a type; and that what is written is read back as the same type.
+//! it nullable, and which child is the key of a map; which fault is returned, with which path; and that what is
+//! written is read back as the same type.
 #![tactic(auto)]
 
 pub use fault::{ArrowFault, Problem, Refusal};

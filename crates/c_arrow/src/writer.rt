@@ -2,6 +2,16 @@
 // SPDX-FileCopyrightText: Copyright the Vortex contributors
 
 // Nodes and texts from types.
+ghost use Rattle.std.specs.Prelude.{◌≡◌, Ok, codes};
+ghost use Rattle.dtype_text.specs.Read.{shown};
+ghost use Rattle.dtype_types.specs.tree.Tree.{map_of, struct as struct_tree, union as union_tree};
+ghost use Rattle.dtype_types.specs.tree.TreeOf.{tree, extension_id, extension_metadata as metadata_bytes, extension_tree, fields_of, map_shown, storage_tree, variants_of};
+ghost use Rattle.c_arrow.specs.Added.{Writes, label_of, out, with_field, with_fields, with_node};
+ghost use Rattle.c_arrow.specs.Faults.{Gives};
+ghost use Rattle.c_arrow.specs.Views.{written};
+ghost use Rattle.c_arrow.specs.Write as write;
+ghost use Rattle.c_arrow.specs.Write.{nodes_and_texts};
+
 use crate::fault::{ArrowFault, Problem};
 use crate::formats_written::{
     check_nul, decimal_format, fixed_size_format, letter_of, union_format,
@@ -10,7 +20,7 @@ use crate::keys::extension_metadata;
 use crate::node::{ArrowNode, flags_of};
 use crate::reader::MAX_LEVELS;
 use crate::temporal::Temporal;
-use dtype_base::{DecimalDType, Nullability};
+use dtype_base::Nullability;
 use dtype_types::{DType, ExtDTypeRef, MapDType, StructFields, UnionVariants};
 use std::alloc::Global;
 
@@ -21,12 +31,16 @@ struct Flat {
     texts: Vec<u8>,
 }
 
-// The name and the metadata of a field.
+// The name of a field, its metadata, and whether its type is the storage type of an extension.
 #[derive(Clone, Copy)]
 struct Label<'a> {
     name: &'a [u8],
     metadata: &'a [u8],
+    is_storage: bool,
 }
+
+// The name of the field between a map and its key and value.
+const ENTRIES: &[u8] = b"entries";
 
 /// Returns the nodes and the texts of the schema of the type. The name of the root is empty.
 ///
@@ -35,24 +49,51 @@ struct Label<'a> {
 /// - `Refused`: a part of the type has no Arrow type. The refusal names the field and says why.
 /// - `TooDeep`: a type is nested in more than 128 others.
 /// - `OutOfMemory`: an allocation fails.
-pub fn nodes_of(alloc: Global, dtype: &DType) -> Result<(Vec<ArrowNode>, Vec<u8>), ArrowFault> {
+#[tactic(auto, unfolding(crate::specs::Added::with_field))]
+pub fn nodes_of(alloc: Global, dtype: &DType) -> Result<(Vec<ArrowNode>, Vec<u8>), ArrowFault>
+    // The nodes and the texts of the schema, or the fault why there is none, unless memory runs out.
+    ensures { Gives (λ r. (r.0.items, r.1.items)) result (nodes_and_texts (tree dtype.now)) }
+{
     let mut flat = Flat {
         nodes: Vec::new(alloc),
         texts: Vec::new(alloc),
     };
-    flat.field(alloc, &[], dtype, MAX_LEVELS)?;
+    flat.field(alloc, Label::called(&[]), dtype, MAX_LEVELS)?;
     Ok((flat.nodes, flat.texts))
+}
+
+impl<'a> Label<'a> {
+    // Returns the label of a field without metadata.
+    fn called(name: &'a [u8]) -> Label<'a>
+        ensures { label_of result ≡ write.called name.now }
+    {
+        Label {
+            name,
+            metadata: &[],
+            is_storage: false,
+        }
+    }
+}
+
+// Returns the flags of a field that is no map.
+fn nullable_flag(n: Nullability) -> u64
+    ensures { result ≡ write.nullable_flag n }
+{
+    flags_of(n.is_nullable(), false)
 }
 
 impl Flat {
     // Adds the node of a field, with its texts.
+    #[tactic(auto, unfolding(crate::specs::Added::with_node))]
     fn node(
         &mut self,
         label: Label<'_>,
         format: &[u8],
         flags: u64,
         child_count: usize,
-    ) -> Result<(), ArrowFault> {
+    ) -> Result<(), ArrowFault>
+        ensures { Writes result (out self.new) (Ok (with_node format.now flags (label_of label.entry) child_count (out self.old))) }
+    {
         self.nodes.push(ArrowNode {
             flags,
             format_length: format.len(),
@@ -69,49 +110,74 @@ impl Flat {
     }
 
     // Adds a field without children.
-    fn leaf(&mut self, label: Label<'_>, format: &[u8], n: Nullability) -> Result<(), ArrowFault> {
-        self.node(label, format, flags_of(n.is_nullable(), false), 0)
+    #[tactic(auto, using(crate::proofs::Writing::leaf_added))]
+    fn leaf(&mut self, label: Label<'_>, format: &[u8], n: Nullability) -> Result<(), ArrowFault>
+        ensures { Writes result (out self.new) (with_field (write.leaf format.now (label_of label.entry) n) (out self.old)) }
+    {
+        self.node(label, format, nullable_flag(n), 0)
     }
 
-    // Adds a field of this name and this type, with at most so many levels below it.
+    // Adds a field of this type, with at most so many levels below it.
     #[cycle(writing)]
+    #[tactic(auto, using(crate::proofs::WritingCalls::kinds, crate::proofs::Writing::one_added, crate::proofs::Writing::before_stops, crate::proofs::FaultFacts::faults))]
     fn field(
         &mut self,
         alloc: Global,
-        name: &[u8],
+        label: Label<'_>,
         dtype: &DType,
         levels: u32,
-    ) -> Result<(), ArrowFault> {
+    ) -> Result<(), ArrowFault>
+        ensures { Writes result (out self.new) (with_field (write.field_of levels (label_of label.entry) (tree dtype.now)) (out self.old)) }
+    {
         match dtype {
-            DType::Extension(extension) => self.extension(alloc, name, extension, levels),
-            _ => {
-                let label = Label {
-                    name,
-                    metadata: &[],
-                };
-                self.plain(alloc, label, dtype, levels)
+            DType::Null => self.leaf(label, b"n", Nullability::Nullable),
+            DType::Bool(n) => self.leaf(label, b"b", *n),
+            DType::Primitive(ptype, n) => self.leaf(label, letter_of(*ptype).as_bytes(), *n),
+            DType::Decimal(decimal, n) => {
+                let format = decimal_format(alloc, *decimal)?;
+                self.leaf(label, format.as_bytes(), *n)
             }
+            DType::Utf8(n) => self.leaf(label, b"u", *n),
+            DType::Binary(n) => self.leaf(label, b"z", *n),
+            DType::List(element, n) => {
+                self.node(label, b"+l", nullable_flag(*n), 1)?;
+                self.child(alloc, b"item", element, levels)
+            }
+            DType::FixedSizeList(element, size, n) => {
+                let format = fixed_size_format(alloc, *size)?;
+                self.node(label, format.as_bytes(), nullable_flag(*n), 1)?;
+                self.child(alloc, b"item", element, levels)
+            }
+            DType::Map(map, n) => self.map(alloc, label, map, *n, levels),
+            DType::Struct(fields, n) => self.structure(alloc, label, fields, *n, levels),
+            DType::Union(variants, n) => self.union(alloc, label, variants, *n, levels),
+            DType::Variant(_) => Err(ArrowFault::refused(alloc, &[], Problem::Variant)),
+            DType::Extension(extension) => self.extension(alloc, label, extension, levels),
         }
     }
 
-    // Adds a child of this name and this type, a level deeper. The name may be that of a field of a struct.
+    // Adds a child with this name and of this type, a level deeper. The name may be that of a field of a struct.
     #[cycle(writing)]
+    #[tactic(auto, using(crate::proofs::Writing::child_too_deep, crate::proofs::Writing::child_deeper, crate::proofs::FaultFacts::stops_within))]
     fn child(
         &mut self,
         alloc: Global,
         name: &[u8],
         dtype: &DType,
         levels: u32,
-    ) -> Result<(), ArrowFault> {
-        let Some(below) = levels.checked_sub(1) else {
+    ) -> Result<(), ArrowFault>
+        ensures { Writes result (out self.new) (with_field (write.child_of levels name.now (tree dtype.now)) (out self.old)) }
+    {
+        if levels == 0 {
             return Err(ArrowFault::TooDeep);
-        };
-        match self.named(alloc, name, dtype, below) {
+        }
+        match self.named(alloc, name, dtype, levels - 1) {
             Ok(()) => Ok(()),
             Err(fault) => Err(fault.within(alloc, name)),
         }
     }
 
+    // Adds a field with this name and of this type, if the name can be written.
     #[cycle(writing)]
     fn named(
         &mut self,
@@ -119,139 +185,100 @@ impl Flat {
         name: &[u8],
         dtype: &DType,
         levels: u32,
-    ) -> Result<(), ArrowFault> {
+    ) -> Result<(), ArrowFault>
+        ensures { Writes result (out self.new) (with_field (write.named name.now (write.field_of levels (write.called name.now) (tree dtype.now))) (out self.old)) }
+    {
         check_nul(alloc, name)?;
-        self.field(alloc, name, dtype, levels)
+        self.field(alloc, Label::called(name), dtype, levels)
     }
 
     // Adds an extension.
     #[cycle(writing)]
+    #[tactic(auto, unfolding(crate::specs::Write::extension_at))]
     fn extension(
         &mut self,
         alloc: Global,
-        name: &[u8],
+        label: Label<'_>,
         extension: &ExtDTypeRef,
         levels: u32,
-    ) -> Result<(), ArrowFault> {
-        let Some(below) = levels.checked_sub(1) else {
-            return Err(ArrowFault::TooDeep);
-        };
-        if let Some(temporal) = Temporal::of(extension) {
-            let label = Label {
-                name,
-                metadata: &[],
-            };
-            return self.temporal(alloc, label, &temporal);
+    ) -> Result<(), ArrowFault>
+        ensures { Writes result (out self.new) (with_field (write.field_of levels (label_of label.entry) (extension_tree extension.now)) (out self.old)) }
+    {
+        let temporal = Temporal::of(extension);
+        if label.is_storage {
+            self.inner_extension(alloc, label, temporal, levels)
+        } else {
+            self.outer_extension(alloc, label.name, extension, temporal, levels)
         }
-        let id = extension.id().as_str().as_bytes();
-        check_nul(alloc, id)?;
-        let bytes = extension.metadata_bytes();
-        let metadata = match extension_metadata(alloc, id, bytes)? {
-            Some(metadata) => metadata,
-            None => return Err(ArrowFault::refused(alloc, &[], Problem::Length)),
-        };
-        let label = Label {
-            name,
-            metadata: &metadata,
-        };
-        self.storage(alloc, label, extension.storage_dtype(), below)
     }
 
-    // Adds the storage type of an extension, whose name is in the metadata of the label.
-    #[cycle(writing)]
-    fn storage(
+    // Adds an extension that is the storage type of another.
+    #[tactic(auto, using(crate::proofs::Writing::inner_too_deep, crate::proofs::Writing::inner_temporal, crate::proofs::FaultFacts::faults))]
+    fn inner_extension(
         &mut self,
         alloc: Global,
         label: Label<'_>,
-        dtype: &DType,
+        temporal: Option<Temporal<'_>>,
         levels: u32,
-    ) -> Result<(), ArrowFault> {
-        let DType::Extension(extension) = dtype else {
-            return self.plain(alloc, label, dtype, levels);
-        };
-        match Temporal::of(extension) {
+    ) -> Result<(), ArrowFault>
+        ensures { Writes result (out self.new) (with_field (write.inner_extension levels (label_of label.entry) (shown written temporal.entry)) (out self.old)) }
+    {
+        match temporal {
             Some(_) if levels == 0 => Err(ArrowFault::TooDeep),
             Some(temporal) => self.temporal(alloc, label, &temporal),
             None => Err(ArrowFault::refused(alloc, &[], Problem::Extension)),
         }
     }
 
+    // Adds an extension that is no other's storage type.
+    #[cycle(writing)]
+    #[tactic(auto, using(crate::proofs::Writing::outer_too_deep, crate::proofs::Writing::outer_temporal, crate::proofs::Writing::outer_deeper, crate::proofs::Writing::before_stops))]
+    fn outer_extension(
+        &mut self,
+        alloc: Global,
+        name: &[u8],
+        extension: &ExtDTypeRef,
+        temporal: Option<Temporal<'_>>,
+        levels: u32,
+    ) -> Result<(), ArrowFault>
+        ensures { Writes result (out self.new) (with_field (write.outer_extension levels name.now (shown written temporal.entry) (write.metadata_for (extension_id extension.now) (metadata_bytes extension.now)) (λ below l. write.field_of below l (storage_tree extension.now))) (out self.old)) }
+    {
+        if levels == 0 {
+            return Err(ArrowFault::TooDeep);
+        }
+        match temporal {
+            Some(temporal) => self.temporal(alloc, Label::called(name), &temporal),
+            None => {
+                let metadata = metadata_for(alloc, extension)?;
+                let label = Label {
+                    name,
+                    metadata: &metadata,
+                    is_storage: true,
+                };
+                self.field(alloc, label, extension.storage_dtype(), levels - 1)
+            }
+        }
+    }
+
     // Adds a date, a time or a timestamp.
+    #[tactic(auto, using(crate::proofs::Writing::before_stops), unfolding(crate::specs::Write::temporal))]
     fn temporal(
         &mut self,
         alloc: Global,
         label: Label<'_>,
         temporal: &Temporal<'_>,
-    ) -> Result<(), ArrowFault> {
+    ) -> Result<(), ArrowFault>
+        ensures { Writes result (out self.new) (with_field (write.temporal (label_of label.entry) (written temporal.now)) (out self.old)) }
+    {
         check_nul(alloc, temporal.zone)?;
         let mut format = Vec::from_slice(alloc, temporal.letters.as_bytes())?;
         format.extend_from_slice(temporal.zone)?;
         self.leaf(label, &format, temporal.nullability)
     }
 
-    // Adds a type that is no extension.
-    #[cycle(writing)]
-    fn plain(
-        &mut self,
-        alloc: Global,
-        label: Label<'_>,
-        dtype: &DType,
-        levels: u32,
-    ) -> Result<(), ArrowFault> {
-        match dtype {
-            DType::Null => self.leaf(label, b"n", Nullability::Nullable),
-            DType::Bool(n) => self.leaf(label, b"b", *n),
-            DType::Primitive(ptype, n) => self.leaf(label, letter_of(*ptype).as_bytes(), *n),
-            DType::Decimal(decimal, n) => self.decimal(alloc, label, decimal, *n),
-            DType::Utf8(n) => self.leaf(label, b"u", *n),
-            DType::Binary(n) => self.leaf(label, b"z", *n),
-            DType::List(element, n) => {
-                self.node(label, b"+l", flags_of(n.is_nullable(), false), 1)?;
-                self.child(alloc, b"item", element, levels)
-            }
-            DType::FixedSizeList(element, size, n) => {
-                self.fixed_size_list(alloc, label, *size, *n)?;
-                self.child(alloc, b"item", element, levels)
-            }
-            DType::Map(map, n) => self.map(alloc, label, map, *n, levels),
-            DType::Struct(fields, n) => self.structure(alloc, label, fields, *n, levels),
-            DType::Union(variants, n) => self.union(alloc, label, variants, *n, levels),
-            DType::Variant(_) => Err(ArrowFault::refused(alloc, &[], Problem::Variant)),
-            DType::Extension(_) => Err(ArrowFault::refused(alloc, &[], Problem::Extension)),
-        }
-    }
-
-    // Adds a decimal.
-    fn decimal(
-        &mut self,
-        alloc: Global,
-        label: Label<'_>,
-        decimal: &DecimalDType,
-        n: Nullability,
-    ) -> Result<(), ArrowFault> {
-        let format = decimal_format(alloc, *decimal)?;
-        self.leaf(label, format.as_bytes(), n)
-    }
-
-    // Adds a fixed-size list without its child.
-    fn fixed_size_list(
-        &mut self,
-        alloc: Global,
-        label: Label<'_>,
-        size: u32,
-        n: Nullability,
-    ) -> Result<(), ArrowFault> {
-        let format = fixed_size_format(alloc, size)?;
-        self.node(
-            label,
-            format.as_bytes(),
-            flags_of(n.is_nullable(), false),
-            1,
-        )
-    }
-
     // Adds a map.
     #[cycle(writing)]
+    #[tactic(auto, using(crate::proofs::Writing::map_added, crate::proofs::FaultFacts::stops_within))]
     fn map(
         &mut self,
         alloc: Global,
@@ -259,27 +286,25 @@ impl Flat {
         map: &MapDType,
         n: Nullability,
         levels: u32,
-    ) -> Result<(), ArrowFault> {
-        self.node(
-            label,
-            b"+m",
-            flags_of(n.is_nullable(), map.keys_sorted()),
-            1,
-        )?;
-        let entries = Label {
-            name: b"entries",
-            metadata: &[],
-        };
-        self.node(entries, b"+s", flags_of(false, false), 2)?;
+    ) -> Result<(), ArrowFault>
+        ensures { Writes result (out self.new) (with_field (write.field_of levels (label_of label.entry) (map_of (map_shown map.now).0 (map_shown map.now).1 (map_shown map.now).2 n)) (out self.old)) }
+    {
+        let flags = flags_of(n.is_nullable(), map.keys_sorted());
+        self.node(label, b"+m", flags, 1)?;
+        let entries = nullable_flag(Nullability::NonNullable);
+        self.node(Label::called(ENTRIES), b"+s", entries, 2)?;
         match self.entries(alloc, map, levels) {
             Ok(()) => Ok(()),
-            Err(fault) => Err(fault.within(alloc, b"entries")),
+            Err(fault) => Err(fault.within(alloc, ENTRIES)),
         }
     }
 
     // Adds the key and the value of a map.
     #[cycle(writing)]
-    fn entries(&mut self, alloc: Global, map: &MapDType, levels: u32) -> Result<(), ArrowFault> {
+    #[tactic(auto, using(crate::proofs::Writing::two_added))]
+    fn entries(&mut self, alloc: Global, map: &MapDType, levels: u32) -> Result<(), ArrowFault>
+        ensures { Writes result (out self.new) (with_fields (write.entries (write.child_of levels (codes "key") (map_shown map.now).0) (write.child_of levels (codes "value") (map_shown map.now).1)) (out self.old)) }
+    {
         self.child(alloc, b"key", map.key_dtype(), levels)?;
         self.child(alloc, b"value", map.value_dtype(), levels)
     }
@@ -293,13 +318,23 @@ impl Flat {
         fields: &StructFields,
         n: Nullability,
         levels: u32,
-    ) -> Result<(), ArrowFault> {
-        self.node(
-            label,
-            b"+s",
-            flags_of(n.is_nullable(), false),
-            fields.nfields(),
-        )?;
+    ) -> Result<(), ArrowFault>
+        ensures { Writes result (out self.new) (with_field (write.field_of levels (label_of label.entry) (struct_tree (fields_of fields.now) n)) (out self.old)) }
+    {
+        self.node(label, b"+s", nullable_flag(n), fields.nfields())?;
+        self.fields(alloc, fields, levels)
+    }
+
+    // Adds the fields of a struct.
+    #[cycle(writing)]
+    fn fields(
+        &mut self,
+        alloc: Global,
+        fields: &StructFields,
+        levels: u32,
+    ) -> Result<(), ArrowFault>
+        ensures { Writes result (out self.new) (with_fields (write.children_of levels (fields_of fields.now)) (out self.old)) }
+    {
         for (name, dtype) in fields.pairs() {
             self.child(alloc, name.as_str().as_bytes(), dtype, levels)?;
         }
@@ -315,17 +350,41 @@ impl Flat {
         variants: &UnionVariants,
         n: Nullability,
         levels: u32,
-    ) -> Result<(), ArrowFault> {
+    ) -> Result<(), ArrowFault>
+        ensures { Writes result (out self.new) (with_field (write.field_of levels (label_of label.entry) (union_tree (variants_of variants.now) n)) (out self.old)) }
+    {
         let format = union_format(alloc, variants.type_ids())?;
-        self.node(
-            label,
-            format.as_bytes(),
-            flags_of(n.is_nullable(), false),
-            variants.len(),
-        )?;
+        let format = format.as_bytes();
+        self.node(label, format, nullable_flag(n), variants.len())?;
+        self.variants(alloc, variants, levels)
+    }
+
+    // Adds the variants of a union.
+    #[cycle(writing)]
+    fn variants(
+        &mut self,
+        alloc: Global,
+        variants: &UnionVariants,
+        levels: u32,
+    ) -> Result<(), ArrowFault>
+        ensures { Writes result (out self.new) (with_fields (write.children_of levels (variants_of variants.now)) (out self.old)) }
+    {
         for (name, _, dtype) in variants.triples() {
             self.child(alloc, name.as_str().as_bytes(), dtype, levels)?;
         }
         Ok(())
+    }
+}
+
+// Returns the metadata that says which extension a field is.
+#[tactic(auto, unfolding(crate::specs::Write::metadata_for), using(crate::proofs::FaultFacts::faults))]
+fn metadata_for(alloc: Global, extension: &ExtDTypeRef) -> Result<Vec<u8>, ArrowFault>
+    ensures { Gives (λ v. v.items) result (write.metadata_for (extension_id extension.now) (metadata_bytes extension.now)) }
+{
+    let id = extension.id().as_str().as_bytes();
+    check_nul(alloc, id)?;
+    match extension_metadata(alloc, id, extension.metadata_bytes())? {
+        Some(metadata) => Ok(metadata),
+        None => Err(ArrowFault::refused(alloc, &[], Problem::Length)),
     }
 }

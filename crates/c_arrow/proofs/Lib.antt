@@ -3,10 +3,13 @@
 
 pub mod FaultFacts
 pub mod Flags
+pub mod FormatsAgain
 pub mod IdLists
+pub mod KeysAgain
 pub mod Leaves
 pub mod Pairs
 pub mod Sound
 pub mod Tags
+pub mod TemporalAgain
 pub mod Writing
 pub mod WritingCalls

@@ -2,6 +2,7 @@
 -- SPDX-FileCopyrightText: Copyright the Vortex contributors
 
 pub mod Added
+pub mod Again
 pub mod Faults
 pub mod Flags
 pub mod Formats

@@ -16,12 +16,13 @@
 //!   example, a date in days is `vortex.date` over `i32` with the metadata 4, and the format `tdD`.
 //! - `nodes_of` returns exactly the nodes and the texts of the schema that `specs/Write` defines, or exactly the fault that
 //!   it defines, with the path of the part that has no Arrow type. Only a failed allocation may come first.
+//! - A format or metadata that is written of a type is read as what it was written of ([`laws`]).
 //! - Both functions return for all nodes, texts and types, without an overflow or an index out of range. At most 300 fields
 //!   are read inside one another.
 //!
 //! What is tested in `tests_arrow` and not proved: which type a schema has beyond its formats, for example which flag makes
-//! it nullable, and which child is the key of a map; which fault is returned, with which path; and that what is
-//! written is read back as the same type.
+//! it nullable, and which child is the key of a map; which fault is returned, with which path; and that a
+//! schema that is written is read back as the same type.
 #![tactic(auto)]
 
 pub use fault::{ArrowFault, Problem, Refusal};
@@ -34,6 +35,7 @@ mod format;
 mod formats_written;
 mod ids;
 mod keys;
+pub mod laws;
 mod node;
 mod numbers;
 mod reader;

@@ -1,0 +1,21 @@
+-- SPDX-License-Identifier: Apache-2.0
+-- SPDX-FileCopyrightText: Copyright the Vortex contributors
+
+-- What is read again of what was written of an extension.
+use Rattle.std.specs.Prelude.{◌≡◌, ◌⊎◌, ℕ, List, drop, Some}
+use Rattle.dtype_base.specs.declared.nullability.Nullability.{Nullability}
+use Rattle.dtype_types.specs.tree.Tree.{Tree}
+use Rattle.c_arrow.specs.Formats.{format_of}
+use Rattle.c_arrow.specs.Keys.{Said}
+use Rattle.c_arrow.specs.Temporal.{date_tree, time_tree, timestamp_tree}
+use Rattle.c_arrow.specs.declared.format.Format.TheVariants as f
+use Rattle.c_arrow.specs.declared.temporal.Unit.{Unit as TimeUnit}
+
+-- The format is that of a date, a time or a timestamp, and with this nullability it stands for this type. For example, `tdD`
+-- stands for the extension `vortex.date` over i32 with the metadata 4.
+abbrev pub IsTemporal : List ℕ → Nullability → Tree → Type 0
+IsTemporal format n t = (u : TimeUnit) × (((format_of format ≡ Some (f.Date u)) × (date_tree u n ≡ t)) ⊎ (((format_of format ≡ Some (f.Time u)) × (time_tree u n ≡ t)) ⊎ ((format_of format ≡ Some (f.Timestamp u)) × (timestamp_tree u (drop 4 format) n ≡ Some t))))
+
+-- what metadata says in which both keys of an extension have these values
+abbrev pub both_said : List ℕ → List ℕ → Said
+both_said id bytes = record { name = Some id; metadata = Some bytes }

@@ -1,0 +1,44 @@
+// SPDX-License-Identifier: Apache-2.0
+// SPDX-FileCopyrightText: Copyright the Vortex contributors
+
+//! Laws of formats and metadata. Each law is a function with an empty body, whose contract is the law.
+ghost use Rattle.std.specs.Prelude.{◌≡◌, ◌++◌, ℕ, ℤ, List, Ok, Some, drop};
+ghost use Rattle.dtype_base.specs.Bytes.{Bytes};
+ghost use Rattle.dtype_base.specs.Decimals.{IsDecimalWithin, greatest_precision};
+ghost use Rattle.dtype_base.specs.declared.ptype.PType.{PType};
+ghost use Rattle.dtype_types.specs.tree.Tree.{Tree, extension};
+ghost use Rattle.c_arrow.specs.Again.{IsTemporal, both_said};
+ghost use Rattle.c_arrow.specs.Formats.{format_of};
+ghost use Rattle.c_arrow.specs.FormatsWritten.{decimal_format, fixed_size_format, letter_of, union_format};
+ghost use Rattle.c_arrow.specs.Ids.{ids_of};
+ghost use Rattle.c_arrow.specs.Keys.{extension_metadata, said_in};
+ghost use Rattle.c_arrow.specs.Temporal.{Written, temporal_of};
+ghost use Rattle.c_arrow.specs.declared.format.Format.TheVariants as format;
+
+/// The format that is written of a type is read as the format of this type: of a primitive type `t`, of a decimal with a
+/// precision `p` and a scale `s`, of a fixed-size list with a size, and of a union with these tags, where it has the tags
+/// behind its first four bytes.
+///
+/// For example, `d:40,2,256` is written of a decimal with the precision 40 and the scale 2, and it is read as a decimal with
+/// this precision and this scale. So reading a schema that was written loses no number.
+pub fn formats_that_are_written_are_read()
+    ensures primitive { (t : PType) → format_of (letter_of t) ≡ Some (format.Primitive t) }
+    ensures decimal { (p : ℕ) (s : ℤ) → IsDecimalWithin greatest_precision p s → format_of (decimal_format p s) ≡ Some (format.Decimal p s) }
+    ensures fixed_size_list { (size : ℕ) (w : List ℕ) → fixed_size_format size ≡ Ok w → format_of w ≡ Some (format.FixedSizeList size) }
+    ensures union { (tags w : List ℕ) → union_format tags ≡ Ok w → (format_of w ≡ Some format.Union) × (ids_of (drop 4 w) ≡ Some tags) }
+{}
+
+/// The metadata that is written of an extension says its id and its bytes.
+///
+/// For example, the metadata that is written of the id `uuid` and no bytes says the name `uuid` and no bytes.
+pub fn metadata_that_is_written_is_read()
+    ensures { (id bytes metadata : List ℕ) → extension_metadata id bytes ≡ Some metadata → said_in metadata ≡ Some (both_said id bytes) }
+{}
+
+/// The format that is written of a date, a time or a timestamp stands for this extension.
+///
+/// For example, `tss:UTC` is written of the extension `vortex.timestamp` over `i64` whose metadata has the unit of seconds and
+/// the time zone `UTC`, and it stands for this extension.
+pub fn dates_and_times_that_are_written_are_read()
+    ensures { (id m : List ℕ) (s : Tree) (w : Written) → Bytes m → temporal_of id m s ≡ Some w → IsTemporal (w.letters ++ w.zone) w.nullability (extension id m s) }
+{}

@@ -7,7 +7,9 @@ pub mod FormatsAgain
 pub mod IdLists
 pub mod KeysAgain
 pub mod Leaves
+pub mod Made
 pub mod Pairs
+pub mod Reading
 pub mod Sound
 pub mod Tags
 pub mod TemporalAgain

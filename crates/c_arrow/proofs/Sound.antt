@@ -2,18 +2,16 @@
 -- SPDX-FileCopyrightText: Copyright the Vortex contributors
 
 -- Types that are made of valid types with few levels are valid and have few levels.
-use Rattle.std.proofs.Common.{◌≡◌, ◌∙◌, ℕ, suc, ◌<◌, ◌≤◌, List, [], ◌∷◌, map, sym, ap, subst, arith}
+use Rattle.std.proofs.Common.{◌≡◌, ◌∙◌, ℕ, suc, ◌<◌, ◌≤◌, List, [], ◌∷◌, map, sym, subst, arith}
 use Rattle.std.specs.List.{All, zip}
 use Rattle.dtype_base.specs.declared.nullability.Nullability.{Nullability}
 use Rattle.dtype_text.specs.Grammar.{levels, levels_of_items}
-use Rattle.dtype_types.proofs.lemmas.TreeLaws.{tree_struct, tree_union, tree_extension}
-use Rattle.dtype_types.proofs.lemmas.Validity.{struct_valid, union_valid, extension_valid}
-use Rattle.dtype_types.specs.declared.dtype.DType.{DType, Struct, Union, Extension}
+use Rattle.dtype_types.proofs.lemmas.TreeLaws.{tree_extension}
+use Rattle.dtype_types.proofs.lemmas.Validity.{extension_valid}
+use Rattle.dtype_types.specs.declared.dtype.DType.{DType, Extension}
 use Rattle.dtype_types.specs.declared.extension.ExtDTypeRef.{ExtDTypeRef}
-use Rattle.dtype_types.specs.declared.struct_fields.StructFields.{StructFields}
-use Rattle.dtype_types.specs.declared.union_variants.UnionVariants.{UnionVariants}
 use Rattle.dtype_types.specs.tree.Tree.{Tree, fields, variants, struct, union, extension}
-use Rattle.dtype_types.specs.tree.TreeOf.{tree, children, variant_list, extension_tree}
+use Rattle.dtype_types.specs.tree.TreeOf.{tree, extension_tree}
 
 -- the types have fewer levels than this
 abbrev pub AreBelow : ℕ → List DType → Type 0
@@ -36,15 +34,13 @@ variants_levels (n ∷ ns) (d ∷ ds) (g ∷ gs) m h =
     let rest = variants_levels ns ds gs m (λ k e within. h (suc k) e (omega (arith, within))) in
     omega (arith, first, rest)
 
-pub struct_levels : (s : StructFields) (n : Nullability) (ns : List (List ℕ)) (ds : List DType) (m : ℕ) → children s ≡ zip ns (map tree ds) → AreBelow m ds → levels (tree (Struct s n)) ≤ m
-struct_levels s n ns ds m e h = subst (λ t. levels t ≤ m) (sym (tree_struct s n ∙ ap (λ ps. struct (fields ps) n) e)) (fields_levels ns ds m h)
+pub struct_below : (t : Tree) (n : Nullability) (ns : List (List ℕ)) (ds : List DType) (m : ℕ) → t ≡ struct (fields (zip ns (map tree ds))) n → AreBelow m ds → levels t ≤ m
+struct_below t n ns ds m e h = subst (λ u. levels u ≤ m) (sym e) (fields_levels ns ds m h)
 
-pub union_levels : (u : UnionVariants) (n : Nullability) (ns : List (List ℕ)) (ds : List DType) (gs : List ℕ) (m : ℕ) → variant_list u ≡ zip ns (zip (map tree ds) gs) → AreBelow m ds → levels (tree (Union u n)) ≤ m
-union_levels u n ns ds gs m e h = subst (λ t. levels t ≤ m) (sym (tree_union u n ∙ ap (λ ps. union (variants ps) n) e)) (variants_levels ns ds gs m h)
+pub union_below : (t : Tree) (n : Nullability) (ns : List (List ℕ)) (ds : List DType) (gs : List ℕ) (m : ℕ) → t ≡ union (variants (zip ns (zip (map tree ds) gs))) n → AreBelow m ds → levels t ≤ m
+union_below t n ns ds gs m e h = subst (λ u. levels u ≤ m) (sym e) (variants_levels ns ds gs m h)
 
-pub ruleset structs = (struct_levels, struct_valid)
-
-pub ruleset unions = (union_levels, union_valid)
+pub ruleset structs = (struct_below)
 
 pub made_extension : (e : ExtDTypeRef) (id m : List ℕ) (t : Tree) → extension_tree e ≡ extension id m t → tree (Extension e) ≡ extension id m t
 made_extension e id m t h = tree_extension e ∙ h

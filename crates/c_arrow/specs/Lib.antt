@@ -10,6 +10,8 @@ pub mod FormatsWritten
 pub mod Ids
 pub mod Keys
 pub mod Numbers
+pub mod Read
+pub mod Rests
 pub mod Schema
 pub mod Temporal
 pub mod Views

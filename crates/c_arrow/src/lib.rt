@@ -8,6 +8,8 @@
 //! `{a=i32?}` has two nodes: a struct with the format `+s`, and its child `a` with the format `i` and the flag 2.
 //!
 //! What is proved:
+//! - `dtype_of` returns what `specs/Read` says: a type, or the first fault that is met when the nodes are read in order, with
+//!   the names of the fields from the refused field outwards and its format. Only a failed allocation may come first.
 //! - The type that `dtype_of` returns is valid and has at most 128 levels, whatever the nodes and the texts are.
 //! - What a format says is exactly what the table in `specs/Formats` says, and numbers in formats are exactly those of
 //!   `specs/Numbers`. For example, `+w:3` is a fixed-size list of 3 elements, and `w:-1` is no format.
@@ -20,9 +22,7 @@
 //! - Both functions return for all nodes, texts and types, without an overflow or an index out of range. At most 300 fields
 //!   are read inside one another.
 //!
-//! What is tested in `tests_arrow` and not proved: which type a schema has beyond its formats, for example which flag makes
-//! it nullable, and which child is the key of a map; which fault is returned, with which path; and that a
-//! schema that is written is read back as the same type.
+//! What is tested in `tests_arrow` and not proved: that what is written is read back as the same type.
 #![tactic(auto)]
 
 pub use fault::{ArrowFault, Problem, Refusal};
@@ -40,4 +40,5 @@ mod node;
 mod numbers;
 mod reader;
 mod temporal;
+mod types;
 mod writer;

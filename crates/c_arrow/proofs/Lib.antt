@@ -6,6 +6,7 @@ pub mod Flags
 pub mod FormatsAgain
 pub mod IdLists
 pub mod KeysAgain
+pub mod Law
 pub mod Leaves
 pub mod Made
 pub mod Pairs

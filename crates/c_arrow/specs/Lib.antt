@@ -7,6 +7,7 @@ pub mod Faults
 pub mod Flags
 pub mod Formats
 pub mod FormatsWritten
+pub mod FromArrow
 pub mod Ids
 pub mod Keys
 pub mod Numbers

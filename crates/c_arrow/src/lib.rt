@@ -10,6 +10,8 @@
 //! What is proved:
 //! - `dtype_of` returns what `specs/Read` says: a type, or the first fault that is met when the nodes are read in order, with
 //!   the names of the fields from the refused field outwards and its format. Only a failed allocation may come first.
+//! - What is read of the nodes and texts of a schema is what `from_arrow` makes of the schema as plain data
+//!   (`specs/FromArrow`), a row for each format ([`laws`]).
 //! - The type that `dtype_of` returns is valid and has at most 128 levels, whatever the nodes and the texts are.
 //! - What a format says is exactly what the table in `specs/Formats` says, and numbers in formats are exactly those of
 //!   `specs/Numbers`. For example, `+w:3` is a fixed-size list of 3 elements, and `w:-1` is no format.

@@ -10,6 +10,7 @@ pub mod FormatsWritten
 pub mod FromArrow
 pub mod Ids
 pub mod Keys
+pub mod Messages
 pub mod Numbers
 pub mod Read
 pub mod Rests

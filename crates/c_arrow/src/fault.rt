@@ -2,13 +2,15 @@
 // SPDX-FileCopyrightText: Copyright the Vortex contributors
 
 // Why a schema has no type here, or a type no schema.
-ghost use Rattle.std.specs.Prelude.{◌≡◌, ◌∷◌, [], ◌++◌, IfOk, map};
+ghost use Rattle.std.specs.Prelude.{◌≡◌, ◌∷◌, [], ◌++◌, IfOk, Some, false, map, string_bytes, true};
+ghost use Rattle.std.specs.Str.Lossy.{utf8_lossy};
 ghost use Rattle.c_arrow.specs.Faults.{IsFault, IsMemory, IsWithin, problem_of_number, refused as refused_spec};
+ghost use Rattle.c_arrow.specs.Messages.{before, behind, column, is_about_format, message_of, outer, phrase, problem_of};
 ghost use Rattle.c_arrow.specs.declared.fault.ArrowFault.TheVariants.{OutOfMemory, Library, Refused};
 
 use dtype_base::VortexError;
 use std::alloc::{AllocError, AllocFailed, Global};
-use thiserror::Error;
+use std::fmt;
 
 /// Why `dtype_of` or `nodes_of` failed.
 #[derive(Debug, Drop)]
@@ -36,51 +38,29 @@ pub struct Refusal {
 }
 
 /// What is wrong with a field. The `Display` of a problem is the phrase of the message.
-#[derive(Clone, Copy, Debug, PartialEq, Eq, Error)]
+#[derive(Clone, Copy, Debug, PartialEq, Eq)]
 pub enum Problem {
-    #[error("the schema was released")]
     Released,
-    #[error("the format is NULL")]
     NoFormat,
-    #[error("a child, or the array of children, is NULL")]
     NoChild,
-    #[error("a count or a length is negative or too large")]
     Count,
-    #[error("more than 300 fields are inside one another")]
     Nested,
-    #[error("there are more than 16777216 fields")]
     Many,
-    #[error("has no type here")]
     Format,
-    #[error("takes no children")]
     NoChildren,
-    #[error("needs exactly one child")]
     OneChild,
-    #[error("needs exactly two children")]
     TwoChildren,
-    #[error("needs a struct of a key and a value as its child")]
     Entries,
-    #[error("is no integer type, so it can't have a dictionary")]
     Dictionary,
-    #[error("the name isn't UTF-8")]
     Name,
-    #[error("the extension name isn't UTF-8")]
     Id,
-    #[error("the time zone isn't UTF-8, or is longer than 65535 bytes")]
     Zone,
-    #[error("the metadata isn't in Arrow's form, or has an extension key twice")]
     Metadata,
-    #[error("a variant has no Arrow type")]
     Variant,
-    #[error("an extension type over another extension type has no Arrow type")]
     Extension,
-    #[error("a tag above 127 is no type id of Arrow")]
     Tag,
-    #[error("a fixed-size list in Arrow has at most 2147483647 elements")]
     Size,
-    #[error("an extension in Arrow has at most 2147483647 bytes of metadata")]
     Length,
-    #[error("a name, an id or a time zone with a NUL byte can't be written")]
     Nul,
 }
 
@@ -102,7 +82,9 @@ impl Problem {
     }
 
     // Returns whether the phrase goes on behind the format.
-    fn is_about_format(self) -> bool {
+    fn is_about_format(self) -> bool
+        ensures { result ≡ is_about_format self }
+    {
         matches!(
             self,
             Problem::Format
@@ -112,6 +94,46 @@ impl Problem {
                 | Problem::Entries
                 | Problem::Dictionary
         )
+    }
+
+    // Returns the phrase.
+    #[tactic(auto, unfolding(crate::specs::Messages::phrase))]
+    fn phrase(self) -> &'static str
+        ensures { result.now ≡ phrase self }
+    {
+        match self {
+            Problem::Released => "the schema was released",
+            Problem::NoFormat => "the format is NULL",
+            Problem::NoChild => "a child, or the array of children, is NULL",
+            Problem::Count => "a count or a length is negative or too large",
+            Problem::Nested => "more than 300 fields are inside one another",
+            Problem::Many => "there are more than 16777216 fields",
+            Problem::Format => "has no type here",
+            Problem::NoChildren => "takes no children",
+            Problem::OneChild => "needs exactly one child",
+            Problem::TwoChildren => "needs exactly two children",
+            Problem::Entries => "needs a struct of a key and a value as its child",
+            Problem::Dictionary => "is no integer type, so it can't have a dictionary",
+            Problem::Name => "the name isn't UTF-8",
+            Problem::Id => "the extension name isn't UTF-8",
+            Problem::Zone => "the time zone isn't UTF-8, or is longer than 65535 bytes",
+            Problem::Metadata =>
+                "the metadata isn't in Arrow's form, or has an extension key twice",
+            Problem::Variant => "a variant has no Arrow type",
+            Problem::Extension => "an extension type over another extension type has no Arrow type",
+            Problem::Tag => "a tag above 127 is no type id of Arrow",
+            Problem::Size => "a fixed-size list in Arrow has at most 2147483647 elements",
+            Problem::Length => "an extension in Arrow has at most 2147483647 bytes of metadata",
+            Problem::Nul => "a name, an id or a time zone with a NUL byte can't be written",
+        }
+    }
+}
+
+impl fmt::Display for Problem {
+    ghost output = { λ problem. Some (phrase problem) };
+
+    fn fmt<W: fmt::Write>(&self, f: &mut fmt::Formatter<W>) -> fmt::Result {
+        self.phrase().fmt(f)
     }
 }
 
@@ -155,7 +177,9 @@ fn pushed(alloc: Global, names: &mut Vec<Vec<u8>>, name: &[u8]) -> Result<(), Al
 
 impl Refusal {
     /// Returns what is wrong.
-    pub fn problem(&self) -> Problem {
+    pub fn problem(&self) -> Problem
+        ensures { result ≡ problem_of self.now }
+    {
         self.problem
     }
 
@@ -165,44 +189,109 @@ impl Refusal {
     /// # Errors
     ///
     /// `AllocError` if an allocation fails.
-    pub fn message(&self, alloc: Global) -> Result<String, AllocError> {
+    #[tactic(auto, unfolding(crate::specs::Messages::message_of))]
+    pub fn message(&self, alloc: Global) -> Result<String, AllocError>
+        ensures { IfOk result (λ s. string_bytes s ≡ message_of self.now) }
+    {
         let mut out = String::new(alloc);
-        if !self.names.is_empty() {
-            out.push_str("column \"")?;
-            self.write_path(alloc, &mut out)?;
-            out.push_str("\": ")?;
-        }
-        let problem = self.problem;
-        if problem.is_about_format() {
-            out.push_str("the Arrow format \"")?;
-            push_lossy(alloc, &mut out, &self.format)?;
-            out.push_str("\" ")?;
-        }
-        out.push_str(problem.to_string(alloc)?.as_str())?;
-        if !problem.is_about_format() && !self.format.is_empty() {
-            out.push_str(", at the Arrow format \"")?;
-            push_lossy(alloc, &mut out, &self.format)?;
-            out.push_str("\"")?;
-        }
+        push_column(alloc, &mut out, &self.names)?;
+        self.push_before(alloc, &mut out)?;
+        out.push_str(self.problem.phrase())?;
+        self.push_behind(alloc, &mut out)?;
         Ok(out)
     }
 
-    // Appends the names from the outermost field on, with dots between them.
-    fn write_path(&self, alloc: Global, out: &mut String) -> Result<(), AllocError> {
-        let mut is_first = true;
-        for name in self.names.iter().rev() {
-            if !is_first {
-                out.push('.')?;
-            }
-            push_lossy(alloc, out, name)?;
-            is_first = false;
+    // Appends the format, if the phrase goes on behind it.
+    fn push_before(&self, alloc: Global, out: &mut String) -> Result<(), AllocError>
+        ensures { IfOk result (λ _. string_bytes out.new ≡ string_bytes out.old ++ before (is_about_format self.now.problem) self.now.format.items) }
+    {
+        if self.problem.is_about_format() {
+            push_format_before(alloc, out, &self.format)?;
+        }
+        Ok(())
+    }
+
+    // Appends the format behind the phrase, if there is one and it isn't before the phrase.
+    fn push_behind(&self, alloc: Global, out: &mut String) -> Result<(), AllocError>
+        ensures { IfOk result (λ _. string_bytes out.new ≡ string_bytes out.old ++ behind (is_about_format self.now.problem) self.now.format.items) }
+    {
+        if !self.problem.is_about_format() {
+            push_format_behind(alloc, out, &self.format)?;
         }
         Ok(())
     }
 }
 
+// Appends the path of the field with these names, if it isn't the root.
+fn push_column(alloc: Global, out: &mut String, names: &[Vec<u8>]) -> Result<(), AllocError>
+    ensures { IfOk result (λ _. string_bytes out.new ≡ string_bytes out.old ++ column (map (λ n. n.items) names.now)) }
+{
+    match names {
+        [] => {}
+        [name, outer @ ..] => {
+            out.push_str("column \"")?;
+            push_outer(alloc, out, outer)?;
+            push_lossy(alloc, out, name)?;
+            out.push_str("\": ")?;
+        }
+    }
+    Ok(())
+}
+
+// Appends the names, the last first, each with a dot behind it.
+fn push_outer(alloc: Global, out: &mut String, names: &[Vec<u8>]) -> Result<(), AllocError>
+    ensures { IfOk result (λ _. string_bytes out.new ≡ string_bytes out.old ++ outer (map (λ n. n.items) names.now)) }
+{
+    match names {
+        [] => {}
+        [name, rest @ ..] => {
+            push_outer(alloc, out, rest)?;
+            push_lossy(alloc, out, name)?;
+            out.push_str(".")?;
+        }
+    }
+    Ok(())
+}
+
+// Appends the format before a phrase.
+fn push_format_before(alloc: Global, out: &mut String, format: &[u8]) -> Result<(), AllocError>
+    ensures { IfOk result (λ _. string_bytes out.new ≡ string_bytes out.old ++ before true format.now) }
+{
+    push_format(alloc, out, "the Arrow format \"", format, "\" ")?;
+    Ok(())
+}
+
+// Appends the format behind a phrase, if there is one.
+fn push_format_behind(alloc: Global, out: &mut String, format: &[u8]) -> Result<(), AllocError>
+    ensures { IfOk result (λ _. string_bytes out.new ≡ string_bytes out.old ++ behind false format.now) }
+{
+    match format {
+        [] => {}
+        [_, ..] => push_format(alloc, out, ", at the Arrow format \"", format, "\"")?,
+    }
+    Ok(())
+}
+
+// Appends a format between two texts.
+fn push_format(
+    alloc: Global,
+    out: &mut String,
+    start: &str,
+    format: &[u8],
+    end: &str,
+) -> Result<(), AllocError>
+    ensures { IfOk result (λ _. string_bytes out.new ≡ string_bytes out.old ++ (start.now ++ (utf8_lossy format.now ++ end.now))) }
+{
+    out.push_str(start)?;
+    push_lossy(alloc, out, format)?;
+    out.push_str(end)?;
+    Ok(())
+}
+
 // Appends a text, in which a replacement character stands for bytes that aren't UTF-8.
-fn push_lossy(alloc: Global, out: &mut String, text: &[u8]) -> Result<(), AllocError> {
+fn push_lossy(alloc: Global, out: &mut String, text: &[u8]) -> Result<(), AllocError>
+    ensures { IfOk result (λ _. string_bytes out.new ≡ string_bytes out.old ++ utf8_lossy text.now) }
+{
     let text = String::from_utf8_lossy(alloc, text)?;
     out.push_str(text.as_str())?;
     Ok(())

@@ -1,0 +1,77 @@
+-- SPDX-License-Identifier: Apache-2.0
+-- SPDX-FileCopyrightText: Copyright the Vortex contributors
+
+-- The message of a refusal.
+use Rattle.std.specs.Prelude.{ℕ, List, [], ◌∷◌, ◌++◌, Bool, true, false, map, codes}
+use Rattle.std.specs.Str.Lossy.{utf8_lossy}
+use Rattle.c_arrow.specs.declared.fault.Problem.{Problem}
+use Rattle.c_arrow.specs.declared.fault.Problem.TheVariants as p
+use Rattle.c_arrow.specs.declared.fault.Refusal.{Refusal}
+
+-- what is wrong with a field
+unfoldable pub phrase : Problem → List ℕ
+phrase p.Released = codes "the schema was released"
+phrase p.NoFormat = codes "the format is NULL"
+phrase p.NoChild = codes "a child, or the array of children, is NULL"
+phrase p.Count = codes "a count or a length is negative or too large"
+phrase p.Nested = codes "more than 300 fields are inside one another"
+phrase p.Many = codes "there are more than 16777216 fields"
+phrase p.Format = codes "has no type here"
+phrase p.NoChildren = codes "takes no children"
+phrase p.OneChild = codes "needs exactly one child"
+phrase p.TwoChildren = codes "needs exactly two children"
+phrase p.Entries = codes "needs a struct of a key and a value as its child"
+phrase p.Dictionary = codes "is no integer type, so it can't have a dictionary"
+phrase p.Name = codes "the name isn't UTF-8"
+phrase p.Id = codes "the extension name isn't UTF-8"
+phrase p.Zone = codes "the time zone isn't UTF-8, or is longer than 65535 bytes"
+phrase p.Metadata = codes "the metadata isn't in Arrow's form, or has an extension key twice"
+phrase p.Variant = codes "a variant has no Arrow type"
+phrase p.Extension = codes "an extension type over another extension type has no Arrow type"
+phrase p.Tag = codes "a tag above 127 is no type id of Arrow"
+phrase p.Size = codes "a fixed-size list in Arrow has at most 2147483647 elements"
+phrase p.Length = codes "an extension in Arrow has at most 2147483647 bytes of metadata"
+phrase p.Nul = codes "a name, an id or a time zone with a NUL byte can't be written"
+
+-- the phrase goes on behind the format, as `has no type here` does
+abbrev pub is_about_format : Problem → Bool
+is_about_format p.Format = true
+is_about_format p.NoChildren = true
+is_about_format p.OneChild = true
+is_about_format p.TwoChildren = true
+is_about_format p.Entries = true
+is_about_format p.Dictionary = true
+is_about_format _ = false
+
+-- names, the last first, each with a dot behind it. Bytes that aren't UTF-8 are replaced.
+abbrev pub outer : List (List ℕ) → List ℕ
+outer [] = []
+outer (n ∷ ns) = outer ns ++ (utf8_lossy n ++ codes ".")
+
+-- The beginning of the message about a field that isn't the root, whose names are these from itself outwards. For example, it is
+-- `column "a.item": ` of the names `item` and `a`.
+abbrev pub column : List (List ℕ) → List ℕ
+column [] = []
+column (n ∷ ns) = codes "column \"" ++ (outer ns ++ (utf8_lossy n ++ codes "\": "))
+
+abbrev pub names_of : Refusal → List (List ℕ)
+names_of r = map (λ n. n.items) r.names.items
+
+abbrev pub problem_of : Refusal → Problem
+problem_of r = r.problem
+
+-- what is before the phrase, and behind it
+abbrev pub before : Bool → List ℕ → List ℕ
+before true format = codes "the Arrow format \"" ++ (utf8_lossy format ++ codes "\" ")
+before false format = []
+
+abbrev pub behind : Bool → List ℕ → List ℕ
+behind true format = []
+behind false [] = []
+behind false (b ∷ format) = codes ", at the Arrow format \"" ++ (utf8_lossy (b ∷ format) ++ codes "\"")
+
+-- The message. For example, it is `column "a.item": the Arrow format "tiM" has no type here`.
+unfoldable pub message_of : Refusal → List ℕ
+message_of r =
+    let about = is_about_format r.problem in
+    ((column (names_of r) ++ before about r.format.items) ++ phrase r.problem) ++ behind about r.format.items

@@ -9,10 +9,12 @@ pub mod KeysAgain
 pub mod Law
 pub mod Leaves
 pub mod Made
+pub mod NodesAgain
 pub mod Pairs
 pub mod Reading
 pub mod Sound
 pub mod Tags
 pub mod TemporalAgain
+pub mod TypesAgain
 pub mod Writing
 pub mod WritingCalls

@@ -1,7 +1,7 @@
 // SPDX-License-Identifier: Apache-2.0
 // SPDX-FileCopyrightText: Copyright the Vortex contributors
 
-//! Laws of schemas, of formats and of metadata. Each law is a function with an empty body, whose contract is the law.
+//! Laws of what is read and written. Each law is a function with an empty body, whose contract is the law.
 ghost use Rattle.std.specs.Prelude.{◌≡◌, ◌++◌, ℕ, ℤ, List, Ok, Some, drop};
 ghost use Rattle.c_arrow.specs.Again.{IsTemporal, both_said};
 ghost use Rattle.c_arrow.specs.Formats.{format_of};
@@ -12,11 +12,35 @@ ghost use Rattle.c_arrow.specs.Keys.{extension_metadata, said_in};
 ghost use Rattle.c_arrow.specs.Read.{read_flat};
 ghost use Rattle.c_arrow.specs.Schema.{Schema, flat_nodes, flat_texts};
 ghost use Rattle.c_arrow.specs.Temporal.{Written, temporal_of};
+ghost use Rattle.c_arrow.specs.Write.{nodes_and_texts, to_arrow};
+ghost use Rattle.c_arrow.specs.declared.node.ArrowNode.{ArrowNode};
 ghost use Rattle.c_arrow.specs.declared.format.Format.TheVariants as format;
 ghost use Rattle.dtype_base.specs.Bytes.{Bytes};
 ghost use Rattle.dtype_base.specs.Decimals.{IsDecimalWithin, greatest_precision};
 ghost use Rattle.dtype_base.specs.declared.ptype.PType.{PType};
+ghost use Rattle.dtype_text.specs.Grammar.{AreTexts};
 ghost use Rattle.dtype_types.specs.tree.Tree.{Tree, extension};
+ghost use Rattle.dtype_types.specs.tree.Valid.{Valid};
+
+/// What is read of the nodes and the texts of a schema `s` is the type of `s`, or the fault with which `s` is refused, as
+/// `from_arrow` in `specs/FromArrow` makes it of plain data.
+///
+/// For example, `from_arrow` makes `{a=i32?}` of the struct with the child `a` whose format is `i` and whose flag is 2, and
+/// this type is read of its two nodes and the texts `+sai`. So a reader who wants to know which type a schema has needs
+/// `from_arrow` alone, which can be read beside a table of Arrow's formats, and nothing about nodes and their order.
+pub fn flat_schemas_are_read()
+    ensures { (s : Schema) → read_flat (flat_nodes s) (flat_texts s) ≡ from_arrow s }
+{}
+
+/// The schema that is written of a valid type is read as this type, if the names and the ids in the type are UTF-8. The same is
+/// true of its nodes and texts.
+///
+/// For example, the schema of the map `map(utf8, i32?, keys_sorted=true)` has the format `+m` and the flag 4, and it is read as
+/// this map. So a type that goes through Arrow's C data interface comes back as it was.
+pub fn types_that_are_written_are_read()
+    ensures schema { (t : Tree) (s : Schema) → Valid t → AreTexts t → to_arrow t ≡ Ok s → from_arrow s ≡ Ok t }
+    ensures nodes { (t : Tree) (nodes : List ArrowNode) (texts : List ℕ) → Valid t → AreTexts t → nodes_and_texts t ≡ Ok (nodes, texts) → read_flat nodes texts ≡ Ok t }
+{}
 
 /// The format that is written of a type is read as the format of this type: of a primitive type `t`, of a decimal with a
 /// precision `p` and a scale `s`, of a fixed-size list with a size, and of a union with these tags, where it has the tags
@@ -44,14 +68,4 @@ pub fn metadata_that_is_written_is_read()
 /// the time zone `UTC`, and it stands for this extension.
 pub fn dates_and_times_that_are_written_are_read()
     ensures { (id m : List ℕ) (s : Tree) (w : Written) → Bytes m → temporal_of id m s ≡ Some w → IsTemporal (w.letters ++ w.zone) w.nullability (extension id m s) }
-{}
-
-/// What is read of the nodes and the texts of a schema `s` is the type of `s`, or the fault with which `s` is refused, as
-/// `from_arrow` in `specs/FromArrow` makes it of plain data.
-///
-/// For example, `from_arrow` makes `{a=i32?}` of the struct with the child `a` whose format is `i` and whose flag is 2, and
-/// this type is read of its two nodes and the texts `+sai`. So a reader who wants to know which type a schema has needs
-/// `from_arrow` alone, which can be read beside a table of Arrow's formats, and nothing about nodes and their order.
-pub fn flat_schemas_are_read()
-    ensures { (s : Schema) → read_flat (flat_nodes s) (flat_texts s) ≡ from_arrow s }
 {}

@@ -20,11 +20,13 @@
 //!   example, a date in days is `vortex.date` over `i32` with the metadata 4, and the format `tdD`.
 //! - `nodes_of` returns exactly the nodes and the texts of the schema that `specs/Write` defines, or exactly the fault that
 //!   it defines, with the path of the part that has no Arrow type. Only a failed allocation may come first.
-//! - A format or metadata that is written of a type is read as what it was written of ([`laws`]).
+//! - The schema that is written of a type is read as this type ([`laws`]).
+//! - The message of a refusal is exactly that of `specs/Messages`.
 //! - Both functions return for all nodes, texts and types, without an overflow or an index out of range. At most 300 fields
 //!   are read inside one another.
 //!
-//! What is tested in `tests_arrow` and not proved: that what is written is read back as the same type.
+//! That these definitions say what Arrow means isn't proved. `tests_arrow` has schemas with the types and the messages that
+//! are expected of them.
 #![tactic(auto)]
 
 pub use fault::{ArrowFault, Problem, Refusal};

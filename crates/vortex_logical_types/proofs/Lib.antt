@@ -5,7 +5,6 @@ pub mod AtOnce
 pub mod Below
 pub mod Deep
 pub mod Extended
-pub mod FaultsOfSchemas
 pub mod FieldPairs
 pub mod FirstSteps
 pub mod PathParts

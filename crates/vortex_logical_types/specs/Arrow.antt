@@ -3,7 +3,10 @@
 
 -- What the calls for Arrow's schemas do. `code` is the number that the export returns; `old` and `new` are what buffers contain
 -- before and after the call; and `was` and `is` are what the slot `error` contains before and after it.
-use Rattle.std.specs.Prelude.{◌≡◌, ◌⊎◌, ◌≤◌, ⊤, ℕ, List, Option}
+use Rattle.std.specs.Prelude.{◌≡◌, ◌⊎◌, ◌≤◌, ⊤, ℕ, List, Option, Result, Ok, Err}
+use Rattle.c_arrow.specs.Faults.{Fault, out_of_range, too_deep, library, refused}
+use Rattle.c_arrow.specs.Read.{read_flat}
+use Rattle.c_arrow.specs.Write.{nodes_and_texts}
 use Rattle.c_arrow.specs.declared.fault.ArrowFault.{ArrowFault}
 use Rattle.c_arrow.specs.declared.fault.ArrowFault.TheVariants.{OutOfMemory, OutOfRange, TooDeep, Refused}
 use Rattle.c_arrow.specs.declared.fault.ArrowFault.TheVariants as fault
@@ -15,31 +18,48 @@ use Rattle.dtype_text.specs.Grammar.{levels}
 use Rattle.dtype_types.specs.tree.Tree.{Tree}
 use Rattle.dtype_types.specs.tree.Valid.{Valid}
 use Rattle.vortex_logical_types.specs.AtOnce.{Buffers, FillsWithBoth, SameBuffers}
-use Rattle.vortex_logical_types.specs.Vocabulary.{Failed, Outcome, gives_some, refuses, unless_memory}
+use Rattle.vortex_logical_types.specs.Vocabulary.{Failed, Outcome, Stores, fails_with, gives, gives_some, refuses, unless_memory}
 
--- a reason for which a schema has no type here, or a type no schema: an error of the library, or a message of Arrow's
-abbrev pub IsArrowFailure : Failure → Type 0
-IsArrowFailure (Library e) = ⊤
-IsArrowFailure (Text at message) = ⊥
-IsArrowFailure (Deep at) = ⊥
-IsArrowFailure (Arrow message) = ⊤
+-- a message of Arrow's, which says which field has no type here, or which part no Arrow type, and why
+abbrev pub IsRefusal : Failure → Type 0
+IsRefusal (Library e) = ⊥
+IsRefusal (Text at message) = ⊥
+IsRefusal (Deep at) = ⊥
+IsRefusal (Arrow message) = ⊤
 
--- There is no result, for a reason that is stored, because types are too deep, or because nodes and texts are those of no schema.
--- (The last can't be when a type is written, which isn't stated.)
-abbrev pub fails_in_arrow : {X : Type 0} → Outcome X
-fails_in_arrow No Why Yes = Why IsArrowFailure ⊎ (refuses 6 No Why Yes ⊎ refuses 9 No Why Yes)
+-- A field is refused, and a message is stored. Its words aren't specified.
+abbrev pub refuses_field : {X : Type 0} → Outcome X
+refuses_field No Why Yes = Why IsRefusal
 
--- the type of a schema is valid and has at most 128 levels; or there is none
-abbrev pub reads_arrow : Outcome Tree
-reads_arrow = unless_memory (λ No Why Yes. Yes (λ t. Valid t × (levels t ≤ 128)) ⊎ fails_in_arrow No Why Yes)
+-- What a fault returns: 6 if types are too deep, 9 if nodes and texts are those of no schema, an error of the library, or the
+-- message about a field. For example, it is 6 for a schema of 129 lists inside one another.
+abbrev pub faulty : {X : Type 0} → Fault → Outcome X
+faulty out_of_range = refuses 9
+faulty too_deep = refuses 6
+faulty (library e) = fails_with e
+faulty (refused names format problem) = refuses_field
+
+-- the type that was read, which is valid and has at most 128 levels, or the fault
+abbrev pub is_read : Result Tree Fault → Outcome Tree
+is_read (Ok t) = gives_some (λ u. (u ≡ t) × (Valid u × (levels u ≤ 128)))
+is_read (Err f) = faulty f
+
+-- The type that nodes and texts describe. For example, it is `i32?` of one node with the flag 2 and the text `i`.
+abbrev pub reads_arrow : List ArrowNode → List ℕ → Outcome Tree
+reads_arrow nodes texts = unless_memory (is_read (read_flat nodes texts))
 
 -- the nodes of a schema, and the bytes of its texts
 abbrev pub FlatSchema : Type 0
 FlatSchema = List ArrowNode × List ℕ
 
--- the nodes and texts of a type's schema, or there are none
+-- the schema that was written, or the fault
+abbrev pub is_written : Result FlatSchema Fault → Outcome FlatSchema
+is_written (Ok f) = gives f
+is_written (Err f) = faulty f
+
+-- The nodes and texts of a type's schema. For example, they are one node with the flag 2 and the text `i` of `i32?`.
 abbrev pub writes_arrow : Tree → Outcome FlatSchema
-writes_arrow t = unless_memory (λ No Why Yes. Yes (λ f. ⊤) ⊎ fails_in_arrow No Why Yes)
+writes_arrow t = unless_memory (is_written (nodes_and_texts t))
 
 -- the result is a schema, whose nodes and texts are written, or a reason is stored in the slot `error`
 abbrev pub FillsArrowOr : Outcome FlatSchema → ℕ → Buffers ArrowNode ℕ → Buffers ArrowNode ℕ → Option Object → Option Object → Type 0
@@ -53,5 +73,5 @@ abbrev pub StoresFault : ArrowFault → ℕ → Option Object → Option Object 
 StoresFault OutOfMemory code was is = (code ≡ 100) × (is ≡ was)
 StoresFault OutOfRange code was is = (code ≡ 9) × (is ≡ was)
 StoresFault TooDeep code was is = (code ≡ 6) × (is ≡ was)
-StoresFault (fault.Library e) code was is = Failed IsArrowFailure code is ⊎ ((code ≡ 100) × (is ≡ was))
-StoresFault (Refused r) code was is = Failed IsArrowFailure code is ⊎ ((code ≡ 100) × (is ≡ was))
+StoresFault (fault.Library e) code was is = Stores (Library e) code was is
+StoresFault (Refused r) code was is = Failed IsRefusal code is ⊎ ((code ≡ 100) × (is ≡ was))

@@ -30,7 +30,6 @@ use std::alloc::Global;
 ///   key type is nullable, and for a union 111 if it has more or fewer type ids than children, 112 if it has no children,
 ///   113 if a type id occurs twice, and 115 if a name occurs twice.
 #[unsafe(no_mangle)]
-#[tactic(auto, using(crate::proofs::FaultsOfSchemas::faults))]
 pub extern "C" fn vlt_core_dtype_from_arrow_nodes(
     alloc: Global,
     nodes: &[ArrowNode],
@@ -38,7 +37,7 @@ pub extern "C" fn vlt_core_dtype_from_arrow_nodes(
     out: &mut Slot,
     error: &mut Slot,
 ) -> u32
-    ensures puts { PutsOr type_in reads_arrow result out.old.value out.new.value error.old.value error.new.value }
+    ensures puts { PutsOr type_in (reads_arrow nodes.now texts.now) result out.old.value out.new.value error.old.value error.new.value }
 {
     match dtype_of(alloc, nodes, texts) {
         Ok(dtype) => put(alloc, out, Object::DType(dtype)),
@@ -73,7 +72,6 @@ pub extern "C" fn vlt_core_dtype_to_arrow_nodes(
     write(alloc, dtype, nodes, node_count, texts, text_length, error)
 }
 
-#[tactic(auto, using(crate::proofs::FaultsOfSchemas::faults))]
 fn write(
     alloc: Global,
     dtype: &DType,

@@ -10,7 +10,7 @@ use crate::ffi::{self, Slot};
 use crate::parts::{ExtDTypeRef, MapDType, Parts, StructFields, UnionVariants};
 use crate::scalars::{DecimalDType, Kind, Nullability, PType};
 use crate::sets::FieldPathSet;
-use crate::shared::{Shared, remembered};
+use crate::shared::{Lasting, Shared, remembered};
 use std::fmt;
 use std::hash::{Hash, Hasher};
 use std::str::FromStr;
@@ -35,14 +35,20 @@ pub struct DType {
 /// An object of the library, with what is known of it from the beginning, and what is remembered of its parts.
 struct Whole {
     slot: Slot,
-    kind: Kind,
-    nullability: Nullability,
-    detail: Detail,
+    known: Known,
     parts: OnceLock<Shared<Parts>>,
 }
 
+/// What is known of a type from the beginning.
+#[derive(Debug, Clone, Copy, PartialEq)]
+struct Known {
+    kind: Kind,
+    nullability: Nullability,
+    detail: Detail,
+}
+
 /// What is known of a type of some kinds from the beginning, apart from its nullability.
-#[derive(Clone, Copy)]
+#[derive(Debug, Clone, Copy, PartialEq)]
 enum Detail {
     /// Of no other kind.
     None,
@@ -70,32 +76,94 @@ impl Detail {
     }
 }
 
-/// The types of one object each that has no parts: for each number of [`leaf`] the non-nullable and the nullable one.
-static LEAVES: [OnceLock<DType>; 32] = [const { OnceLock::new() }; 32];
+/// The types without parts, of which there is one object each: for each number of [`Known::leaf`] the non-nullable and the
+/// nullable one.
+static LEAVES: [OnceLock<Lasting<Whole>>; 32] = [const { OnceLock::new() }; 32];
 
-/// The type of this kind, which is made if it is asked for the first time. (Of the numbers, 0 to 10 are those of the
-/// primitive types.)
-fn leaf(
-    number: u32,
-    nullability: Nullability,
-    (kind, detail): (Kind, Detail),
-    make: impl FnOnce(&mut Slot) -> u32,
-) -> Result<DType, Error> {
-    let cell = &LEAVES[2 * number as usize + usize::from(nullability.is_nullable())];
-    remembered(cell, || DType::with(made(make)?, kind, nullability, detail)).cloned()
+impl Known {
+    /// What the library says of the type in a slot.
+    #[inline]
+    fn of(slot: &Slot) -> Known {
+        let kind = Kind::of(plain(|kind| ffi::dtype_kind(slot, kind)));
+        let nullability = holds(ffi::dtype_is_nullable(slot)).into();
+        Known { kind, nullability, detail: Detail::of(slot, kind) }
+    }
+
+    /// Where the type is remembered, if it has no parts. (Of the numbers, 0 to 10 are those of the primitive types.)
+    #[inline]
+    fn leaf(self) -> Option<&'static OnceLock<Lasting<Whole>>> {
+        let number = match (self.kind, self.detail) {
+            (_, Detail::Primitive(ptype)) => ptype.number() as usize,
+            (Kind::Bool, _) => 11,
+            (Kind::Utf8, _) => 12,
+            (Kind::Binary, _) => 13,
+            (Kind::Variant, _) => 14,
+            (Kind::Null, _) => 15,
+            _ => return None,
+        };
+        Some(&LEAVES[2 * number + usize::from(self.nullability.is_nullable())])
+    }
+}
+
+impl Whole {
+    fn of(slot: Slot, known: Known) -> Whole {
+        debug_assert_eq!(known, Known::of(&slot));
+        Whole { slot, known, parts: OnceLock::new() }
+    }
 }
 
 impl DType {
     pub(crate) fn of(slot: Slot) -> Result<DType, Error> {
-        let kind = Kind::of(plain(|kind| ffi::dtype_kind(&slot, kind)));
-        let nullability = holds(ffi::dtype_is_nullable(&slot)).into();
-        let detail = Detail::of(&slot, kind);
-        DType::with(slot, kind, nullability, detail)
+        let known = Known::of(&slot);
+        match known.leaf() {
+            Some(leaf) => DType::of_leaf(leaf, || Ok(Whole::of(slot, known))),
+            None => DType::of_whole(Whole::of(slot, known)),
+        }
     }
 
-    /// The type in a slot, of which this is known.
-    fn with(slot: Slot, kind: Kind, nullability: Nullability, detail: Detail) -> Result<DType, Error> {
-        Ok(DType { whole: Shared::try_new(Whole { slot, kind, nullability, detail, parts: OnceLock::new() })? })
+    /// The type that a call puts into a slot, and of which this is known. If the type has no parts, the call isn't made
+    /// again.
+    fn known(known: Known, call: impl FnOnce(&mut Slot) -> u32) -> Result<DType, Error> {
+        match known.leaf() {
+            Some(leaf) => DType::of_leaf(leaf, || Ok(Whole::of(made(call)?, known))),
+            None => DType::of_whole(Whole::of(made(call)?, known)),
+        }
+    }
+
+    #[inline]
+    fn of_whole(whole: Whole) -> Result<DType, Error> {
+        Ok(DType { whole: Shared::try_new(whole)? })
+    }
+
+    /// A type without parts, which is made if there is none yet.
+    fn of_leaf(
+        leaf: &'static OnceLock<Lasting<Whole>>,
+        make: impl FnOnce() -> Result<Whole, Error>,
+    ) -> Result<DType, Error> {
+        Ok(DType { whole: Shared::of(remembered(leaf, || make().map(Lasting::new))?) })
+    }
+
+    /// The type of this kind that a call puts into a slot.
+    fn of_kind(
+        kind: Kind,
+        detail: Detail,
+        nullability: Nullability,
+        call: impl FnOnce(&mut Slot) -> u32,
+    ) -> Result<DType, Error> {
+        DType::known(Known { kind, nullability, detail }, call)
+    }
+
+    /// The type with this outer nullability, which a call makes of this one if it has another.
+    fn made_nullable(&self, nullability: Nullability, call: impl FnOnce(&mut Slot) -> u32) -> Result<DType, Error> {
+        if self.nullability() == nullability {
+            return Ok(self.clone());
+        }
+        DType::known(Known { nullability, ..self.whole.known }, call)
+    }
+
+    /// The struct that a call makes of this one, with so many fields.
+    pub(crate) fn with_count(&self, count: usize, call: impl FnOnce(&mut Slot) -> u32) -> Result<DType, Error> {
+        DType::known(Known { detail: Detail::Count(count), ..self.whole.known }, call)
     }
 
     /// The type in a slot, if there is one.
@@ -129,7 +197,7 @@ impl DType {
     /// How many fields or variants there are, or elements in each list of a fixed size.
     #[inline]
     pub(crate) fn count(&self) -> usize {
-        if let Detail::Count(count) = self.whole.detail { count } else { 0 }
+        if let Detail::Count(count) = self.whole.known.detail { count } else { 0 }
     }
 
     /// Returns the null type, which is always nullable.
@@ -140,7 +208,7 @@ impl DType {
 
     /// Returns the null type, or [`ErrorKind::OutOfMemory`] (0) if memory runs out.
     pub fn try_null() -> Result<DType, Error> {
-        leaf(15, Nullability::Nullable, (Kind::Null, Detail::None), ffi::dtype_null)
+        DType::of_kind(Kind::Null, Detail::None, Nullability::Nullable, ffi::dtype_null)
     }
 
     /// Returns the type of booleans with this nullability.
@@ -151,7 +219,7 @@ impl DType {
 
     /// Returns what [`DType::bool`] returns, or [`ErrorKind::OutOfMemory`] (0) if memory runs out.
     pub fn try_bool(nullability: Nullability) -> Result<DType, Error> {
-        leaf(11, nullability, (Kind::Bool, Detail::None), |out| ffi::dtype_bool(nullability.into(), out))
+        DType::of_kind(Kind::Bool, Detail::None, nullability, |out| ffi::dtype_bool(nullability.into(), out))
     }
 
     /// Returns the type of this primitive type with this nullability.
@@ -162,8 +230,9 @@ impl DType {
 
     /// Returns what [`DType::primitive`] returns, or [`ErrorKind::OutOfMemory`] (0) if memory runs out.
     pub fn try_primitive(ptype: PType, nullability: Nullability) -> Result<DType, Error> {
-        let (number, known) = (ptype.number(), (Kind::Primitive, Detail::Primitive(ptype)));
-        leaf(number, nullability, known, |out| ffi::dtype_primitive(number, nullability.into(), out))
+        DType::of_kind(Kind::Primitive, Detail::Primitive(ptype), nullability, |out| {
+            ffi::dtype_primitive(ptype.number(), nullability.into(), out)
+        })
     }
 
     /// Returns the decimal type of this precision, this scale and this nullability. The precision is how many digits a
@@ -178,8 +247,11 @@ impl DType {
     ///
     /// If several of these are so, it is the first of them, unless memory runs out.
     pub fn decimal(precision: u8, scale: i8, nullability: Nullability) -> Result<DType, Error> {
-        explained(|error| made(|out| ffi::dtype_decimal(precision, scale, nullability.into(), out, error)))
-            .and_then(DType::of)
+        let detail = Detail::Decimal(DecimalDType { precision, scale });
+        explained(|error| {
+            let call = |out: &mut Slot| ffi::dtype_decimal(precision, scale, nullability.into(), out, error);
+            DType::of_kind(Kind::Decimal, detail, nullability, call)
+        })
     }
 
     /// Returns the type of UTF-8 strings with this nullability.
@@ -190,7 +262,7 @@ impl DType {
 
     /// Returns what [`DType::utf8`] returns, or [`ErrorKind::OutOfMemory`] (0) if memory runs out.
     pub fn try_utf8(nullability: Nullability) -> Result<DType, Error> {
-        leaf(12, nullability, (Kind::Utf8, Detail::None), |out| ffi::dtype_utf8(nullability.into(), out))
+        DType::of_kind(Kind::Utf8, Detail::None, nullability, |out| ffi::dtype_utf8(nullability.into(), out))
     }
 
     /// Returns the type of byte strings with this nullability.
@@ -201,7 +273,7 @@ impl DType {
 
     /// Returns what [`DType::binary`] returns, or [`ErrorKind::OutOfMemory`] (0) if memory runs out.
     pub fn try_binary(nullability: Nullability) -> Result<DType, Error> {
-        leaf(13, nullability, (Kind::Binary, Detail::None), |out| ffi::dtype_binary(nullability.into(), out))
+        DType::of_kind(Kind::Binary, Detail::None, nullability, |out| ffi::dtype_binary(nullability.into(), out))
     }
 
     /// Returns the variant type with this nullability. Each of its values carries its own type.
@@ -212,7 +284,7 @@ impl DType {
 
     /// Returns what [`DType::variant`] returns, or [`ErrorKind::OutOfMemory`] (0) if memory runs out.
     pub fn try_variant(nullability: Nullability) -> Result<DType, Error> {
-        leaf(14, nullability, (Kind::Variant, Detail::None), |out| ffi::dtype_variant(nullability.into(), out))
+        DType::of_kind(Kind::Variant, Detail::None, nullability, |out| ffi::dtype_variant(nullability.into(), out))
     }
 
     /// Returns the list type with this element type and this nullability. Its values are lists of any length.
@@ -221,7 +293,8 @@ impl DType {
     /// - [`ErrorKind::TooDeep`] if the element type has 128 levels
     /// - [`ErrorKind::OutOfMemory`] (0) if memory runs out
     pub fn list(element: &DType, nullability: Nullability) -> Result<DType, Error> {
-        made(|out| ffi::dtype_list(element.slot(), nullability.into(), out)).and_then(DType::of)
+        let call = |out: &mut Slot| ffi::dtype_list(element.slot(), nullability.into(), out);
+        DType::of_kind(Kind::List, Detail::None, nullability, call)
     }
 
     /// Returns the fixed-size list type with this element type and this nullability. Its values are lists of exactly
@@ -231,7 +304,8 @@ impl DType {
     /// - [`ErrorKind::TooDeep`] if the element type has 128 levels
     /// - [`ErrorKind::OutOfMemory`] (0) if memory runs out
     pub fn fixed_size_list(element: &DType, size: u32, nullability: Nullability) -> Result<DType, Error> {
-        made(|out| ffi::dtype_fixed_size_list(element.slot(), size, nullability.into(), out)).and_then(DType::of)
+        let call = |out: &mut Slot| ffi::dtype_fixed_size_list(element.slot(), size, nullability.into(), out);
+        DType::of_kind(Kind::FixedSizeList, Detail::Count(size as usize), nullability, call)
     }
 
     /// Returns the map type with these key and value types and this nullability. `keys_sorted` declares that the keys
@@ -246,8 +320,10 @@ impl DType {
     pub fn map(key: &DType, value: &DType, keys_sorted: bool, nullability: Nullability) -> Result<DType, Error> {
         let copy = key.apart_from(value)?;
         let value = copy.as_ref().unwrap_or(value.slot());
-        explained(|error| made(|out| ffi::dtype_map(key.slot(), value, keys_sorted, nullability.into(), out, error)))
-            .and_then(DType::of)
+        explained(|error| {
+            let call = |out: &mut Slot| ffi::dtype_map(key.slot(), value, keys_sorted, nullability.into(), out, error);
+            DType::of_kind(Kind::Map, Detail::None, nullability, call)
+        })
     }
 
     /// Returns the struct type of these fields, in order, with this nullability. All items are taken from the iterator
@@ -260,8 +336,8 @@ impl DType {
         fields: impl IntoIterator<Item = (N, DType)>,
         nullability: Nullability,
     ) -> Result<DType, Error> {
-        let fields = fields_of(taken(fields)?)?;
-        made(|out| ffi::dtype_struct(&fields, nullability.into(), out)).and_then(DType::of)
+        let (fields, count) = fields_of(&taken(fields)?)?;
+        DType::of_kind(Kind::Struct, count, nullability, |out| ffi::dtype_struct(&fields, nullability.into(), out))
     }
 
     /// Returns the union type with these variants, in order, with the tags 0, 1, 2 and so on, and with this
@@ -279,9 +355,11 @@ impl DType {
         variants: impl IntoIterator<Item = (N, DType)>,
         nullability: Nullability,
     ) -> Result<DType, Error> {
-        let fields = fields_of(taken(variants)?)?;
-        explained(|error| made(|out| ffi::dtype_union_consecutive(&fields, nullability.into(), out, error)))
-            .and_then(DType::of)
+        let (fields, count) = fields_of(&taken(variants)?)?;
+        explained(|error| {
+            let call = |out: &mut Slot| ffi::dtype_union_consecutive(&fields, nullability.into(), out, error);
+            DType::of_kind(Kind::Union, count, nullability, call)
+        })
     }
 
     /// Returns the union type with these variants, in order, each with its tag, and with this nullability.
@@ -304,9 +382,11 @@ impl DType {
             pushed(&mut fields, (name, dtype))?;
             pushed(&mut tags, tag)?;
         }
-        let fields = fields_of(fields)?;
-        explained(|error| made(|out| ffi::dtype_union(&fields, &tags, nullability.into(), out, error)))
-            .and_then(DType::of)
+        let (fields, count) = fields_of(&fields)?;
+        explained(|error| {
+            let call = |out: &mut Slot| ffi::dtype_union(&fields, &tags, nullability.into(), out, error);
+            DType::of_kind(Kind::Union, count, nullability, call)
+        })
     }
 
     /// Returns the extension type with this id, this metadata and this storage type. It is nullable if the storage type
@@ -316,14 +396,15 @@ impl DType {
     /// - [`ErrorKind::TooDeep`] if the storage type has 128 levels
     /// - [`ErrorKind::OutOfMemory`] (0) if memory runs out
     pub fn extension(id: &str, metadata: &[u8], storage: &DType) -> Result<DType, Error> {
-        made(|out| ffi::dtype_extension(id.as_bytes(), metadata, storage.slot(), out)).and_then(DType::of)
+        let call = |out: &mut Slot| ffi::dtype_extension(id.as_bytes(), metadata, storage.slot(), out);
+        DType::of_kind(Kind::Extension, Detail::None, storage.nullability(), call)
     }
 
     /// Returns the kind of the type.
     #[must_use]
     #[inline]
     pub fn kind(&self) -> Kind {
-        self.whole.kind
+        self.whole.known.kind
     }
 
     /// Returns whether the type is nullable, so that its values may be null. The null type is always nullable, and an
@@ -339,7 +420,7 @@ impl DType {
     #[must_use]
     #[inline]
     pub fn nullability(&self) -> Nullability {
-        self.whole.nullability
+        self.whole.known.nullability
     }
 
     /// Returns whether the type can be made non-nullable. The null type can't, and an extension can't if its storage
@@ -373,7 +454,7 @@ impl DType {
     ///   non-nullable, which [`DType::can_be_nonnullable`] tests
     /// - [`ErrorKind::OutOfMemory`] (0) if memory runs out
     pub fn with_nullability(&self, nullability: Nullability) -> Result<DType, Error> {
-        made(|out| ffi::dtype_with_nullability(self.slot(), nullability.into(), out)).and_then(DType::of)
+        self.made_nullable(nullability, |out| ffi::dtype_with_nullability(self.slot(), nullability.into(), out))
     }
 
     /// Returns the type, made nullable. The types inside it keep their nullabilities.
@@ -412,7 +493,8 @@ impl DType {
 
     /// Returns what [`DType::union_nullability`] returns, or [`ErrorKind::OutOfMemory`] (0) if memory runs out.
     pub fn try_union_nullability(&self, nullability: Nullability) -> Result<DType, Error> {
-        made(|out| ffi::dtype_union_nullability(self.slot(), nullability.into(), out)).and_then(DType::of)
+        let union = self.nullability() | nullability;
+        self.made_nullable(union, |out| ffi::dtype_union_nullability(self.slot(), nullability.into(), out))
     }
 
     /// Returns the same as `clone`, which doesn't allocate and so can't fail.
@@ -659,7 +741,7 @@ impl DType {
     #[must_use]
     #[inline]
     pub fn as_ptype_opt(&self) -> Option<PType> {
-        if let Detail::Primitive(ptype) = self.whole.detail { Some(ptype) } else { None }
+        if let Detail::Primitive(ptype) = self.whole.known.detail { Some(ptype) } else { None }
     }
 
     /// Returns the precision and the scale of a decimal type, or `None` for every other type. The precision is from 1
@@ -667,7 +749,7 @@ impl DType {
     #[must_use]
     #[inline]
     pub fn as_decimal_opt(&self) -> Option<DecimalDType> {
-        if let Detail::Decimal(decimal) = self.whole.detail { Some(decimal) } else { None }
+        if let Detail::Decimal(decimal) = self.whole.known.detail { Some(decimal) } else { None }
     }
 
     /// Returns the element type of a list, or `None` for every other type, also for a fixed-size list.
@@ -801,13 +883,13 @@ fn taken<T>(items: impl IntoIterator<Item = T>) -> Result<Vec<T>, Error> {
     Ok(all)
 }
 
-/// The library's object for these fields.
-fn fields_of<N: AsRef<str>>(fields: Vec<(N, DType)>) -> Result<Slot, Error> {
+/// The library's object for these fields, and their number.
+fn fields_of<N: AsRef<str>>(fields: &[(N, DType)]) -> Result<(Slot, Detail), Error> {
     let mut all = made(ffi::fields_new)?;
     for (name, dtype) in fields {
         done(ffi::fields_push(&mut all, name.as_ref().as_bytes(), dtype.slot()))?;
     }
-    Ok(all)
+    Ok((all, Detail::Count(fields.len())))
 }
 
 /// Reads a type from its text in the form of the console, such as `{a=list(i32?), "b c"=decimal(10,2)}`.

@@ -70,9 +70,9 @@
 //!
 //! A type, a path, a mask or a message doesn't change. Its value in this package is a handle that is shared: `clone`
 //! counts one owner more, and two clones are equal without a look at what is in them. A [`FieldPathSet`] changes, so
-//! its `clone` copies it. The constructors of the types that have no parts, such as [`DType::bool`] and
-//! [`DType::primitive`], make each of these 31 types once in a program, and return clones. (A decimal is made anew each
-//! time.)
+//! its `clone` copies it. Of each of the 31 types that have no parts, such as [`DType::bool`] and
+//! [`DType::primitive`], and of the root path, there is one object in a program, which isn't dropped. (A decimal is
+//! made anew each time.)
 //!
 //! These are known from the beginning: the kind and the nullability of a type, a primitive type, a precision and a
 //! scale, the size of lists of a fixed size, the number of fields or variants, and the length of a path. The parts of a

@@ -210,10 +210,11 @@ impl<'a> StructFields<'a> {
         for name in names {
             projection.push(name.as_ref())?;
         }
+        let Names { text, lengths } = &projection;
         explained(|error| {
-            made(|out| ffi::struct_project(self.dtype.slot(), &projection.text, &projection.lengths, out, error))
+            let call = |out: &mut Slot| ffi::struct_project(self.dtype.slot(), text, lengths, out, error);
+            self.dtype.with_count(lengths.len(), call)
         })
-        .and_then(DType::of)
         .map_err(|error| match projection.iter().find(|name| self.find(name).is_none()) {
             Some(missing) if error.kind() == ErrorKind::FieldNotFound => error.about(missing),
             _ => error,
@@ -236,8 +237,10 @@ impl<'a> StructFields<'a> {
     ///   both numbers.
     /// - [`ErrorKind::OutOfMemory`] (0) if memory runs out
     pub fn without_field(&self, index: usize) -> Result<DType, Error> {
-        explained(|error| made(|out| ffi::struct_without_field(self.dtype.slot(), index, out, error)))
-            .and_then(DType::of)
+        explained(|error| {
+            let call = |out: &mut Slot| ffi::struct_without_field(self.dtype.slot(), index, out, error);
+            self.dtype.with_count(self.nfields().saturating_sub(1), call)
+        })
     }
 
     /// Returns the struct that has the fields of this struct followed by those of `other`. It has the outer nullability
@@ -257,9 +260,11 @@ impl<'a> StructFields<'a> {
     /// - [`ErrorKind::OutOfMemory`] (0) if memory runs out
     pub fn disjoint_merge(&self, other: &StructFields<'_>) -> Result<DType, Error> {
         let copy = self.dtype.apart_from(other.dtype)?;
-        let other = copy.as_ref().unwrap_or(other.dtype.slot());
-        explained(|error| made(|out| ffi::struct_disjoint_merge(self.dtype.slot(), other, out, error)))
-            .and_then(DType::of)
+        let others = copy.as_ref().unwrap_or(other.dtype.slot());
+        explained(|error| {
+            let call = |out: &mut Slot| ffi::struct_disjoint_merge(self.dtype.slot(), others, out, error);
+            self.dtype.with_count(self.nfields() + other.nfields(), call)
+        })
     }
 
     /// Returns the fields as text over several lines. The first line is an opening brace, then each field has a line

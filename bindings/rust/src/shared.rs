@@ -9,7 +9,7 @@ use std::ops::Deref;
 use std::process;
 use std::ptr::NonNull;
 use std::sync::OnceLock;
-use std::sync::atomic::{AtomicUsize, Ordering, fence};
+use std::sync::atomic::{AtomicUsize, Ordering};
 
 /// A value that has several owners on any threads, and that the last of them drops.
 pub(crate) struct Shared<T> {
@@ -23,8 +23,20 @@ struct Counted<T> {
     value: T,
 }
 
+/// A value that is never dropped, and so has owners that nobody counts.
+pub(crate) struct Lasting<T>(Counted<T>);
+
 /// So many owners can't be, since each takes more than a byte of memory.
 const MOST: usize = isize::MAX as usize;
+
+/// In place of the number of owners, if they aren't counted.
+const UNCOUNTED: usize = usize::MAX;
+
+impl<T> Lasting<T> {
+    pub(crate) fn new(value: T) -> Lasting<T> {
+        Lasting(Counted { owners: AtomicUsize::new(UNCOUNTED), value })
+    }
+}
 
 // SAFETY: the owners share a value and the last drops it, each on any thread, so it has to be both.
 unsafe impl<T: Send + Sync> Send for Shared<T> {}
@@ -40,6 +52,12 @@ impl<T> Shared<T> {
         // SAFETY: the block is new, and of the right size and alignment.
         unsafe { at.write(Counted { owners: AtomicUsize::new(1), value }) }
         Ok(Shared { at, owns: PhantomData })
+    }
+
+    /// One more owner of a value that is never dropped.
+    #[inline]
+    pub(crate) fn of(value: &'static Lasting<T>) -> Shared<T> {
+        Shared { at: NonNull::from(&value.0), owns: PhantomData }
     }
 
     /// Whether both are owners of one value.
@@ -75,8 +93,9 @@ impl<T> Deref for Shared<T> {
 impl<T> Clone for Shared<T> {
     #[inline]
     fn clone(&self) -> Shared<T> {
+        let owners = &self.counted().owners;
         // (Whoever has this owner has what happened to it before, so the count needs no order.)
-        if self.counted().owners.fetch_add(1, Ordering::Relaxed) > MOST {
+        if owners.load(Ordering::Relaxed) != UNCOUNTED && owners.fetch_add(1, Ordering::Relaxed) > MOST {
             process::abort();
         }
         Shared { at: self.at, owns: PhantomData }
@@ -86,8 +105,14 @@ impl<T> Clone for Shared<T> {
 impl<T> Drop for Shared<T> {
     #[inline]
     fn drop(&mut self) {
-        if self.counted().owners.fetch_sub(1, Ordering::Release) == 1 {
-            fence(Ordering::Acquire);
+        let owners = &self.counted().owners;
+        let was_last = match owners.load(Ordering::Acquire) {
+            UNCOUNTED => false,
+            // (There is no other owner who could count at the same time.)
+            1 => true,
+            _ => owners.fetch_sub(1, Ordering::AcqRel) == 1,
+        };
+        if was_last {
             // SAFETY: this was the last owner, and all that the others did has happened. `Box` frees by the layout of `try_new`.
             drop(unsafe { Box::from_raw(self.at.as_ptr()) });
         }
@@ -112,7 +137,7 @@ fn made_first<T>(cell: &OnceLock<T>, make: impl FnOnce() -> Result<T, Error>) ->
 
 #[cfg(test)]
 mod tests {
-    use super::{Shared, remembered};
+    use super::{Lasting, Shared, remembered};
     use crate::Error;
     use std::sync::OnceLock;
     use std::sync::atomic::{AtomicUsize, Ordering};
@@ -154,6 +179,17 @@ mod tests {
         assert!(first.get_mut().is_none() && second.get_mut().is_none());
         drop(first);
         assert_eq!(second.get_mut(), Some(&mut 2));
+    }
+
+    #[test]
+    fn what_lasts_is_never_dropped() {
+        static DROPPED: AtomicUsize = AtomicUsize::new(0);
+        static LASTING: OnceLock<Lasting<Counting<'static>>> = OnceLock::new();
+        let lasting = remembered(&LASTING, || Ok(Lasting::new(Counting(&DROPPED)))).unwrap();
+        let mut first = Shared::of(lasting);
+        assert!(first.clone().is(&Shared::of(lasting)) && first.get_mut().is_none());
+        drop(first);
+        assert_eq!(DROPPED.load(Ordering::Relaxed), 0);
     }
 
     #[test]

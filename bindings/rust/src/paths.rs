@@ -8,7 +8,7 @@ use crate::error::Error;
 #[cfg(doc)]
 use crate::error::ErrorKind;
 use crate::ffi::{self, Slot};
-use crate::shared::{Shared, remembered};
+use crate::shared::{Lasting, Shared, remembered};
 use std::cmp::Ordering;
 use std::fmt;
 use std::hash::{Hash, Hasher};
@@ -113,10 +113,26 @@ struct Whole {
     steps: OnceLock<Vec<Field>>,
 }
 
+/// The root, of which there is one object.
+static ROOT: OnceLock<Lasting<Whole>> = OnceLock::new();
+
+impl Whole {
+    /// The path in a slot, of so many steps.
+    fn of(slot: Slot, length: usize) -> Whole {
+        debug_assert_eq!(length, plain(|count| ffi::path_len(&slot, count)));
+        Whole { slot, length, steps: OnceLock::new() }
+    }
+}
+
 impl FieldPath {
     pub(crate) fn of(slot: Slot) -> Result<FieldPath, Error> {
         let length = plain(|count| ffi::path_len(&slot, count));
-        Ok(FieldPath { whole: Shared::try_new(Whole { slot, length, steps: OnceLock::new() })? })
+        FieldPath::with(slot, length)
+    }
+
+    /// The path in a slot, of so many steps.
+    fn with(slot: Slot, length: usize) -> Result<FieldPath, Error> {
+        Ok(FieldPath { whole: Shared::try_new(Whole::of(slot, length))? })
     }
 
     /// The path that a call puts into a slot. If memory runs out for what the path is in, the call isn't made.
@@ -143,7 +159,8 @@ impl FieldPath {
 
     /// Returns what [`FieldPath::root`] returns, or [`ErrorKind::OutOfMemory`] (0) if memory runs out.
     pub fn try_root() -> Result<FieldPath, Error> {
-        made(ffi::path_root).and_then(FieldPath::of)
+        let root = remembered(&ROOT, || Ok(Lasting::new(Whole::of(made(ffi::path_root)?, 0))))?;
+        Ok(FieldPath { whole: Shared::of(root) })
     }
 
     /// Returns the path of one step, which is the step to the field with this name. The name may contain any
@@ -189,7 +206,7 @@ impl FieldPath {
     }
 
     fn of_steps(names: &[u8], lengths: &[usize]) -> Result<FieldPath, Error> {
-        made(|out| ffi::path_from_steps(names, lengths, out)).and_then(FieldPath::of)
+        FieldPath::with(made(|out| ffi::path_from_steps(names, lengths, out))?, lengths.len())
     }
 
     /// Returns the steps, from the root on. They are made at the first call, which allocates, and are remembered.
@@ -296,17 +313,29 @@ impl FieldPath {
     /// Returns the path with one more step at its end: a step to the field with this name, or the step to the element
     /// of a list.
     #[must_use]
-    pub fn push(self, field: impl Into<Field>) -> FieldPath {
-        or_abort(self.try_push(field))
+    pub fn push(mut self, field: impl Into<Field>) -> FieldPath {
+        let (slot, length) = (or_abort(self.longer(&field.into())), self.len() + 1);
+        match self.whole.get_mut() {
+            Some(whole) => *whole = Whole::of(slot, length),
+            None => self = or_abort(FieldPath::with(slot, length)),
+        }
+        self
     }
 
     /// Returns what [`FieldPath::push`] returns, or [`ErrorKind::OutOfMemory`] (0) if memory runs out.
     pub fn try_push(&self, field: impl Into<Field>) -> Result<FieldPath, Error> {
-        match field.into() {
+        FieldPath::with(self.longer(&field.into())?, self.len() + 1)
+    }
+
+    /// The object of the path with one more step. (Of the root no copy is made, which would need the lock.)
+    fn longer(&self, step: &Field) -> Result<Slot, Error> {
+        match step {
+            Field::Name(name) if self.is_root() => {
+                made(|out| ffi::path_from_steps(name.as_bytes(), &[name.len()], out))
+            }
             Field::Name(name) => made(|out| ffi::path_push_name(self.slot(), name.as_bytes(), out)),
             Field::ElementType => made(|out| ffi::path_push_element(self.slot(), out)),
         }
-        .and_then(FieldPath::of)
     }
 
     /// Returns true if the first step of the path is the step to the field with this name. Returns false if it is the

@@ -6,11 +6,12 @@ use crate::calls::{self, done, explained, found, holds, made, or_abort, plain, p
 use crate::error::Error;
 #[cfg(doc)]
 use crate::error::ErrorKind;
-use crate::ffi::{self, Slot};
+use crate::ffi::{self, AT_ONCE, Slot};
 use crate::parts::{ExtDTypeRef, MapDType, Parts, StructFields, UnionVariants};
 use crate::scalars::{DecimalDType, Kind, Nullability, PType};
 use crate::sets::FieldPathSet;
 use crate::shared::{Lasting, Shared, remembered};
+use std::array;
 use std::fmt;
 use std::hash::{Hash, Hasher};
 use std::str::FromStr;
@@ -886,8 +887,9 @@ fn taken<T>(items: impl IntoIterator<Item = T>) -> Result<Vec<T>, Error> {
 /// The library's object for these fields, and their number.
 fn fields_of<N: AsRef<str>>(fields: &[(N, DType)]) -> Result<(Slot, Detail), Error> {
     let mut all = made(ffi::fields_new)?;
-    for (name, dtype) in fields {
-        done(ffi::fields_push(&mut all, name.as_ref().as_bytes(), dtype.slot()))?;
+    for some in fields.chunks(AT_ONCE) {
+        let pair = |at| some.get(at).map(|(name, dtype): &(N, DType)| (name.as_ref(), dtype.slot()));
+        done(ffi::fields_extend(&mut all, &array::from_fn(pair)))?;
     }
     Ok((all, Detail::Count(fields.len())))
 }

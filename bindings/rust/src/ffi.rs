@@ -15,6 +15,7 @@
 //! | `out` | `&mut Slot` | A slot in which the call stores an object if it succeeds. |
 //! | `error` | `&mut Slot` | A slot in which the call stores why it failed. |
 //! | `slots` | `&mut [Slot]` | Slots that keep their objects. |
+//! | `locked` | `&Locked` | That the caller has taken the lock. |
 //! | `[u8]` | `&[u8]` | Items that the call reads. |
 //! | `[mut u8]` | `&mut [u8]` | A buffer. |
 //! | `mut u32` | `&mut u32` | A place for a number. |
@@ -28,7 +29,8 @@
 //!   call are one, and end the program if the library leaves another pointer in a copy, which it has no reason to do.
 //!   A slot that is changed is behind a `&mut`, so it isn't another slot of the call.
 //! - The contracts suppose that no other call is at work on what a call changes. Objects share their parts, and how many
-//!   owners a part has is counted without an atomic instruction. So a call *locks*: it takes the lock of this package.
+//!   owners a part has is counted without an atomic instruction. So a call *locks*: it takes the lock of this package. (A
+//!   call *inside* wants to be shown that its caller has taken it, who makes several such calls.)
 //!   There are two other kinds of calls, which `tools/bindings` finds by their contracts.
 //!   A call that only *reads* keeps each slot that it is given and never returns 100. It is given a copy of the slot's
 //!   pointer, so it writes nothing into the slot. It changes no count of owners, since the library counts an owner only by
@@ -56,8 +58,13 @@ pub(crate) const ELEMENT: usize = usize::MAX;
 /// The lock of the package: see the head of this file.
 static LOCK: Mutex<()> = Mutex::new(());
 
-fn lock() -> MutexGuard<'static, ()> {
-    LOCK.lock().unwrap_or_else(PoisonError::into_inner)
+/// That the lock is held.
+pub(crate) struct Locked {
+    _guard: MutexGuard<'static, ()>,
+}
+
+fn lock() -> Locked {
+    Locked { _guard: LOCK.lock().unwrap_or_else(PoisonError::into_inner) }
 }
 
 /// A place for one object of the library, which it owns, or for none.
@@ -139,6 +146,7 @@ macro_rules! enter {
     (locks $($stored:ident)*) => {
         let _lock = lock();
     };
+    (inside $($stored:ident)*) => {};
     (reads $($stored:ident)*) => {};
     (makes $($stored:ident)*) => {
         $($stored.clear();)*
@@ -150,6 +158,9 @@ macro_rules! enter {
 macro_rules! export {
     ($f:tt [$($s:tt)*] [$($r:tt)*] [$($g:tt)*] [$($k:ident)*] $o:tt $p:ident: read, $($rest:tt)*) => {
         export!($f [$($s)* $p: &Slot,] [$($r)* $p: *mut Lent,] [$($g)* &raw mut $p.lent,] [$($k)* $p] $o $($rest)*);
+    };
+    ($f:tt [$($s:tt)*] $r:tt $g:tt $k:tt $o:tt $p:ident: locked, $($rest:tt)*) => {
+        export!($f [$($s)* $p: &Locked,] $r $g $k $o $($rest)*);
     };
     ($f:tt [$($s:tt)*] [$($r:tt)*] [$($g:tt)*] $k:tt [$($o:ident)*] $p:ident: change, $($rest:tt)*) => {
         export!($f [$($s)* $p: &mut Slot,] [$($r)* $p: *mut Slot,] [$($g)* $p,] $k [$($o)*] $($rest)*);
@@ -200,6 +211,32 @@ macro_rules! exports {
     ($($way:ident $name:ident($($parameters:tt)*);)*) => {
         $(export!([$way $name] [] [] [] [] [] $($parameters)*,);)*
     };
+}
+
+/// Calls of which a caller makes several while it has the lock.
+mod inside {
+    use super::{Lent, Locked, SAME_SLOT, Slot, are_apart};
+    exports! {
+        inside fields_push(_lock: locked, fields: change, name: [u8], dtype: read);
+        inside set_insert(_lock: locked, paths: change, path: read);
+    }
+}
+
+/// So many calls are made while the lock is held once.
+pub(crate) const AT_ONCE: usize = 8;
+
+/// Adds fields to the end of a list, in order. The result is that of the first call that fails, which is the last one.
+pub(crate) fn fields_extend(fields: &mut Slot, all: &[Option<(&str, &Slot)>; AT_ONCE]) -> u32 {
+    let lock = lock();
+    let push = |(name, dtype): &(&str, &Slot)| inside::fields_push(&lock, fields, name.as_bytes(), dtype);
+    all.iter().flatten().map(push).find(|result| *result != DONE).unwrap_or(DONE)
+}
+
+/// Inserts paths, as `fields_extend` adds fields.
+pub(crate) fn set_insert_all(paths: &mut Slot, all: &[Option<&Slot>; AT_ONCE]) -> u32 {
+    let lock = lock();
+    let insert = |path: &&Slot| inside::set_insert(&lock, paths, path);
+    all.iter().flatten().map(insert).find(|result| *result != DONE).unwrap_or(DONE)
 }
 
 // The two functions of `bindings/c/arrow.c`, which walks through the struct of Arrow and calls a proved function.

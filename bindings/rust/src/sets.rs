@@ -7,9 +7,10 @@ use crate::dtype::DType;
 use crate::error::Error;
 #[cfg(doc)]
 use crate::error::ErrorKind;
-use crate::ffi::{self, Slot};
+use crate::ffi::{self, AT_ONCE, Slot};
 use crate::paths::{Field, FieldPath};
 use crate::shared::remembered;
+use std::array;
 use std::borrow::Borrow;
 use std::fmt;
 use std::ops::BitOr;
@@ -124,7 +125,9 @@ impl FieldPathSet {
             pushed(&mut given, path)?;
         }
         let slot = self.changed();
-        given.iter().try_for_each(|path| inserted(ffi::set_insert(slot, path.borrow().slot())))
+        given
+            .chunks(AT_ONCE)
+            .try_for_each(|some| inserted(ffi::set_insert_all(slot, &array::from_fn(|at| some.get(at).map(slot_of)))))
     }
 
     /// Returns whether the path is in the set.
@@ -364,6 +367,10 @@ impl FieldPathSet {
     pub fn try_clone(&self) -> Result<FieldPathSet, Error> {
         made(|out| ffi::set_copy(&self.slot, out)).map(FieldPathSet::of)
     }
+}
+
+fn slot_of(path: &impl Borrow<FieldPath>) -> &Slot {
+    path.borrow().slot()
 }
 
 fn inserted(code: u32) -> Result<(), Error> {

@@ -159,6 +159,11 @@ pub(crate) struct Names {
 }
 
 impl Names {
+    /// No names, with room for so many.
+    pub(crate) fn with_room(count: usize) -> Result<Names, Error> {
+        Ok(Names { text: reserved(count.saturating_mul(NAME))?, lengths: reserved(count)? })
+    }
+
     pub(crate) fn push(&mut self, name: &str) -> Result<(), Error> {
         self.text.try_reserve(name.len()).map_err(|_| Error::memory())?;
         self.text.extend_from_slice(name.as_bytes());

@@ -2,7 +2,7 @@
 // SPDX-FileCopyrightText: Copyright the Vortex contributors
 
 //! Types.
-use crate::calls::{self, done, explained, found, holds, made, or_abort, plain, pushed, read, value};
+use crate::calls::{self, done, explained, found, holds, made, or_abort, plain, pushed, read, reserved, value};
 use crate::error::Error;
 #[cfg(doc)]
 use crate::error::ErrorKind;
@@ -877,7 +877,8 @@ impl DType {
 
 /// All items of an iterator.
 fn taken<T>(items: impl IntoIterator<Item = T>) -> Result<Vec<T>, Error> {
-    let mut all = Vec::new();
+    let items = items.into_iter();
+    let mut all = reserved(items.size_hint().0)?;
     for item in items {
         pushed(&mut all, item)?;
     }

@@ -206,7 +206,8 @@ impl<'a> StructFields<'a> {
     ///   the position of the first such name among the names, counted from 0, and the name.
     /// - [`ErrorKind::OutOfMemory`] (0) if memory runs out
     pub fn project<N: AsRef<str>>(&self, names: impl IntoIterator<Item = N>) -> Result<DType, Error> {
-        let mut projection = Names::default();
+        let names = names.into_iter();
+        let mut projection = Names::with_room(names.size_hint().0)?;
         for name in names {
             projection.push(name.as_ref())?;
         }

@@ -6,7 +6,7 @@ use crate::calls::{self, done, explained, found, holds, made, or_abort, plain, p
 use crate::error::Error;
 #[cfg(doc)]
 use crate::error::ErrorKind;
-use crate::ffi::{self, AT_ONCE, Slot};
+use crate::ffi::{self, AT_ONCE, Locked, Slot};
 use crate::parts::{ExtDTypeRef, MapDType, Parts, StructFields, UnionVariants};
 use crate::scalars::{DecimalDType, Kind, Nullability, PType};
 use crate::sets::FieldPathSet;
@@ -116,6 +116,11 @@ impl Whole {
 impl DType {
     pub(crate) fn of(slot: Slot) -> Result<DType, Error> {
         let known = Known::of(&slot);
+        DType::in_slot(slot, known)
+    }
+
+    /// The type in a slot, of which this is known.
+    fn in_slot(slot: Slot, known: Known) -> Result<DType, Error> {
         match known.leaf() {
             Some(leaf) => DType::of_leaf(leaf, || Ok(Whole::of(slot, known))),
             None => DType::of_whole(Whole::of(slot, known)),
@@ -165,6 +170,26 @@ impl DType {
     /// The struct that a call makes of this one, with so many fields.
     pub(crate) fn with_count(&self, count: usize, call: impl FnOnce(&mut Slot) -> u32) -> Result<DType, Error> {
         DType::known(Known { detail: Detail::Count(count), ..self.whole.known }, call)
+    }
+
+    /// The type that a call finds, if there is one. If it has no parts, its object is dropped under the same lock.
+    pub(crate) fn found(call: impl FnOnce(&Locked, &mut Slot) -> u32) -> Result<Option<DType>, Error> {
+        // (The slot is dropped after the lock, in whatever way the function ends.)
+        let mut slot = Slot::new();
+        let lock = ffi::lock();
+        if !done(call(&lock, &mut slot))? {
+            return Ok(None);
+        }
+        let known = Known::of(&slot);
+        let leaf = known.leaf().and_then(OnceLock::get);
+        if leaf.is_some() {
+            lock.drop(&mut slot);
+        }
+        drop(lock);
+        match leaf {
+            Some(leaf) => Ok(Some(DType { whole: Shared::of(leaf) })),
+            None => DType::in_slot(slot, known).map(Some),
+        }
     }
 
     /// The type in a slot, if there is one.

@@ -63,7 +63,7 @@ pub(crate) struct Locked {
     _guard: MutexGuard<'static, ()>,
 }
 
-fn lock() -> Locked {
+pub(crate) fn lock() -> Locked {
     Locked { _guard: LOCK.lock().unwrap_or_else(PoisonError::into_inner) }
 }
 
@@ -129,11 +129,17 @@ fn are_apart(slots: &[&Slot]) -> bool {
 impl Drop for Slot {
     fn drop(&mut self) {
         if !self.at.is_null() {
-            let mut lent = Lent { at: self.at };
-            let _lock = lock();
-            // SAFETY: the slot has an object, which nothing uses any more.
-            unsafe { vlt_core_free(&mut lent) }
+            lock().drop(self);
         }
+    }
+}
+
+impl Locked {
+    /// Drops the object of a slot, which is empty then.
+    pub(crate) fn drop(&self, slot: &mut Slot) {
+        let mut lent = Lent { at: mem::replace(&mut slot.at, ptr::null_mut()) };
+        // SAFETY: nothing uses the object any more.
+        unsafe { vlt_core_free(&mut lent) }
     }
 }
 
@@ -214,11 +220,12 @@ macro_rules! exports {
 }
 
 /// Calls of which a caller makes several while it has the lock.
-mod inside {
+pub(crate) mod inside {
     use super::{Lent, Locked, SAME_SLOT, Slot, are_apart};
     exports! {
         inside fields_push(_lock: locked, fields: change, name: [u8], dtype: read);
         inside set_insert(_lock: locked, paths: change, path: read);
+        inside path_resolve(_lock: locked, dtype: read, path: read, out: out);
     }
 }
 

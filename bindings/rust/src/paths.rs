@@ -390,7 +390,7 @@ impl FieldPath {
 
     /// Returns what [`FieldPath::resolve`] returns, or [`ErrorKind::OutOfMemory`] (0) if memory runs out.
     pub fn try_resolve(&self, dtype: &DType) -> Result<Option<DType>, Error> {
-        DType::of_found(found(|out| ffi::path_resolve(dtype.slot(), self.slot(), out))?)
+        DType::found(|lock, out| ffi::inside::path_resolve(lock, dtype.slot(), self.slot(), out))
     }
 
     /// Returns whether there is a type at the path in the type `dtype`. [`FieldPath::resolve`] explains where a path

@@ -2,7 +2,7 @@
 -- SPDX-FileCopyrightText: Copyright the Vortex contributors
 
 -- What is written as a format is read again.
-use Rattle.std.proofs.Common.{◌≡◌, ℕ, zero, suc, ◌+◌, ◌-◌, ◌*◌, ◌^◌, ◌<◌, ◌≤◌, Bool, true, false, ◌&&◌, ◌==◌, List, [], ◌∷◌, ◌++◌, length, take, drop, Option, Some, None, Result, Ok, Err, refl, sym, ap, ◌∙◌, arith}
+use Rattle.std.proofs.Common.{◌≡◌, ℕ, zero, suc, ◌+◌, ◌-◌, ◌*◌, ◌^◌, ◌<◌, ◌≤◌, Bool, true, false, ◌==◌, List, [], ◌∷◌, ◌++◌, length, take, drop, Option, Some, None, Result, Ok, Err, refl, sym, ap, ◌∙◌, arith}
 use Rattle.std.specs.Prelude.{codes, slice_index, nat_lt, nat_le, ℤ, pos, negsuc, neg_ℤ, ◌≤ℤ◌, if◌then◌else◌}
 use Rattle.std.specs.Char.{is_ascii_digit, digit_value}
 use Rattle.std.specs.Fmt.{decimal, signed_decimal}
@@ -27,6 +27,7 @@ use Rattle.c_arrow.specs.Ids.{digits_value as value_of}
 use Rattle.c_arrow.specs.Numbers.{number_of, number_after, digit_after, small_of, signed_of, not_comma, is_width, decimal_parts}
 use Rattle.c_arrow.specs.declared.format.Format.{Format}
 use Rattle.c_arrow.specs.declared.format.Format.TheVariants as f
+use Rattle.c_arrow.proofs.Leaves.{both}
 
 -- ---- words
 
@@ -40,11 +41,6 @@ no_text bytes e = split (is_utf8 bytes) refl where
 pub with_parameters : (bytes : List ℕ) → word_of bytes ≡ None → format_of bytes ≡ parametric_of bytes
 unfolding format_of
 with_parameters bytes e = ap (λ o. or_else o (parametric_of bytes)) (no_text bytes e)
-
-both : (a b : Bool) → (a && b) ≡ true → (a ≡ true) × (b ≡ true)
-both true true e = (refl, refl)
-both true false e = absurd cc
-both false b e = absurd cc
 
 abbrev are_ascii : List ℕ → Bool
 are_ascii bytes = list_all (λ b. nat_lt b 128) bytes

@@ -9,6 +9,7 @@ use Rattle.std.proofs.Math.Seq.{take-append_seam, drop-append_seam}
 use Rattle.std.proofs.lemmas.Bool.Decides.{nat_tests}
 use Rattle.std.proofs.lemmas.List.{length-append}
 use Rattle.std.proofs.lemmas.Nat.{from_le_bytes-to_le_bytes_4}
+use Rattle.std.proofs.lemmas.Option.{same_Some}
 use Rattle.dtype_text.specs.Read.{◌>>=◌}
 use Rattle.c_arrow.specs.Again.{both_said}
 use Rattle.c_arrow.specs.Keys.{Said, nothing_said, name_key, metadata_key, count_at, text_at, with_pair, said_with, said_in, sized, short_text, extension_metadata}
@@ -58,14 +59,6 @@ whole id bytes i b =
 abbrev wrap : List ℕ → Option (List ℕ)
 wrap x = Some x
 
-content : List ℕ → Option (List ℕ) → List ℕ
-content d None = d
-content d (Some x) = x
-
-same : (x y : List ℕ) → wrap x ≡ wrap y → x ≡ y
-unfolding content
-same x y e = ap (content x) e
-
 pub keys_again : (id bytes metadata : List ℕ) → extension_metadata id bytes ≡ Some metadata → said_in metadata ≡ Some (both_said id bytes)
 unfolding extension_metadata short_text
 keys_again id bytes metadata is = split (nat_lt (length id) (2 ^ 31)) (nat_lt (length bytes) (2 ^ 31)) refl refl where
@@ -74,4 +67,4 @@ keys_again id bytes metadata is = split (nat_lt (length id) (2 ^ 31)) (nat_lt (l
   split true false i b = absurd (let e = rw (i, b) at is in cc)
   split true true i b =
       let e : wrap (to_le_bytes w32 2 ++ (sized name_key ++ (sized id ++ (sized metadata_key ++ sized bytes)))) ≡ wrap metadata = rw (i, b) at is in
-      ap said_in (sym (same _ _ e)) ∙ whole id bytes (grind (arith, nat_tests)) (grind (arith, nat_tests))
+      ap said_in (sym (same_Some _ _ e)) ∙ whole id bytes (grind (arith, nat_tests)) (grind (arith, nat_tests))

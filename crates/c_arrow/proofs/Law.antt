@@ -7,6 +7,7 @@ use Rattle.std.specs.Prelude.{nat_lt, if◌then◌else◌}
 use Rattle.std.specs.Str.{is_utf8}
 use Rattle.std.proofs.lemmas.List.{length-append}
 use Rattle.std.proofs.Math.Seq.{take-append_seam, drop-append_seam}
+use Rattle.std.proofs.lemmas.Bool.{false_from_ne_true}
 use Rattle.std.proofs.lemmas.Bool.Decides.{Decides-ltb, nat_tests}
 use Rattle.dtype_base.specs.Nullability.{nullability_of}
 use Rattle.dtype_types.specs.tree.Tree as of
@@ -53,15 +54,11 @@ before_all cs left = (all_nodes cs ++ left.0, all_texts cs ++ left.1)
 abbrev below : Schema → Left → Left
 below (schema flags format name metadata cs vs) left = before_all cs (value_nodes vs ++ left.0, value_texts vs ++ left.1)
 
-false_unless : (b : Bool) → (b ≡ true → ⊥) → b ≡ false
-false_unless true h = absurd (h refl)
-false_unless false h = refl
-
 bytes_again : (b : List ℕ) (ns : List ArrowNode) (ts : List ℕ) → bytes_at (length b) (ns, b ++ ts) ≡ Ok (b, (ns, ts))
 unfolding bytes_at
 bytes_again b ns ts =
     let both : length (b ++ ts) ≡ length b + length ts = length-append b ts in
-    let enough : nat_lt (length (b ++ ts)) (length b) ≡ false = false_unless (nat_lt (length (b ++ ts)) (length b)) (λ e. absurd (omega (arith, both, (Decides-ltb (length (b ++ ts)) (length b)).0 e))) in
+    let enough : nat_lt (length (b ++ ts)) (length b) ≡ false = false_from_ne_true (nat_lt (length (b ++ ts)) (length b)) (λ e. absurd (omega (arith, both, (Decides-ltb (length (b ++ ts)) (length b)).0 e))) in
     rw (enough, take-append_seam b ts, drop-append_seam b ts) refl
 
 texts_again : (flags : ℕ) (format name metadata : List ℕ) (cs : Schemas) (vs : Values) (ns : List ArrowNode) (ts : List ℕ)

@@ -1,9 +1,10 @@
 -- SPDX-License-Identifier: Apache-2.0
 -- SPDX-FileCopyrightText: Copyright the Vortex contributors
 
--- What readers of formats need.
-use Rattle.std.proofs.Common.{◌≡◌, ℕ, suc, ◌+◌, ◌<◌, Bool, true, false, List, ◌∷◌, length, get_or, drop, refl, ap, ◌∙◌, arith, drop-cons}
+-- What readers of formats need, and what a test tells that is two tests.
+use Rattle.std.proofs.Common.{◌≡◌, ℕ, suc, ◌+◌, ◌<◌, Bool, true, false, ◌&&◌, List, ◌∷◌, length, get_or, drop, refl, ap, ◌∙◌, arith, drop-cons}
 use Rattle.std.specs.Str.{is_utf8, IsUtf8}
+use Rattle.std.proofs.lemmas.Bool.{false_from_ne_true}
 use Rattle.std.proofs.lemmas.List.Sums.{prefix_len-le-length}
 use Rattle.std.proofs.lemmas.Str.{is_utf8-from_IsUtf8, IsUtf8-from_is_utf8}
 use Rattle.dtype_text.specs.Read.{◌>>=◌}
@@ -11,17 +12,16 @@ use Rattle.c_arrow.specs.Numbers.{digit_after, number_after}
 
 pub ruleset lens = (prefix_len-le-length)
 
-pub utf8_true : (bs : List ℕ) → IsUtf8 bs → is_utf8 bs ≡ true
-utf8_true = is_utf8-from_IsUtf8
-
-false_unless : (b : Bool) → (b ≡ true → ⊥) → b ≡ false
-false_unless true h = absurd (h refl)
-false_unless false h = refl
-
 pub utf8_false : (bs : List ℕ) → (IsUtf8 bs → ⊥) → is_utf8 bs ≡ false
-utf8_false bs h = false_unless (is_utf8 bs) (λ e. h (IsUtf8-from_is_utf8 bs e))
+utf8_false bs h = false_from_ne_true (is_utf8 bs) (λ e. h (IsUtf8-from_is_utf8 bs e))
 
-pub ruleset utf8 = (utf8_true, utf8_false)
+pub ruleset utf8 = (is_utf8-from_IsUtf8, utf8_false)
+
+-- both of two tests
+pub both : (a b : Bool) → (a && b) ≡ true → (a ≡ true) × (b ≡ true)
+both true true e = (refl, refl)
+both true false e = absurd cc
+both false b e = absurd cc
 
 -- the items from one on
 pub drop_next : (xs : List ℕ) (i : ℕ) → i < length xs → drop i xs ≡ get_or xs i 0 ∷ drop (i + 1) xs

@@ -2,11 +2,11 @@
 -- SPDX-FileCopyrightText: Copyright the Vortex contributors
 
 -- What the library makes of parts, or the error with which it refuses them.
-use Rattle.std.proofs.Common.{◌≡◌, ◌≢◌, ℕ, suc, ◌<◌, ◌≤◌, Bool, true, false, not, ◌&&◌, ◌==◌, List, [], ◌∷◌, length, map, ℤ, Result, Ok, Err, refl, sym, ap, subst, ◌∙◌, arith, inl, inr}
+use Rattle.std.proofs.Common.{◌≡◌, ◌≢◌, ℕ, suc, ◌<◌, ◌≤◌, Bool, true, false, not, ◌==◌, List, [], ◌∷◌, length, map, ℤ, Result, Ok, Err, refl, sym, ap, subst, ◌∙◌, arith, inl, inr}
 use Rattle.std.specs.Prelude.{◌⊎◌, ◌≤ℤ◌, ◌<ℤ◌, nat_lt, nat_eq, int_lt, pos, if◌then◌else◌}
 use Rattle.std.specs.List.{list_any, AllByRecursion, IsDistinct, zip}
 use Rattle.std.specs.Str.{bytes_eq}
-use Rattle.std.proofs.lemmas.Bool.{eq-eqb}
+use Rattle.std.proofs.lemmas.Bool.{eq-eqb, false_from_ne_true}
 use Rattle.std.proofs.lemmas.Bool.Decides.{nat_tests, Decides-eqb}
 use Rattle.std.proofs.lemmas.Int.{ints}
 use Rattle.std.proofs.lemmas.List.{length-map}
@@ -35,6 +35,7 @@ use Rattle.dtype_text.specs.Unions.{differ, is_empty}
 use Rattle.c_arrow.specs.Faults.{Fault, library, IsMemory, Stops}
 use Rattle.c_arrow.specs.Read.{decimal_of, map_of, union_of}
 use Rattle.c_arrow.specs.declared.fault.ArrowFault.{ArrowFault}
+use Rattle.c_arrow.proofs.Leaves.{both}
 use Rattle.c_arrow.proofs.Reading.{children_of}
 
 abbrev failed : (Y : Type 0) → Fault → Result Y Fault
@@ -121,11 +122,6 @@ pub ruleset structs = (made_struct, struct_valid)
 
 -- ---- unions
 
-both : (a b : Bool) → (a && b) ≡ true → (a ≡ true) × (b ≡ true)
-both true true e = (refl, refl)
-both true false e = absurd cc
-both false b e = absurd cc
-
 apart : {A : Type 0} (same : A → A → Bool) (x : A) (xs : List A) → not (list_any (same x) xs) ≡ true → AllByRecursion (λ y. same x y ≡ false) xs
 apart same x [] e = tt
 apart same x (y ∷ ys) e = split (same x y) refl (apart same x ys) where
@@ -148,21 +144,17 @@ distinct_differ : {A : Type 0} (same : A → A → Bool) (xs : List A) → IsDis
 distinct_differ same [] d = refl
 distinct_differ same (x ∷ xs) d = rw (none_same same x xs (IsDistinct-head same x xs d), distinct_differ same xs (IsDistinct-tail same x xs d)) refl
 
-false_unless : (b : Bool) → (b ≡ true → ⊥) → b ≡ false
-false_unless true h = absurd (h refl)
-false_unless false h = refl
-
 tags_differ : (gs : List ℕ) → Distinct gs → differ nat_eq gs ≡ true
 tags_differ gs h = distinct_differ nat_eq gs (IsDistinct-from_AllPairs Decides-eqb gs h)
 
 tags_repeat : (gs : List ℕ) → (Distinct gs → ⊥) → differ nat_eq gs ≡ false
-tags_repeat gs h = false_unless (differ nat_eq gs) (λ e. h (AllPairs-from_IsDistinct Decides-eqb gs (differ_distinct nat_eq gs e)))
+tags_repeat gs h = false_from_ne_true (differ nat_eq gs) (λ e. h (AllPairs-from_IsDistinct Decides-eqb gs (differ_distinct nat_eq gs e)))
 
 names_differ : (ns : List (List ℕ)) → Distinct ns → differ bytes_eq ns ≡ true
 names_differ ns h = distinct_differ bytes_eq ns (IsDistinct-from_AllPairs bytes_eq-Decides ns h)
 
 names_repeat : (ns : List (List ℕ)) → (Distinct ns → ⊥) → differ bytes_eq ns ≡ false
-names_repeat ns h = false_unless (differ bytes_eq ns) (λ e. h (AllPairs-from_IsDistinct bytes_eq-Decides ns (differ_distinct bytes_eq ns e)))
+names_repeat ns h = false_from_ne_true (differ bytes_eq ns) (λ e. h (AllPairs-from_IsDistinct bytes_eq-Decides ns (differ_distinct bytes_eq ns e)))
 
 not_empty : (ns : List (List ℕ)) → ns ≢ [] → is_empty ns ≡ false
 not_empty [] h = absurd (h refl)

@@ -2,14 +2,15 @@
 -- SPDX-FileCopyrightText: Copyright the Vortex contributors
 
 -- A date, a time or a timestamp that is written is read again.
-use Rattle.std.proofs.Common.{◌≡◌, ℕ, zero, suc, ◌+◌, ◌*◌, ◌^◌, ◌<◌, Bool, true, false, ◌&&◌, ◌==◌, List, [], ◌∷◌, ◌++◌, length, drop, get_or, Option, Some, None, inl, inr, refl, sym, ap, subst, ◌∙◌, append-nil, arith}
-use Rattle.std.specs.Prelude.{codes, nat_lt, nat_eq, is_some, ◌⊎◌}
-use Rattle.std.specs.Cmp.Lexicographic.{pointwise}
+use Rattle.std.proofs.Common.{◌≡◌, ℕ, zero, suc, ◌+◌, ◌*◌, ◌^◌, ◌<◌, Bool, true, false, ◌==◌, List, [], ◌∷◌, ◌++◌, length, drop, get_or, Option, Some, None, inl, inr, refl, sym, ap, subst, ◌∙◌, append-nil, arith}
+use Rattle.std.specs.Prelude.{IfSome, codes, nat_lt, is_some, ◌⊎◌}
 use Rattle.std.specs.Int.{from_le_bytes, to_le_bytes, w16}
 use Rattle.std.specs.Str.{is_utf8}
 use Rattle.std.proofs.lemmas.Bool.{eqb-true}
 use Rattle.std.proofs.lemmas.Bool.Decides.{nat_tests}
 use Rattle.std.proofs.lemmas.Nat.{le_bytes_2}
+use Rattle.std.proofs.lemmas.Option.{none-some, same_Some}
+use Rattle.std.proofs.lemmas.Slice.Eq.{bytes_eq-Decides}
 use Rattle.dtype_base.specs.Bytes.{Bytes}
 use Rattle.dtype_base.specs.declared.nullability.Nullability.{Nullability}
 use Rattle.dtype_base.specs.declared.ptype.PType.{PType}
@@ -17,56 +18,36 @@ use Rattle.dtype_base.specs.declared.ptype.PType.TheVariants as p
 use Rattle.dtype_types.specs.tree.Tree.{Tree, primitive, extension}
 use Rattle.dtype_text.specs.Read.{◌>>=◌}
 use Rattle.dtype_text.specs.TypeParts.{is_text}
-use Rattle.c_arrow.specs.Again.{IsTemporal}
+use Rattle.c_arrow.specs.Again.{IsTemporal, StandsFor}
 use Rattle.c_arrow.specs.Formats.{format_of, word_of, nested_word_of, time_of, parametric_of, timestamp_of, unit_of_letter}
 use Rattle.c_arrow.specs.Temporal.{Written, byte_of, unit_of_byte, date_ptype, time_ptype, date_tree, time_tree, timestamp_tree, zoned, date_letters, time_letters, timestamp_letters, is_zone, unit_and_zone, letters_of, or_empty, temporal_of}
 use Rattle.c_arrow.specs.declared.format.Format.TheVariants as f
 use Rattle.c_arrow.specs.declared.temporal.Unit.{Unit as TimeUnit}
 use Rattle.c_arrow.specs.declared.temporal.Unit.TheVariants as unit
 use Rattle.c_arrow.proofs.FormatsAgain.{word_again, with_parameters}
+use Rattle.c_arrow.proofs.Leaves.{both}
 
 bind_some : {A B : Type 0} (r : Option A) (f : A → Option B) (y : B) → (r >>= f) ≡ Some y → (x : A) × (r ≡ Some x) × (f x ≡ Some y)
 bind_some (Some x) f y e = (x, refl, e)
 bind_some None f y e = absurd cc
 
-content : {A : Type 0} → A → Option A → A
-content d None = d
-content d (Some x) = x
-
-some_is : {A : Type 0} (x y : A) → Some x ≡ Some y → x ≡ y
-unfolding content
-some_is x y e = ap (content x) e
-
-not_none : {A : Type 0} (x : A) → Some x ≡ None → ⊥
-not_none x e = absurd cc
-
-both : (a b : Bool) → (a && b) ≡ true → (a ≡ true) × (b ≡ true)
-both true true e = (refl, refl)
-both true false e = absurd cc
-both false b e = absurd cc
-
-same_text : (a b : List ℕ) → pointwise nat_eq a b ≡ true → a ≡ b
-same_text [] [] e = refl
-same_text [] (y ∷ ys) e = absurd cc
-same_text (x ∷ xs) [] e = absurd cc
-same_text (x ∷ xs) (y ∷ ys) e =
-    let h = both (nat_eq x y) (pointwise nat_eq xs ys) e in
-    ap (λ (n : ℕ). n ∷ xs) (eqb-true x y h.0) ∙ ap (λ zs. y ∷ zs) (same_text xs ys h.1)
+same_text : (a b : List ℕ) → is_text a b ≡ true → a ≡ b
+same_text a b = (bytes_eq-Decides a b).0
 
 -- ---- formats
 
 date_again : (u : TimeUnit) (t : PType) (letters : List ℕ) → date_letters u t ≡ Some letters → (format_of letters ≡ Some (f.Date u)) × (t ≡ date_ptype u)
 unfolding date_letters date_ptype word_of nested_word_of time_of
-date_again unit.Days p.I32 letters e = (ap format_of (sym (some_is _ _ e)) ∙ word_again (codes "tdD") (f.Date unit.Days) refl refl, refl)
-date_again unit.Milliseconds p.I64 letters e = (ap format_of (sym (some_is _ _ e)) ∙ word_again (codes "tdm") (f.Date unit.Milliseconds) refl refl, refl)
+date_again unit.Days p.I32 letters e = (ap format_of (sym (same_Some _ _ e)) ∙ word_again (codes "tdD") (f.Date unit.Days) refl refl, refl)
+date_again unit.Milliseconds p.I64 letters e = (ap format_of (sym (same_Some _ _ e)) ∙ word_again (codes "tdm") (f.Date unit.Milliseconds) refl refl, refl)
 date_again _ _ letters e = absurd cc
 
 time_again : (u : TimeUnit) (t : PType) (letters : List ℕ) → time_letters u t ≡ Some letters → (format_of letters ≡ Some (f.Time u)) × (t ≡ time_ptype u)
 unfolding time_letters time_ptype word_of nested_word_of time_of
-time_again unit.Seconds p.I32 letters e = (ap format_of (sym (some_is _ _ e)) ∙ word_again (codes "tts") (f.Time unit.Seconds) refl refl, refl)
-time_again unit.Milliseconds p.I32 letters e = (ap format_of (sym (some_is _ _ e)) ∙ word_again (codes "ttm") (f.Time unit.Milliseconds) refl refl, refl)
-time_again unit.Microseconds p.I64 letters e = (ap format_of (sym (some_is _ _ e)) ∙ word_again (codes "ttu") (f.Time unit.Microseconds) refl refl, refl)
-time_again unit.Nanoseconds p.I64 letters e = (ap format_of (sym (some_is _ _ e)) ∙ word_again (codes "ttn") (f.Time unit.Nanoseconds) refl refl, refl)
+time_again unit.Seconds p.I32 letters e = (ap format_of (sym (same_Some _ _ e)) ∙ word_again (codes "tts") (f.Time unit.Seconds) refl refl, refl)
+time_again unit.Milliseconds p.I32 letters e = (ap format_of (sym (same_Some _ _ e)) ∙ word_again (codes "ttm") (f.Time unit.Milliseconds) refl refl, refl)
+time_again unit.Microseconds p.I64 letters e = (ap format_of (sym (same_Some _ _ e)) ∙ word_again (codes "ttu") (f.Time unit.Microseconds) refl refl, refl)
+time_again unit.Nanoseconds p.I64 letters e = (ap format_of (sym (same_Some _ _ e)) ∙ word_again (codes "ttn") (f.Time unit.Nanoseconds) refl refl, refl)
 time_again _ _ letters e = absurd cc
 
 abbrev IsStamp : TimeUnit → PType → List ℕ → List ℕ → Type 0
@@ -78,10 +59,10 @@ stamp u letters zone given e word format behind =
 
 timestamp_again : (u : TimeUnit) (t : PType) (letters zone : List ℕ) → timestamp_letters u t ≡ Some letters → IsStamp u t letters zone
 unfolding timestamp_letters word_of nested_word_of time_of parametric_of timestamp_of unit_of_letter
-timestamp_again unit.Seconds p.I64 letters zone e = stamp unit.Seconds letters zone (codes "tss:") (some_is _ _ e) refl refl refl
-timestamp_again unit.Milliseconds p.I64 letters zone e = stamp unit.Milliseconds letters zone (codes "tsm:") (some_is _ _ e) refl refl refl
-timestamp_again unit.Microseconds p.I64 letters zone e = stamp unit.Microseconds letters zone (codes "tsu:") (some_is _ _ e) refl refl refl
-timestamp_again unit.Nanoseconds p.I64 letters zone e = stamp unit.Nanoseconds letters zone (codes "tsn:") (some_is _ _ e) refl refl refl
+timestamp_again unit.Seconds p.I64 letters zone e = stamp unit.Seconds letters zone (codes "tss:") (same_Some _ _ e) refl refl refl
+timestamp_again unit.Milliseconds p.I64 letters zone e = stamp unit.Milliseconds letters zone (codes "tsm:") (same_Some _ _ e) refl refl refl
+timestamp_again unit.Microseconds p.I64 letters zone e = stamp unit.Microseconds letters zone (codes "tsu:") (same_Some _ _ e) refl refl refl
+timestamp_again unit.Nanoseconds p.I64 letters zone e = stamp unit.Nanoseconds letters zone (codes "tsn:") (same_Some _ _ e) refl refl refl
 timestamp_again _ _ letters zone e = absurd cc
 
 -- ---- metadata
@@ -91,15 +72,15 @@ unfolding unit_of_byte byte_of
 byte_again b u e = split (b == 0) (b == 1) (b == 2) (b == 3) (b == 4) refl refl refl refl refl where
   split : (v w x y z : Bool) → (b == 0) ≡ v → (b == 1) ≡ w → (b == 2) ≡ x → (b == 3) ≡ y → (b == 4) ≡ z → b ≡ byte_of u
   split true w x y z e0 e1 e2 e3 e4 =
-      let g : Some unit.Nanoseconds ≡ Some u = rw e0 at e in eqb-true b 0 e0 ∙ ap byte_of (some_is _ _ g)
+      let g : Some unit.Nanoseconds ≡ Some u = rw e0 at e in eqb-true b 0 e0 ∙ ap byte_of (same_Some _ _ g)
   split false true x y z e0 e1 e2 e3 e4 =
-      let g : Some unit.Microseconds ≡ Some u = rw (e0, e1) at e in eqb-true b 1 e1 ∙ ap byte_of (some_is _ _ g)
+      let g : Some unit.Microseconds ≡ Some u = rw (e0, e1) at e in eqb-true b 1 e1 ∙ ap byte_of (same_Some _ _ g)
   split false false true y z e0 e1 e2 e3 e4 =
-      let g : Some unit.Milliseconds ≡ Some u = rw (e0, e1, e2) at e in eqb-true b 2 e2 ∙ ap byte_of (some_is _ _ g)
+      let g : Some unit.Milliseconds ≡ Some u = rw (e0, e1, e2) at e in eqb-true b 2 e2 ∙ ap byte_of (same_Some _ _ g)
   split false false false true z e0 e1 e2 e3 e4 =
-      let g : Some unit.Seconds ≡ Some u = rw (e0, e1, e2, e3) at e in eqb-true b 3 e3 ∙ ap byte_of (some_is _ _ g)
+      let g : Some unit.Seconds ≡ Some u = rw (e0, e1, e2, e3) at e in eqb-true b 3 e3 ∙ ap byte_of (same_Some _ _ g)
   split false false false false true e0 e1 e2 e3 e4 =
-      let g : Some unit.Days ≡ Some u = rw (e0, e1, e2, e3, e4) at e in eqb-true b 4 e4 ∙ ap byte_of (some_is _ _ g)
+      let g : Some unit.Days ≡ Some u = rw (e0, e1, e2, e3, e4) at e in eqb-true b 4 e4 ∙ ap byte_of (same_Some _ _ g)
   split false false false false false e0 e1 e2 e3 e4 = absurd (let g = rw (e0, e1, e2, e3, e4) at e in cc)
 
 no_zone : (m : List ℕ) (v : TimeUnit) → unit_and_zone m ≡ Some (v, None) → m ≡ byte_of v ∷ []
@@ -107,7 +88,7 @@ unfolding unit_and_zone
 no_zone [] v e = absurd cc
 no_zone (b ∷ []) v e =
     let x = bind_some (unit_of_byte b) (λ it. Some (it, None)) (v, None) e in
-    let is : x.0 ≡ v = ap (λ (q : TimeUnit × Option (List ℕ)). q.0) (some_is _ _ x.2) in
+    let is : x.0 ≡ v = ap (λ (q : TimeUnit × Option (List ℕ)). q.0) (same_Some _ _ x.2) in
     ap (λ (k : ℕ). k ∷ []) (byte_again b v (x.1 ∙ ap (λ u. Some u) is))
 no_zone (b ∷ low ∷ []) v e = absurd cc
 no_zone (b ∷ low ∷ high ∷ rest) v e = split (is_zone low high rest) refl where
@@ -116,7 +97,7 @@ no_zone (b ∷ low ∷ high ∷ rest) v e = split (is_zone low high rest) refl w
   split true test =
       let g : (unit_of_byte b >>= λ it. Some (it, Some rest)) ≡ Some (v, None) = rw test at e in
       let x = bind_some (unit_of_byte b) (λ it. Some (it, Some rest)) (v, None) g in
-      absurd (not_none rest (ap (λ (q : TimeUnit × Option (List ℕ)). q.1) (some_is _ _ x.2)))
+      absurd (none-some rest (sym (ap (λ (q : TimeUnit × Option (List ℕ)). q.1) (same_Some _ _ x.2))))
 
 two_bytes : (low high i : ℕ) → low < 256 → high < 256 → get_or (low ∷ high ∷ []) i 0 < 256
 two_bytes low high zero l h = l
@@ -138,7 +119,7 @@ unfolding unit_and_zone
 with_zone [] v zone bytes e = absurd cc
 with_zone (b ∷ []) v zone bytes e =
     let x = bind_some (unit_of_byte b) (λ it. Some (it, None)) (v, Some zone) e in
-    absurd (let h : None ≡ Some zone = ap (λ (q : TimeUnit × Option (List ℕ)). q.1) (some_is _ _ x.2) in cc)
+    absurd (let h : None ≡ Some zone = ap (λ (q : TimeUnit × Option (List ℕ)). q.1) (same_Some _ _ x.2) in cc)
 with_zone (b ∷ low ∷ []) v zone bytes e = absurd cc
 with_zone (b ∷ low ∷ high ∷ rest) v zone bytes e = split (is_zone low high rest) refl where
   split : (c : Bool) → is_zone low high rest ≡ c → IsZoned (b ∷ low ∷ high ∷ rest) v zone
@@ -148,8 +129,8 @@ with_zone (b ∷ low ∷ high ∷ rest) v zone bytes e = split (is_zone low high
       let h : high < 256 = bytes 2 0 (omega arith) in
       let g : (unit_of_byte b >>= λ it. Some (it, Some rest)) ≡ Some (v, Some zone) = rw test at e in
       let x = bind_some (unit_of_byte b) (λ it. Some (it, Some rest)) (v, Some zone) g in
-      let is : x.0 ≡ v = ap (λ (q : TimeUnit × Option (List ℕ)). q.0) (some_is _ _ x.2) in
-      let same : rest ≡ zone = some_is _ _ (ap (λ (q : TimeUnit × Option (List ℕ)). q.1) (some_is _ _ x.2)) in
+      let is : x.0 ≡ v = ap (λ (q : TimeUnit × Option (List ℕ)). q.0) (same_Some _ _ x.2) in
+      let same : rest ≡ zone = same_Some _ _ (ap (λ (q : TimeUnit × Option (List ℕ)). q.1) (same_Some _ _ x.2)) in
       let z = zone_again low high rest l h test in
       let whole : b ∷ low ∷ high ∷ rest ≡ zoned v rest = ap (λ (k : ℕ). k ∷ low ∷ high ∷ rest) (byte_again b v (x.1 ∙ ap (λ u. Some u) is)) ∙ ap (λ (ks : List ℕ). byte_of v ∷ (ks ++ rest)) z.0 in
       subst (λ y. IsZoned (b ∷ low ∷ high ∷ rest) v y) same (whole, z.1, z.2)
@@ -219,5 +200,12 @@ unfolding temporal_of
 temporal_again id m (primitive ptype n) t bytes e =
     let u = bind_some (unit_and_zone m) (λ u. letters_of id u.0 ptype (is_some u.1) >>= λ letters. Some (as_written letters u.1 n)) t e in
     let l = bind_some (letters_of id u.0.0 ptype (is_some u.0.1)) (λ letters. Some (as_written letters u.0.1 n)) t u.2 in
-    subst (λ (w : Written). IsTemporal (w.letters ++ w.zone) w.nullability (extension id m (primitive ptype n))) (some_is _ _ l.2) (found id m ptype n u.0.0 l.0 bytes u.0.1 u.1 l.1)
+    subst (λ (w : Written). IsTemporal (w.letters ++ w.zone) w.nullability (extension id m (primitive ptype n))) (same_Some _ _ l.2) (found id m ptype n u.0.0 l.0 bytes u.0.1 u.1 l.1)
 temporal_again id m s t bytes e = absurd cc
+
+pub dates_again : (id m : List ℕ) (s : Tree) → Bytes m → IfSome (temporal_of id m s) (λ w. StandsFor w (extension id m s))
+dates_again id m s bytes = go (temporal_of id m s) refl
+  where
+    go : (r : Option Written) → temporal_of id m s ≡ r → IfSome r (λ w. StandsFor w (extension id m s))
+    go (Some w) is = temporal_again id m s w bytes is
+    go None is = tt

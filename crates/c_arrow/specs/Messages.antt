@@ -70,8 +70,14 @@ behind true format = []
 behind false [] = []
 behind false (b ∷ format) = codes ", at the Arrow format \"" ++ (utf8_lossy (b ∷ format) ++ codes "\"")
 
--- The message. For example, it is `column "a.item": the Arrow format "tiM" has no type here`.
-unfoldable pub message_of : Refusal → List ℕ
-message_of r =
-    let about = is_about_format r.problem in
-    ((column (names_of r) ++ before about r.format.items) ++ phrase r.problem) ++ behind about r.format.items
+-- The message about the field with these names, which are those of the fields from this one outwards, and this format. For
+-- example, it is `column "a.item": the Arrow format "tiM" has no type here` of the names `item` and `a`, the format `tiM` and the
+-- problem `Format`.
+unfoldable pub message_from : List (List ℕ) → List ℕ → Problem → List ℕ
+message_from names format problem =
+    let about = is_about_format problem in
+    ((column names ++ before about format) ++ phrase problem) ++ behind about format
+
+-- the message of a refusal
+abbrev pub message_of : Refusal → List ℕ
+message_of r = message_from (names_of r) r.format.items r.problem

@@ -189,7 +189,7 @@ impl Refusal {
     /// # Errors
     ///
     /// `AllocError` if an allocation fails.
-    #[tactic(auto, unfolding(crate::specs::Messages::message_of))]
+    #[tactic(auto, unfolding(crate::specs::Messages::message_from))]
     pub fn message(&self, alloc: Global) -> Result<String, AllocError>
         ensures { IfOk result (λ s. string_bytes s ≡ message_of self.now) }
     {

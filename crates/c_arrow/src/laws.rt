@@ -2,8 +2,8 @@
 // SPDX-FileCopyrightText: Copyright the Vortex contributors
 
 //! Laws of what is read and written. Each law is a function with an empty body, whose contract is the law.
-ghost use Rattle.std.specs.Prelude.{◌≡◌, ◌++◌, ℕ, ℤ, List, Ok, Some, drop};
-ghost use Rattle.c_arrow.specs.Again.{IsTemporal, both_said};
+ghost use Rattle.std.specs.Prelude.{◌≡◌, ℕ, ℤ, IfOk, IfSome, List, Ok, Some, drop};
+ghost use Rattle.c_arrow.specs.Again.{StandsFor, both_said};
 ghost use Rattle.c_arrow.specs.Formats.{format_of};
 ghost use Rattle.c_arrow.specs.FormatsWritten.{decimal_format, fixed_size_format, letter_of, union_format};
 ghost use Rattle.c_arrow.specs.FromArrow.{from_arrow};
@@ -11,9 +11,8 @@ ghost use Rattle.c_arrow.specs.Ids.{ids_of};
 ghost use Rattle.c_arrow.specs.Keys.{extension_metadata, said_in};
 ghost use Rattle.c_arrow.specs.Read.{read_flat};
 ghost use Rattle.c_arrow.specs.Schema.{Schema, flat_nodes, flat_texts};
-ghost use Rattle.c_arrow.specs.Temporal.{Written, temporal_of};
+ghost use Rattle.c_arrow.specs.Temporal.{temporal_of};
 ghost use Rattle.c_arrow.specs.Write.{nodes_and_texts, to_arrow};
-ghost use Rattle.c_arrow.specs.declared.node.ArrowNode.{ArrowNode};
 ghost use Rattle.c_arrow.specs.declared.format.Format.TheVariants as format;
 ghost use Rattle.dtype_base.specs.Bytes.{Bytes};
 ghost use Rattle.dtype_base.specs.Decimals.{IsDecimalWithin, greatest_precision};
@@ -38,8 +37,8 @@ pub fn flat_schemas_are_read()
 /// For example, the schema of the map `map(utf8, i32?, keys_sorted=true)` has the format `+m` and the flag 4, and it is read as
 /// this map. So a type that goes through Arrow's C data interface comes back as it was.
 pub fn types_that_are_written_are_read()
-    ensures schema { (t : Tree) (s : Schema) → Valid t → AreTexts t → to_arrow t ≡ Ok s → from_arrow s ≡ Ok t }
-    ensures nodes { (t : Tree) (nodes : List ArrowNode) (texts : List ℕ) → Valid t → AreTexts t → nodes_and_texts t ≡ Ok (nodes, texts) → read_flat nodes texts ≡ Ok t }
+    ensures schema { (t : Tree) → Valid t → AreTexts t → IfOk (to_arrow t) (λ s. from_arrow s ≡ Ok t) }
+    ensures nodes { (t : Tree) → Valid t → AreTexts t → IfOk (nodes_and_texts t) (λ f. read_flat f.0 f.1 ≡ Ok t) }
 {}
 
 /// The format that is written of a type is read as the format of this type: of a primitive type `t`, of a decimal with a
@@ -67,5 +66,5 @@ pub fn metadata_that_is_written_is_read()
 /// For example, `tss:UTC` is written of the extension `vortex.timestamp` over `i64` whose metadata has the unit of seconds and
 /// the time zone `UTC`, and it stands for this extension.
 pub fn dates_and_times_that_are_written_are_read()
-    ensures { (id m : List ℕ) (s : Tree) (w : Written) → Bytes m → temporal_of id m s ≡ Some w → IsTemporal (w.letters ++ w.zone) w.nullability (extension id m s) }
+    ensures { (id m : List ℕ) (s : Tree) → Bytes m → IfSome (temporal_of id m s) (λ w. StandsFor w (extension id m s)) }
 {}

@@ -2,26 +2,25 @@
 // SPDX-FileCopyrightText: Copyright the Vortex contributors
 
 // Types from nodes and texts. What is read is taken from the front of both.
-ghost use Rattle.std.specs.Prelude.{◌≡◌, ◌+◌, ◌-◌, ◌≤◌, ◌<◌, ◌||◌, IfOk, [], false, length, map, vec_len};
+ghost use Rattle.std.specs.Prelude.{◌≡◌, ◌≤◌, ◌<◌, IfOk, length, map, vec_len};
 ghost use Rattle.std.specs.List.{All, zip};
-ghost use Rattle.dtype_base.specs.Nullability.{nullability_of};
 ghost use Rattle.dtype_text.specs.Grammar.{levels as levels_of};
 ghost use Rattle.dtype_text.specs.Read.{shown};
 ghost use Rattle.dtype_types.specs.tree.TreeOf.{tree};
 ghost use Rattle.dtype_types.specs.tree.Valid.{Valid};
-ghost use Rattle.c_arrow.specs.Faults.{Gives, IsFault, read_within, refused};
-ghost use Rattle.c_arrow.specs.Read.{Reads, after_format, bytes_at, bytes_of, child_by, date_of, dictionary_by, entries_by, extension_by, field_at, fixed_by, format_by, inner_by, inside_at, is_entries as is_entries_spec, is_index as is_index_spec, keys_of, level, list_by, map_by, map_with, name_of, named_by, part_by, read_flat, run_ends_by, sound, storage_by, struct_by, texts_at, time_of as time_spec, timestamp_of, times, type_by, union_by, unless, unless_wrong, value_by, values_by, wrong_count as wrong_count_spec};
-ghost use Rattle.c_arrow.specs.Rests.{left, seen};
-ghost use Rattle.c_arrow.specs.Views.{said};
+ghost use Rattle.c_arrow.specs.Faults.{Gives};
+ghost use Rattle.c_arrow.specs.Read.{Reads, bytes_of, child_by, date_of, dictionary_by, entries_by, extension_by, fixed_by, format_by, inner_by, inside_at, is_entries as is_entries_spec, is_index as is_index_spec, list_by, map_by, map_with, named_by, part_by, read_flat, run_ends_by, storage_by, struct_by, time_of as time_spec, timestamp_of, type_by, union_by, value_by, values_by};
+ghost use Rattle.c_arrow.specs.Rests.{ReadsPart, ReadsType, child, children_by, left, seen, seen_by, seen_entries_by};
 
 use crate::fault::{ArrowFault, Problem};
 use crate::format::{Format, parameter};
 use crate::ids::ids_of;
-use crate::keys::Keys;
 use crate::node::ArrowNode;
+use crate::place::Place;
+use crate::rest::{Field, Rest};
 use crate::temporal::{Unit, date, extension, time, timestamp};
 use crate::types::{decimal_type, map_type, struct_type, union_type};
-use dtype_base::{FieldName, Nullability, PType};
+use dtype_base::{FieldName, PType};
 use dtype_types::DType;
 use std::alloc::Global;
 use std::str;
@@ -30,31 +29,6 @@ use std::str;
 pub(crate) const MAX_LEVELS: u32 = 128;
 /// The number of fields that may be inside one another.
 const MAX_FIELDS: u32 = 300;
-
-// What hasn't been read.
-#[derive(Drop)]
-struct Rest<'a> {
-    nodes: &'a [ArrowNode],
-    texts: &'a [u8],
-}
-
-// A field without its children.
-#[derive(Clone, Copy)]
-struct Field<'a> {
-    node: ArrowNode,
-    format: &'a [u8],
-    name: &'a [u8],
-    metadata: &'a [u8],
-}
-
-// Where a field is: whether a field makes its type nullable whose type it is, how many levels the type may have, and how
-// many fields may be inside this one.
-#[derive(Clone, Copy)]
-struct Place {
-    nullable: bool,
-    levels: u32,
-    fields: u32,
-}
 
 /// Returns the type of the schema that these nodes and texts describe. The name of the root is ignored.
 ///
@@ -89,203 +63,6 @@ pub fn dtype_of(alloc: Global, nodes: &[ArrowNode], texts: &[u8]) -> Result<DTyp
     }
 }
 
-impl<'a> Rest<'a> {
-    // Takes the next node with its texts.
-    #[tactic(auto, unfolding(crate::specs::Read::field_at), using(std::proofs::lemmas::Bool::Decides::nat_tests))]
-    fn field(&mut self) -> Result<Field<'a>, ArrowFault>
-        ensures { Reads seen result (left self.new) (field_at (left self.old)) }
-    {
-        match self.nodes {
-            [node, rest @ ..] => {
-                if node.has_dictionary > 1 {
-                    return Err(ArrowFault::OutOfRange);
-                }
-                self.nodes = rest;
-                self.texts_of(*node)
-            }
-            [] => Err(ArrowFault::OutOfRange),
-        }
-    }
-
-    // Takes the texts of a node.
-    #[tactic(auto, unfolding(crate::specs::Read::texts_at))]
-    fn texts_of(&mut self, node: ArrowNode) -> Result<Field<'a>, ArrowFault>
-        ensures { Reads seen result (left self.new) (texts_at node (left self.old)) }
-    {
-        let format = self.bytes(node.format_length)?;
-        let name = self.bytes(node.name_length)?;
-        let metadata = self.bytes(node.metadata_length)?;
-        Ok(Field {
-            node,
-            format,
-            name,
-            metadata,
-        })
-    }
-
-    // Takes this many bytes.
-    #[tactic(auto, unfolding(crate::specs::Read::bytes_at))]
-    fn bytes(&mut self, wanted: usize) -> Result<&'a [u8], ArrowFault>
-        ensures { Reads (λ t. t.now) result (left self.new) (bytes_at wanted (left self.old)) }
-    {
-        if wanted > self.texts.len() {
-            return Err(ArrowFault::OutOfRange);
-        }
-        let (text, rest) = self.texts.split_at(wanted);
-        self.texts = rest;
-        Ok(text)
-    }
-
-    // Returns this number, or the number of nodes that are left if that is less. Each child has a node, so this is enough
-    // memory for so many children, and nodes that announce more than follow can't demand more.
-    fn at_most(&self, wanted: usize) -> usize {
-        let nodes = self.nodes.len();
-        if wanted < nodes { wanted } else { nodes }
-    }
-}
-
-impl<'a> Field<'a> {
-    // Returns the fault that this field is refused.
-    fn refused(&self, alloc: Global, problem: Problem) -> ArrowFault
-        ensures { IsFault result (refused [] self.now.format.now problem) }
-    {
-        ArrowFault::refused(alloc, self.format, problem)
-    }
-
-    // Returns the name.
-    #[tactic(auto, unfolding(crate::specs::Read::name_of), using(crate::proofs::Leaves::utf8, crate::proofs::FaultFacts::faults))]
-    fn name(&self, alloc: Global) -> Result<&'a str, ArrowFault>
-        ensures { Gives (λ t. t.now) result (name_of (seen self.now)) }
-    {
-        match str::from_utf8(self.name) {
-            Ok(name) => Ok(name),
-            Err(_) => Err(self.refused(alloc, Problem::Name)),
-        }
-    }
-
-    // Returns what the metadata says of an extension.
-    #[tactic(auto, unfolding(crate::specs::Read::keys_of), using(crate::proofs::FaultFacts::faults))]
-    fn keys(&self, alloc: Global) -> Result<Keys<'a>, ArrowFault>
-        ensures { Gives said result (keys_of (seen self.now)) }
-    {
-        match Keys::of(self.metadata) {
-            Some(keys) => Ok(keys),
-            None => Err(self.refused(alloc, Problem::Metadata)),
-        }
-    }
-
-    // Fails if the node tells that something is wrong with the struct.
-    #[tactic(auto, unfolding(crate::specs::Read::sound), using(crate::proofs::FaultFacts::faults, std::proofs::lemmas::Bool::Decides::nat_tests))]
-    fn check_fault(&self, alloc: Global) -> Result<(), ArrowFault>
-        ensures { Gives (λ u. u) result (sound (seen self.now)) }
-    {
-        if self.node.fault == 0 {
-            return Ok(());
-        }
-        match Problem::of_number(self.node.fault) {
-            Some(problem) => Err(self.refused(alloc, problem)),
-            None => Err(ArrowFault::OutOfRange),
-        }
-    }
-
-    // Fails unless there are as many children as the format needs.
-    #[tactic(auto, using(crate::proofs::FaultFacts::faults))]
-    fn check_children(&self, alloc: Global, format: Format) -> Result<(), ArrowFault>
-        ensures { Gives (λ u. u) result (unless_wrong (seen self.now) (wrong_count_spec format self.now.node.child_count)) }
-    {
-        match wrong_count(format, self.node.child_count) {
-            Some(problem) => Err(self.refused(alloc, problem)),
-            None => Ok(()),
-        }
-    }
-}
-
-// Returns the problem unless this is so.
-fn unless_so(is_so: bool, problem: Problem) -> Option<Problem>
-    ensures { result ≡ unless is_so problem }
-{
-    if is_so { None } else { Some(problem) }
-}
-
-// Returns what is wrong with so many children of a field with this format, if something is.
-#[tactic(auto, unfolding(crate::specs::Read::wrong_count))]
-fn wrong_count(format: Format, children: usize) -> Option<Problem>
-    ensures { result ≡ wrong_count_spec format children }
-{
-    match format {
-        Format::Struct | Format::Union => None,
-        Format::List | Format::FixedSizeList(_) | Format::Map => {
-            unless_so(children == 1, Problem::OneChild)
-        }
-        Format::RunEnds => unless_so(children == 2, Problem::TwoChildren),
-        Format::Null
-        | Format::Bool
-        | Format::Primitive(_)
-        | Format::Utf8
-        | Format::Binary
-        | Format::FixedSizeBinary(_)
-        | Format::Decimal(_, _)
-        | Format::Date(_)
-        | Format::Time(_)
-        | Format::Timestamp(_) => unless_so(children == 0, Problem::NoChildren),
-    }
-}
-
-impl Place {
-    // Returns the place of a field whose type is a part of the type here.
-    fn part(self) -> Result<Place, ArrowFault>
-        ensures level { Gives (λ p. p.levels) result (level self.levels) }
-        ensures place { IfOk result (λ p. (p.levels + 1 ≡ self.levels) × (p.fields ≡ self.fields) × (p.nullable ≡ false)) }
-    {
-        match self.levels.checked_sub(1) {
-            Some(levels) => Ok(Place {
-                nullable: false,
-                levels,
-                fields: self.fields,
-            }),
-            None => Err(ArrowFault::TooDeep),
-        }
-    }
-
-    // Returns the place of an extension's storage type.
-    fn storage(self) -> Result<Place, ArrowFault>
-        ensures level { Gives (λ p. p.levels) result (level self.levels) }
-        ensures place { IfOk result (λ p. (p.levels + 1 ≡ self.levels) × (p.fields ≡ self.fields) × (p.nullable ≡ self.nullable)) }
-    {
-        match self.levels.checked_sub(1) {
-            Some(levels) => Ok(Place { levels, ..self }),
-            None => Err(ArrowFault::TooDeep),
-        }
-    }
-
-    // Returns the place of a field whose type is the type here.
-    fn made_nullable(self, nullable: bool) -> Place
-        ensures { (result.nullable ≡ (self.nullable || nullable)) × (result.levels ≡ self.levels) × (result.fields ≡ self.fields) }
-    {
-        Place {
-            nullable: self.nullable || nullable,
-            ..self
-        }
-    }
-
-    // Returns the place of a field inside this one.
-    fn inner(self) -> Place
-        requires { 0 < self.fields }
-        ensures { (result.nullable ≡ self.nullable) × (result.levels ≡ self.levels) × (result.fields ≡ self.fields - 1) }
-    {
-        Place {
-            fields: self.fields - 1,
-            ..self
-        }
-    }
-
-    fn nullability(self) -> Nullability
-        ensures { result ≡ nullability_of self.nullable }
-    {
-        Nullability::from(self.nullable)
-    }
-}
-
 // Reads the type of a field, after its node.
 #[cycle(reading)]
 #[tactic(auto, unfolding(crate::specs::Read::type_by))]
@@ -295,7 +72,7 @@ fn read(
     field: &Field<'_>,
     place: Place,
 ) -> Result<DType, ArrowFault>
-    ensures read { Reads tree result (left rest.new) (type_by (inside_at place.fields) (seen field.now) place.nullable place.levels (left rest.old)) }
+    ensures read { ReadsType type_by result place field.now rest.old rest.new }
     ensures valid { IfOk result (λ d. Valid (tree d)) }
     ensures levels { IfOk result (λ d. levels_of (tree d) ≤ place.levels) }
 {
@@ -319,7 +96,7 @@ fn read_extension(
     metadata: Option<&[u8]>,
     place: Place,
 ) -> Result<DType, ArrowFault>
-    ensures read { Reads tree result (left rest.new) (extension_by (inside_at place.fields) (seen field.now) id.now (shown (λ m. m.now) metadata.entry) place.nullable place.levels (left rest.old)) }
+    ensures read { ReadsType (λ w f. extension_by w f id.now (shown (λ m. m.now) metadata.entry)) result place field.now rest.old rest.new }
     ensures valid { IfOk result (λ d. Valid (tree d)) }
     ensures levels { IfOk result (λ d. levels_of (tree d) ≤ place.levels) }
 {
@@ -340,7 +117,7 @@ fn read_storage(
     field: &Field<'_>,
     place: Place,
 ) -> Result<DType, ArrowFault>
-    ensures read { Reads tree result (left rest.new) (storage_by (inside_at place.fields) (seen field.now) place.nullable place.levels (left rest.old)) }
+    ensures read { ReadsType storage_by result place field.now rest.old rest.new }
     ensures valid { IfOk result (λ d. Valid (tree d)) }
     ensures levels { IfOk result (λ d. levels_of (tree d) ≤ place.levels) }
 {
@@ -374,7 +151,7 @@ fn read_dictionary(
     indices: Option<Format>,
     place: Place,
 ) -> Result<DType, ArrowFault>
-    ensures read { Reads tree result (left rest.new) (dictionary_by (inside_at place.fields) (seen field.now) indices place.nullable place.levels (left rest.old)) }
+    ensures read { ReadsType (λ w f. dictionary_by w f indices) result place field.now rest.old rest.new }
     ensures valid { IfOk result (λ d. Valid (tree d)) }
     ensures levels { IfOk result (λ d. levels_of (tree d) ≤ place.levels) }
 {
@@ -396,7 +173,7 @@ fn read_values(
     parent: &Field<'_>,
     place: Place,
 ) -> Result<DType, ArrowFault>
-    ensures read { Reads tree result (left rest.new) (values_by (inside_at place.fields) (seen parent.now) place.nullable place.levels (left rest.old)) }
+    ensures read { ReadsType values_by result place parent.now rest.old rest.new }
     ensures valid { IfOk result (λ d. Valid (tree d)) }
     ensures levels { IfOk result (λ d. levels_of (tree d) ≤ place.levels) }
 {
@@ -428,7 +205,7 @@ fn read_format(
     format: Format,
     place: Place,
 ) -> Result<DType, ArrowFault>
-    ensures read { Reads tree result (left rest.new) (format_by (inside_at place.fields) (seen field.now) format place.nullable place.levels (left rest.old)) }
+    ensures read { ReadsType (λ w f. format_by w f format) result place field.now rest.old rest.new }
     ensures valid { IfOk result (λ d. Valid (tree d)) }
     ensures levels { IfOk result (λ d. levels_of (tree d) ≤ place.levels) }
 {
@@ -516,7 +293,7 @@ fn read_child<'a>(
     parent: &Field<'_>,
     place: Place,
 ) -> Result<(&'a str, DType), ArrowFault>
-    ensures read { Reads (λ r. (r.0.now, tree r.1)) result (left rest.new) (child_by (inside_at place.fields) (seen parent.now) place.nullable place.levels (left rest.old)) }
+    ensures read { ReadsPart child child_by result place parent.now rest.old rest.new }
     ensures valid { IfOk result (λ r. Valid (tree r.1)) }
     ensures levels { IfOk result (λ r. levels_of (tree r.1) ≤ place.levels) }
 {
@@ -534,7 +311,7 @@ fn read_inner<'a>(
     rest: &mut Rest<'a>,
     place: Place,
 ) -> Result<(&'a str, DType), ArrowFault>
-    ensures read { Reads (λ r. (r.0.now, tree r.1)) result (left rest.new) (inner_by (type_by (inside_at place.fields)) place.nullable place.levels (left rest.old)) }
+    ensures read { Reads child result (left rest.new) (inner_by (type_by (inside_at place.fields)) place.nullable place.levels (left rest.old)) }
     ensures valid { IfOk result (λ r. Valid (tree r.1)) }
     ensures levels { IfOk result (λ r. levels_of (tree r.1) ≤ place.levels) }
 {
@@ -551,7 +328,7 @@ fn read_seen<'a>(
     field: &Field<'a>,
     place: Place,
 ) -> Result<(&'a str, DType), ArrowFault>
-    ensures read { Reads (λ r. (r.0.now, tree r.1)) result (left rest.new) (read_within field.now.name.now (named_by (type_by (inside_at place.fields)) (seen field.now) place.nullable place.levels (left rest.old))) }
+    ensures read { ReadsPart child seen_by result place field.now rest.old rest.new }
     ensures valid { IfOk result (λ r. Valid (tree r.1)) }
     ensures levels { IfOk result (λ r. levels_of (tree r.1) ≤ place.levels) }
 {
@@ -570,7 +347,7 @@ fn read_named<'a>(
     field: &Field<'a>,
     place: Place,
 ) -> Result<(&'a str, DType), ArrowFault>
-    ensures read { Reads (λ r. (r.0.now, tree r.1)) result (left rest.new) (named_by (type_by (inside_at place.fields)) (seen field.now) place.nullable place.levels (left rest.old)) }
+    ensures read { ReadsPart child (λ w. named_by (type_by w)) result place field.now rest.old rest.new }
     ensures valid { IfOk result (λ r. Valid (tree r.1)) }
     ensures levels { IfOk result (λ r. levels_of (tree r.1) ≤ place.levels) }
 {
@@ -587,7 +364,7 @@ fn read_part<'a>(
     parent: &Field<'_>,
     place: Place,
 ) -> Result<(&'a str, DType), ArrowFault>
-    ensures read { Reads (λ r. (r.0.now, tree r.1)) result (left rest.new) (part_by (inside_at place.fields) (seen parent.now) place.levels (left rest.old)) }
+    ensures read { ReadsPart child (λ w f n. part_by w f) result place parent.now rest.old rest.new }
     ensures valid { IfOk result (λ r. Valid (tree r.1)) }
     ensures levels { IfOk result (λ r. levels_of (tree r.1) < place.levels) }
 {
@@ -604,7 +381,7 @@ fn read_list(
     field: &Field<'_>,
     place: Place,
 ) -> Result<DType, ArrowFault>
-    ensures read { Reads tree result (left rest.new) (list_by (inside_at place.fields) (seen field.now) place.nullable place.levels (left rest.old)) }
+    ensures read { ReadsType list_by result place field.now rest.old rest.new }
     ensures valid { IfOk result (λ d. Valid (tree d)) }
     ensures levels { IfOk result (λ d. levels_of (tree d) ≤ place.levels) }
 {
@@ -621,7 +398,7 @@ fn read_fixed(
     size: u32,
     place: Place,
 ) -> Result<DType, ArrowFault>
-    ensures read { Reads tree result (left rest.new) (fixed_by (inside_at place.fields) (seen field.now) size place.nullable place.levels (left rest.old)) }
+    ensures read { ReadsType (λ w f. fixed_by w f size) result place field.now rest.old rest.new }
     ensures valid { IfOk result (λ d. Valid (tree d)) }
     ensures levels { IfOk result (λ d. levels_of (tree d) ≤ place.levels) }
 {
@@ -637,7 +414,7 @@ fn read_struct(
     field: &Field<'_>,
     place: Place,
 ) -> Result<DType, ArrowFault>
-    ensures read { Reads tree result (left rest.new) (struct_by (inside_at place.fields) (seen field.now) place.nullable place.levels (left rest.old)) }
+    ensures read { ReadsType struct_by result place field.now rest.old rest.new }
     ensures valid { IfOk result (λ d. Valid (tree d)) }
     ensures levels { IfOk result (λ d. levels_of (tree d) ≤ place.levels) }
 {
@@ -653,7 +430,7 @@ fn read_union(
     field: &Field<'_>,
     place: Place,
 ) -> Result<DType, ArrowFault>
-    ensures read { Reads tree result (left rest.new) (union_by (inside_at place.fields) (seen field.now) place.nullable place.levels (left rest.old)) }
+    ensures read { ReadsType union_by result place field.now rest.old rest.new }
     ensures valid { IfOk result (λ d. Valid (tree d)) }
     ensures levels { IfOk result (λ d. levels_of (tree d) ≤ place.levels) }
 {
@@ -672,7 +449,7 @@ fn read_children(
     field: &Field<'_>,
     place: Place,
 ) -> Result<(Vec<FieldName>, Vec<DType>), ArrowFault>
-    ensures read { Reads (λ r. zip r.0.items (map tree r.1.items)) result (left rest.new) (times field.now.node.child_count (part_by (inside_at place.fields) (seen field.now) place.levels) (left rest.old)) }
+    ensures read { ReadsPart (λ r. zip r.0.items (map tree r.1.items)) children_by result place field.now rest.old rest.new }
     ensures counts { IfOk result (λ r. length r.0.items ≡ vec_len r.1) }
     ensures valid { IfOk result (λ r. All (λ d. Valid (tree d)) r.1.items) }
     ensures levels { IfOk result (λ r. All (λ d. levels_of (tree d) < place.levels) r.1.items) }
@@ -698,7 +475,7 @@ fn read_map(
     field: &Field<'_>,
     place: Place,
 ) -> Result<DType, ArrowFault>
-    ensures read { Reads tree result (left rest.new) (map_by (inside_at place.fields) (seen field.now) place.nullable place.levels (left rest.old)) }
+    ensures read { ReadsType map_by result place field.now rest.old rest.new }
     ensures valid { IfOk result (λ d. Valid (tree d)) }
     ensures levels { IfOk result (λ d. levels_of (tree d) ≤ place.levels) }
 {
@@ -717,7 +494,7 @@ fn read_inner_map(
     field: &Field<'_>,
     place: Place,
 ) -> Result<DType, ArrowFault>
-    ensures read { Reads tree result (left rest.new) (map_with (inside_at place.fields) (seen field.now) place.nullable place.levels (left rest.old)) }
+    ensures read { ReadsType map_with result place field.now rest.old rest.new }
     ensures valid { IfOk result (λ d. Valid (tree d)) }
     ensures levels { IfOk result (λ d. levels_of (tree d) ≤ place.levels) }
 {
@@ -748,7 +525,7 @@ fn read_seen_entries(
     entries: &Field<'_>,
     place: Place,
 ) -> Result<(DType, DType), ArrowFault>
-    ensures read { Reads (λ r. (tree r.0, tree r.1)) result (left rest.new) (read_within entries.now.name.now (entries_by (inside_at place.fields) (seen entries.now) place.levels (left rest.old))) }
+    ensures read { ReadsPart (λ r. (tree r.0, tree r.1)) seen_entries_by result place entries.now rest.old rest.new }
     ensures valid { IfOk result (λ r. Valid (tree r.0) × Valid (tree r.1)) }
     ensures levels { IfOk result (λ r. (levels_of (tree r.0) < place.levels) × (levels_of (tree r.1) < place.levels)) }
 {
@@ -767,7 +544,7 @@ fn read_entries(
     entries: &Field<'_>,
     place: Place,
 ) -> Result<(DType, DType), ArrowFault>
-    ensures read { Reads (λ r. (tree r.0, tree r.1)) result (left rest.new) (entries_by (inside_at place.fields) (seen entries.now) place.levels (left rest.old)) }
+    ensures read { ReadsPart (λ r. (tree r.0, tree r.1)) (λ w f n. entries_by w f) result place entries.now rest.old rest.new }
     ensures valid { IfOk result (λ r. Valid (tree r.0) × Valid (tree r.1)) }
     ensures levels { IfOk result (λ r. (levels_of (tree r.0) < place.levels) × (levels_of (tree r.1) < place.levels)) }
 {
@@ -787,7 +564,7 @@ fn read_run_ends(
     field: &Field<'_>,
     place: Place,
 ) -> Result<DType, ArrowFault>
-    ensures read { Reads tree result (left rest.new) (run_ends_by (inside_at place.fields) (seen field.now) place.nullable place.levels (left rest.old)) }
+    ensures read { ReadsType run_ends_by result place field.now rest.old rest.new }
     ensures valid { IfOk result (λ d. Valid (tree d)) }
     ensures levels { IfOk result (λ d. levels_of (tree d) ≤ place.levels) }
 {

@@ -3,8 +3,9 @@
 
 -- What the calls for Arrow's schemas do. `code` is the number that the export returns; `old` and `new` are what buffers contain
 -- before and after the call; and `was` and `is` are what the slot `error` contains before and after it.
-use Rattle.std.specs.Prelude.{◌≡◌, ◌⊎◌, ◌≤◌, ⊤, ℕ, List, Option, Result, Ok, Err}
+use Rattle.std.specs.Prelude.{◌≡◌, ◌⊎◌, ◌≤◌, ℕ, List, Option, Result, Ok, Err, string_bytes}
 use Rattle.c_arrow.specs.Faults.{Fault, out_of_range, too_deep, library, refused}
+use Rattle.c_arrow.specs.Messages.{message_from, message_of}
 use Rattle.c_arrow.specs.Read.{read_flat}
 use Rattle.c_arrow.specs.Write.{nodes_and_texts}
 use Rattle.c_arrow.specs.declared.fault.ArrowFault.{ArrowFault}
@@ -20,16 +21,17 @@ use Rattle.dtype_types.specs.tree.Valid.{Valid}
 use Rattle.vortex_logical_types.specs.AtOnce.{Buffers, FillsWithBoth, SameBuffers}
 use Rattle.vortex_logical_types.specs.Vocabulary.{Failed, Outcome, Stores, fails_with, gives, gives_some, refuses, unless_memory}
 
--- a message of Arrow's, which says which field has no type here, or which part no Arrow type, and why
-abbrev pub IsRefusal : Failure → Type 0
-IsRefusal (Library e) = ⊥
-IsRefusal (Text at message) = ⊥
-IsRefusal (Deep at) = ⊥
-IsRefusal (Arrow message) = ⊤
+-- a message of Arrow's with this text
+abbrev pub IsRefusal : List ℕ → Failure → Type 0
+IsRefusal text (Library e) = ⊥
+IsRefusal text (Text at message) = ⊥
+IsRefusal text (Deep at) = ⊥
+IsRefusal text (Arrow message) = string_bytes message ≡ text
 
--- A field is refused, and a message is stored. Its words aren't specified.
-abbrev pub refuses_field : {X : Type 0} → Outcome X
-refuses_field No Why Yes = Why IsRefusal
+-- A field is refused, and this message is stored, which says which field has no type here, or which part no Arrow type, and why.
+-- For example, it is `column "item": a variant has no Arrow type` of a list of variants.
+abbrev pub refuses_field : {X : Type 0} → List ℕ → Outcome X
+refuses_field text No Why Yes = Why (IsRefusal text)
 
 -- What a fault returns: 6 if types are too deep, 9 if nodes and texts are those of no schema, an error of the library, or the
 -- message about a field. For example, it is 6 for a schema of 129 lists inside one another.
@@ -37,7 +39,7 @@ abbrev pub faulty : {X : Type 0} → Fault → Outcome X
 faulty out_of_range = refuses 9
 faulty too_deep = refuses 6
 faulty (library e) = fails_with e
-faulty (refused names format problem) = refuses_field
+faulty (refused names format problem) = refuses_field (message_from names format problem)
 
 -- the type that was read, which is valid and has at most 128 levels, or the fault
 abbrev pub is_read : Result Tree Fault → Outcome Tree
@@ -74,4 +76,4 @@ StoresFault OutOfMemory code was is = (code ≡ 100) × (is ≡ was)
 StoresFault OutOfRange code was is = (code ≡ 9) × (is ≡ was)
 StoresFault TooDeep code was is = (code ≡ 6) × (is ≡ was)
 StoresFault (fault.Library e) code was is = Stores (Library e) code was is
-StoresFault (Refused r) code was is = Failed IsRefusal code is ⊎ ((code ≡ 100) × (is ≡ was))
+StoresFault (Refused r) code was is = Failed (IsRefusal (message_of r)) code is ⊎ ((code ≡ 100) × (is ≡ was))

@@ -40,3 +40,11 @@ with_fields fields before = fields >>= λ ss. Ok (before.0 ++ all_nodes ss, befo
 -- this is what was written in the end, or the fault why it wasn't, unless memory ran out
 abbrev pub Writes : Result Unit ArrowFault → Out → Result Out Fault → Type 0
 Writes result after whole = Gives (λ _. after) result whole
+
+-- this field is behind what `old` has, or there is the fault why it has no schema, unless memory ran out
+abbrev pub WritesField : Result Unit ArrowFault → Flat → Flat → Result Schema Fault → Type 0
+WritesField result old new field = Writes result (out new) (with_field field (out old))
+
+-- the same of several fields
+abbrev pub WritesFields : Result Unit ArrowFault → Flat → Flat → Result Schemas Fault → Type 0
+WritesFields result old new fields = Writes result (out new) (with_fields fields (out old))

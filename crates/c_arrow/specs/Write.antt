@@ -139,6 +139,14 @@ abbrev mutual
 abbrev pub child_of : ℕ → List ℕ → Tree → Result Schema Fault
 child_of levels name t = child levels name (λ below l. field_of below l t)
 
+-- a field with this name and of this type, if the name can be written
+abbrev pub named_of : ℕ → List ℕ → Tree → Result Schema Fault
+named_of levels name t = named name (field_of levels (called name) t)
+
+-- the key and the value of a map, of these types
+abbrev pub entries_of : ℕ → Tree → Tree → Result Schemas Fault
+entries_of levels k v = entries (child_of levels (codes "key") k) (child_of levels (codes "value") v)
+
 -- The schema of a type, or the fault why there is none. The name of the root is empty, and a type may have 128 levels. For
 -- example, the schema of `{a=i32?}` is a field with the format `+s` and one child: `a`, with the format `i` and the flags 2.
 abbrev pub to_arrow : Tree → Result Schema Fault

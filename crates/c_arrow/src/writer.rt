@@ -2,13 +2,13 @@
 // SPDX-FileCopyrightText: Copyright the Vortex contributors
 
 // Nodes and texts from types.
-ghost use Rattle.std.specs.Prelude.{◌≡◌, Ok, codes};
+ghost use Rattle.std.specs.Prelude.{◌≡◌, Ok};
 ghost use Rattle.dtype_text.specs.Read.{shown};
-ghost use Rattle.dtype_types.specs.tree.Tree.{map_of, struct as struct_tree, union as union_tree};
-ghost use Rattle.dtype_types.specs.tree.TreeOf.{tree, extension_id, extension_metadata as metadata_bytes, extension_tree, fields_of, map_shown, storage_tree, variants_of};
-ghost use Rattle.c_arrow.specs.Added.{Writes, label_of, out, with_field, with_fields, with_node};
+ghost use Rattle.dtype_types.specs.tree.Tree.{struct as struct_tree, union as union_tree};
+ghost use Rattle.dtype_types.specs.tree.TreeOf.{tree, extension_id, extension_metadata as metadata_bytes, extension_tree, fields_of, map_shown, variants_of};
+ghost use Rattle.c_arrow.specs.Added.{Writes, WritesField, WritesFields, label_of, out, with_node};
 ghost use Rattle.c_arrow.specs.Faults.{Gives};
-ghost use Rattle.c_arrow.specs.Views.{written};
+ghost use Rattle.c_arrow.specs.Views.{map_tree, outer_of, written};
 ghost use Rattle.c_arrow.specs.Write as write;
 ghost use Rattle.c_arrow.specs.Write.{nodes_and_texts};
 
@@ -112,7 +112,7 @@ impl Flat {
     // Adds a field without children.
     #[tactic(auto, using(crate::proofs::Writing::leaf_added))]
     fn leaf(&mut self, label: Label<'_>, format: &[u8], n: Nullability) -> Result<(), ArrowFault>
-        ensures { Writes result (out self.new) (with_field (write.leaf format.now (label_of label.entry) n) (out self.old)) }
+        ensures { WritesField result self.old self.new (write.leaf format.now (label_of label.entry) n) }
     {
         self.node(label, format, nullable_flag(n), 0)
     }
@@ -127,7 +127,7 @@ impl Flat {
         dtype: &DType,
         levels: u32,
     ) -> Result<(), ArrowFault>
-        ensures { Writes result (out self.new) (with_field (write.field_of levels (label_of label.entry) (tree dtype.now)) (out self.old)) }
+        ensures { WritesField result self.old self.new (write.field_of levels (label_of label.entry) (tree dtype.now)) }
     {
         match dtype {
             DType::Null => self.leaf(label, b"n", Nullability::Nullable),
@@ -166,7 +166,7 @@ impl Flat {
         dtype: &DType,
         levels: u32,
     ) -> Result<(), ArrowFault>
-        ensures { Writes result (out self.new) (with_field (write.child_of levels name.now (tree dtype.now)) (out self.old)) }
+        ensures { WritesField result self.old self.new (write.child_of levels name.now (tree dtype.now)) }
     {
         if levels == 0 {
             return Err(ArrowFault::TooDeep);
@@ -186,7 +186,7 @@ impl Flat {
         dtype: &DType,
         levels: u32,
     ) -> Result<(), ArrowFault>
-        ensures { Writes result (out self.new) (with_field (write.named name.now (write.field_of levels (write.called name.now) (tree dtype.now))) (out self.old)) }
+        ensures { WritesField result self.old self.new (write.named_of levels name.now (tree dtype.now)) }
     {
         check_nul(alloc, name)?;
         self.field(alloc, Label::called(name), dtype, levels)
@@ -202,7 +202,7 @@ impl Flat {
         extension: &ExtDTypeRef,
         levels: u32,
     ) -> Result<(), ArrowFault>
-        ensures { Writes result (out self.new) (with_field (write.field_of levels (label_of label.entry) (extension_tree extension.now)) (out self.old)) }
+        ensures { WritesField result self.old self.new (write.field_of levels (label_of label.entry) (extension_tree extension.now)) }
     {
         let temporal = Temporal::of(extension);
         if label.is_storage {
@@ -221,7 +221,7 @@ impl Flat {
         temporal: Option<Temporal<'_>>,
         levels: u32,
     ) -> Result<(), ArrowFault>
-        ensures { Writes result (out self.new) (with_field (write.inner_extension levels (label_of label.entry) (shown written temporal.entry)) (out self.old)) }
+        ensures { WritesField result self.old self.new (write.inner_extension levels (label_of label.entry) (shown written temporal.entry)) }
     {
         match temporal {
             Some(_) if levels == 0 => Err(ArrowFault::TooDeep),
@@ -241,7 +241,7 @@ impl Flat {
         temporal: Option<Temporal<'_>>,
         levels: u32,
     ) -> Result<(), ArrowFault>
-        ensures { Writes result (out self.new) (with_field (write.outer_extension levels name.now (shown written temporal.entry) (write.metadata_for (extension_id extension.now) (metadata_bytes extension.now)) (λ below l. write.field_of below l (storage_tree extension.now))) (out self.old)) }
+        ensures { WritesField result self.old self.new (outer_of levels name.now (shown written temporal.entry) extension.now) }
     {
         if levels == 0 {
             return Err(ArrowFault::TooDeep);
@@ -268,7 +268,7 @@ impl Flat {
         label: Label<'_>,
         temporal: &Temporal<'_>,
     ) -> Result<(), ArrowFault>
-        ensures { Writes result (out self.new) (with_field (write.temporal (label_of label.entry) (written temporal.now)) (out self.old)) }
+        ensures { WritesField result self.old self.new (write.temporal (label_of label.entry) (written temporal.now)) }
     {
         check_nul(alloc, temporal.zone)?;
         let mut format = Vec::from_slice(alloc, temporal.letters.as_bytes())?;
@@ -287,7 +287,7 @@ impl Flat {
         n: Nullability,
         levels: u32,
     ) -> Result<(), ArrowFault>
-        ensures { Writes result (out self.new) (with_field (write.field_of levels (label_of label.entry) (map_of (map_shown map.now).0 (map_shown map.now).1 (map_shown map.now).2 n)) (out self.old)) }
+        ensures { WritesField result self.old self.new (write.field_of levels (label_of label.entry) (map_tree map.now n)) }
     {
         let flags = flags_of(n.is_nullable(), map.keys_sorted());
         self.node(label, b"+m", flags, 1)?;
@@ -303,7 +303,7 @@ impl Flat {
     #[cycle(writing)]
     #[tactic(auto, using(crate::proofs::Writing::two_added))]
     fn entries(&mut self, alloc: Global, map: &MapDType, levels: u32) -> Result<(), ArrowFault>
-        ensures { Writes result (out self.new) (with_fields (write.entries (write.child_of levels (codes "key") (map_shown map.now).0) (write.child_of levels (codes "value") (map_shown map.now).1)) (out self.old)) }
+        ensures { WritesFields result self.old self.new (write.entries_of levels (map_shown map.now).0 (map_shown map.now).1) }
     {
         self.child(alloc, b"key", map.key_dtype(), levels)?;
         self.child(alloc, b"value", map.value_dtype(), levels)
@@ -319,7 +319,7 @@ impl Flat {
         n: Nullability,
         levels: u32,
     ) -> Result<(), ArrowFault>
-        ensures { Writes result (out self.new) (with_field (write.field_of levels (label_of label.entry) (struct_tree (fields_of fields.now) n)) (out self.old)) }
+        ensures { WritesField result self.old self.new (write.field_of levels (label_of label.entry) (struct_tree (fields_of fields.now) n)) }
     {
         self.node(label, b"+s", nullable_flag(n), fields.nfields())?;
         self.fields(alloc, fields, levels)
@@ -333,7 +333,7 @@ impl Flat {
         fields: &StructFields,
         levels: u32,
     ) -> Result<(), ArrowFault>
-        ensures { Writes result (out self.new) (with_fields (write.children_of levels (fields_of fields.now)) (out self.old)) }
+        ensures { WritesFields result self.old self.new (write.children_of levels (fields_of fields.now)) }
     {
         for (name, dtype) in fields.pairs() {
             self.child(alloc, name.as_str().as_bytes(), dtype, levels)?;
@@ -351,7 +351,7 @@ impl Flat {
         n: Nullability,
         levels: u32,
     ) -> Result<(), ArrowFault>
-        ensures { Writes result (out self.new) (with_field (write.field_of levels (label_of label.entry) (union_tree (variants_of variants.now) n)) (out self.old)) }
+        ensures { WritesField result self.old self.new (write.field_of levels (label_of label.entry) (union_tree (variants_of variants.now) n)) }
     {
         let format = union_format(alloc, variants.type_ids())?;
         let format = format.as_bytes();
@@ -367,7 +367,7 @@ impl Flat {
         variants: &UnionVariants,
         levels: u32,
     ) -> Result<(), ArrowFault>
-        ensures { Writes result (out self.new) (with_fields (write.children_of levels (variants_of variants.now)) (out self.old)) }
+        ensures { WritesFields result self.old self.new (write.children_of levels (variants_of variants.now)) }
     {
         for (name, _, dtype) in variants.triples() {
             self.child(alloc, name.as_str().as_bytes(), dtype, levels)?;

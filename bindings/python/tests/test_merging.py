@@ -16,7 +16,8 @@ MERGED = (
     ("{x=a.b[0x01]({a=i8})}", "{x=a.b[0x01]({a=i8?})}", "{x=a.b[0x01]({a=i8?})}"),
     ("map(utf8, {a=i8}, keys_sorted=true)", "map(utf8, {}, keys_sorted=true)", "map(utf8, {a=i8?}, keys_sorted=true)"),
     ("fixed_size_list(i8)[3]", "fixed_size_list(i8?)[3]", "fixed_size_list(i8?)[3]"),
-    ("{a=i8, a=u8}", "{a=i8?, a=u8}", "{a=i8?, a=u8}"),
+    ("{a=i8, a=u8}", "{a=i8?, a=u8}", "{a=i8?, a=u8}"), ("{a=i8, a={b=u8}}", "{a=i8, a={c=u8}}?", "{a=i8, a={b=u8?, c=u8?}}?"),
+    ("union(x@5={a=i8}, y@9=u8)", "union(x@5={b=i8}, y@9=u8?)", "union(x@5={a=i8?, b=i8?}, y@9=u8?)"),
 )
 # Two types that can't be read as one, the place, and the types there.
 CONFLICTS = (
@@ -25,6 +26,9 @@ CONFLICTS = (
     ("{a=fixed_size_list(i8)[3]}", "{a=fixed_size_list(i8)[4]}", "a", "fixed_size_list(i8)[3]", "fixed_size_list(i8)[4]"),
     ("{a={b=i8, b=i8}}", "{a={b=i8, c=i8}}", "a", "{b=i8, b=i8}", "{b=i8, c=i8}"),
     ("{a=union(x=i8)}", "{a=union(x=i8, y=i8)}", "a", "union(x=i8)", "union(x=i8, y=i8)"),
+    ("union(x={a=i8})", "union(x@1={a=i8})", ".", "union(x={a=i8})", "union(x@1={a=i8})"),
+    ("{a=union(x={b=i8})}", "{a=union(x={b=u8})}", "a", "union(x={b=i8})", "union(x={b=u8})"),
+    ("{a=i8, a=u8}", "{a=u8, a=i8}", ".", "{a=i8, a=u8}", "{a=u8, a=i8}"),
     ("{a=x.y[0x](i8)}", "{a=x.y[0x00](i8)}", "a", "x.y[0x](i8)", "x.y[0x00](i8)"),
 )
 

@@ -57,8 +57,10 @@ impl DType {
     ///   that both have is merged by these rules. A field that only one of the two has is nullable.
     /// - Lists, fixed-size lists of the same size, maps with the same `keys_sorted`, and extensions with the same id
     ///   and the same metadata are merged by their parts. Maps whose merged key type would be nullable can't be merged.
-    /// - All other types are merged as [`DType::merge_nullability`] merges them. So are structs in which a name
-    ///   repeats, because their columns can't be told apart by name.
+    /// - Unions with the same names and tags in the same order are merged variant by variant. Structs in which a name
+    ///   repeats are merged field by field, if both have the same names in the same order, because their columns can't
+    ///   be told apart by name.
+    /// - All other types are merged as [`DType::merge_nullability`] merges them.
     /// - A type that isn't an extension is nullable if one of the two is, at every depth.
     ///
     /// ```
@@ -80,7 +82,8 @@ impl DType {
     /// Returns the first place at which the two types can't be merged by [`DType::merge_columns`], or `None` if they
     /// can be merged. The conflict has the path to this place, and the types at this place in this type and in `other`.
     /// The first place is the first one in the order of the fields of this type. A path leads only into structs, lists
-    /// and fixed-size lists, so if the keys or values of two maps can't be merged, it is the path to the maps.
+    /// and fixed-size lists, so if the keys or values of two maps can't be merged, it is the path to the maps. The same
+    /// is true of unions, extensions, and structs in which a name repeats.
     ///
     /// ```
     /// # use vortex_logical_types::{DType, field_path};

@@ -15,7 +15,6 @@ use Rattle.dtype_base.specs.declared.vortex_error.VortexError.{VortexError}
 use Rattle.dtype_types.specs.declared.dtype.DType.{DType, Struct}
 use Rattle.dtype_types.specs.declared.field_dtype.FieldDType.{FieldDType}
 use Rattle.dtype_types.specs.declared.struct_fields.StructFields.{StructFields}
-use Rattle.dtype_types.specs.nullability.Merged.{merged}
 use Rattle.dtype_types.specs.nullability.Nullable.{IsNullable, nullability}
 use Rattle.dtype_types.specs.parts.FieldTypes.{field_tree}
 use Rattle.dtype_types.specs.parts.Lookups.{first_named}
@@ -23,7 +22,7 @@ use Rattle.dtype_types.specs.tree.Tree.{Tree, fields, pairs, struct}
 use Rattle.dtype_types.specs.tree.TreeOf.{MapParts, children, fields_of, tree, with_trees}
 use Rattle.dtype_types.proofs.lemmas.TreeLaws.{pairs_of, tree_struct}
 use Rattle.dtype_types.proofs.lemmas.TypesBelow.{weight, weight_items}
-use Rattle.dtype_merging.specs.MergedColumns.{column, columns_merged, further, map_of_key, map_with, merged_by_name, no_repeats, prepend, struct_with}
+use Rattle.dtype_merging.specs.MergedColumns.{column, columns_merged, further, map_of_key, map_with, merged_beside, merged_by_name, no_repeats, prepend, struct_with}
 use Rattle.dtype_merging.specs.private.Collected.{collected, maps_merged}
 use Rattle.dtype_merging.proofs.lemmas.Finding.{Pairs}
 use Rattle.dtype_merging.proofs.lemmas.Merging.{pick_false, pick_true}
@@ -51,14 +50,14 @@ keys_nullable a b n k same key nulls =
 by_name : (ps qs : Pairs) (m n : Nullability) → (no_repeats ps && no_repeats qs) ≡ true → columns_merged (struct (fields ps) m) (struct (fields qs) n) ≡ struct_with (merged_by_name (fields ps) (fields qs)) (further ps qs) (either m n)
 by_name ps qs m n e =
     let test = ap (λ xs. no_repeats xs && no_repeats (pairs (fields qs))) (pairs_of ps) ∙ ap (λ xs. no_repeats ps && no_repeats xs) (pairs_of qs) ∙ e in
-    pick_true (no_repeats (pairs (fields ps)) && no_repeats (pairs (fields qs))) (struct_with (merged_by_name (fields ps) (fields qs)) (further (pairs (fields ps)) (pairs (fields qs))) (either m n)) (merged (struct (fields ps) m) (struct (fields qs) n)) test
+    pick_true (no_repeats (pairs (fields ps)) && no_repeats (pairs (fields qs))) (struct_with (merged_by_name (fields ps) (fields qs)) (further (pairs (fields ps)) (pairs (fields qs))) (either m n)) (option_map (λ hs. struct hs (either m n)) (merged_beside (fields ps) (fields qs))) test
     ∙ ap (λ xs. struct_with (merged_by_name (fields ps) (fields qs)) (further xs (pairs (fields qs))) (either m n)) (pairs_of ps)
     ∙ ap (λ xs. struct_with (merged_by_name (fields ps) (fields qs)) (further ps xs) (either m n)) (pairs_of qs)
 
-pub by_position : (ps qs : Pairs) (m n : Nullability) → (no_repeats ps && no_repeats qs) ≡ false → columns_merged (struct (fields ps) m) (struct (fields qs) n) ≡ merged (struct (fields ps) m) (struct (fields qs) n)
+pub by_position : (ps qs : Pairs) (m n : Nullability) → (no_repeats ps && no_repeats qs) ≡ false → columns_merged (struct (fields ps) m) (struct (fields qs) n) ≡ option_map (λ hs. struct hs (either m n)) (merged_beside (fields ps) (fields qs))
 by_position ps qs m n e =
     let test = ap (λ xs. no_repeats xs && no_repeats (pairs (fields qs))) (pairs_of ps) ∙ ap (λ xs. no_repeats ps && no_repeats xs) (pairs_of qs) ∙ e in
-    pick_false (no_repeats (pairs (fields ps)) && no_repeats (pairs (fields qs))) (struct_with (merged_by_name (fields ps) (fields qs)) (further (pairs (fields ps)) (pairs (fields qs))) (either m n)) (merged (struct (fields ps) m) (struct (fields qs) n)) test
+    pick_false (no_repeats (pairs (fields ps)) && no_repeats (pairs (fields qs))) (struct_with (merged_by_name (fields ps) (fields qs)) (further (pairs (fields ps)) (pairs (fields qs))) (either m n)) (option_map (λ hs. struct hs (either m n)) (merged_beside (fields ps) (fields qs))) test
 
 -- the same of two types that are structs
 pub structs_by_name : (d e : DType) (x y : StructFields) (m n k : Nullability) (r : Result (Option DType) VortexError)
@@ -72,14 +71,15 @@ structs_by_name d e x y m n k r is_d is_e test joined made =
     ∙ ap (λ z. struct_with (merged_by_name (fields_of x) (fields_of y)) (further (children x) (children y)) z) (sym joined) in
     subst (λ z. Makes r (λ o. option_map tree o ≡ z)) (sym all) made
 
-pub structs_by_position : (d e : DType) (x y : StructFields) (m n : Nullability) (r : Result (Option DType) VortexError)
-    → d ≡ Struct x m → e ≡ Struct y n → (no_repeats (children x) && no_repeats (children y)) ≡ false
-    → Makes r (λ o. option_map tree o ≡ merged (tree d) (tree e)) → Makes r (λ o. option_map tree o ≡ columns_merged (tree d) (tree e))
-structs_by_position d e x y m n r is_d is_e test made =
+pub structs_by_position : (d e : DType) (x y : StructFields) (m n k : Nullability) (r : Result (Option DType) VortexError)
+    → d ≡ Struct x m → e ≡ Struct y n → (no_repeats (children x) && no_repeats (children y)) ≡ false → k ≡ either m n
+    → Makes r (λ o. option_map tree o ≡ option_map (λ hs. struct hs k) (merged_beside (fields_of x) (fields_of y)))
+    → Makes r (λ o. option_map tree o ≡ columns_merged (tree d) (tree e))
+structs_by_position d e x y m n k r is_d is_e test joined made =
     let left = ap tree is_d ∙ tree_struct x m in
     let right = ap tree is_e ∙ tree_struct y n in
     let all = ap (λ t. columns_merged t (tree e)) left ∙ ap (λ t. columns_merged (struct (fields_of x) m) t) right ∙ by_position (children x) (children y) m n test
-    ∙ sym (ap (λ t. merged t (tree e)) left ∙ ap (λ t. merged (struct (fields_of x) m) t) right) in
+    ∙ ap (λ z. option_map (λ hs. struct hs z) (merged_beside (fields_of x) (fields_of y))) (sym joined) in
     subst (λ z. Makes r (λ o. option_map tree o ≡ z)) (sym all) made
 
 -- ---- columns

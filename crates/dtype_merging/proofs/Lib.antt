@@ -4,3 +4,4 @@
 pub mod lemmas
 mod Collecting
 mod Visiting
+mod Ordered

@@ -2,12 +2,12 @@
 -- SPDX-FileCopyrightText: Copyright the Vortex contributors
 
 -- The first conflict of two structs, and of the fields that a loop has left.
-use Rattle.std.proofs.Common.{◌≡◌, ◌∙◌, ◌&&◌, ℕ, List, ◌∷◌, true, false, Option, Some, None, option_and_then, sym, ap}
+use Rattle.std.proofs.Common.{◌≡◌, ◌∙◌, ◌&&◌, ℕ, List, ◌∷◌, true, false, Option, Some, None, option_and_then, refl, sym, ap}
 use Rattle.std.specs.Option.{option_map}
+use Rattle.dtype_base.specs.Nullability.{either}
 use Rattle.dtype_base.specs.declared.nullability.Nullability.{Nullability}
 use Rattle.dtype_types.specs.declared.dtype.DType.{DType, Struct}
 use Rattle.dtype_types.specs.declared.struct_fields.StructFields.{StructFields}
-use Rattle.dtype_types.specs.nullability.Merged.{merged}
 use Rattle.dtype_types.specs.parts.Lookups.{first_named}
 use Rattle.dtype_types.specs.tree.Tree.{Tree, fields, pairs, struct}
 use Rattle.dtype_types.specs.tree.TreeOf.{children, fields_of, tree, with_trees}
@@ -15,12 +15,16 @@ use Rattle.dtype_types.proofs.lemmas.TreeLaws.{pairs_of, tree_struct}
 use Rattle.dtype_paths.specs.declared.field.Field.{Field}
 use Rattle.dtype_paths.specs.declared.field.Field.TheVariants.{Name}
 use Rattle.dtype_merging.specs.Conflicts.{fields_conflict, first_conflict, first_of, root_unless}
-use Rattle.dtype_merging.specs.MergedColumns.{columns_merged, no_repeats}
+use Rattle.dtype_merging.specs.MergedColumns.{columns_merged, merged_beside, no_repeats}
 use Rattle.dtype_merging.proofs.Collecting.{by_position}
 use Rattle.dtype_merging.proofs.lemmas.Finding.{Pairs}
 use Rattle.dtype_merging.proofs.lemmas.Merging.{pick_false, pick_true}
 
 -- ---- two types that are structs
+
+root_of : {X : Type 0} (f : X → Tree) (o : Option X) → root_unless (option_map f o) ≡ root_unless o
+root_of f None = refl
+root_of f (Some x) = refl
 
 -- in which no name repeats
 pub structs_visited : (d e : DType) (x y : StructFields) (m n : Nullability) → d ≡ Struct x m → e ≡ Struct y n → (no_repeats (children x) && no_repeats (children y)) ≡ true
@@ -28,7 +32,7 @@ pub structs_visited : (d e : DType) (x y : StructFields) (m n : Nullability) →
 structs_visited d e x y m n is_d is_e test =
     let named = ap (λ xs. no_repeats xs && no_repeats (pairs (fields_of y))) (pairs_of (children x)) ∙ ap (λ xs. no_repeats (children x) && no_repeats xs) (pairs_of (children y)) ∙ test in
     ap (λ t. first_conflict t (tree e)) (ap tree is_d ∙ tree_struct x m) ∙ ap (λ t. first_conflict (struct (fields_of x) m) t) (ap tree is_e ∙ tree_struct y n)
-    ∙ pick_true (no_repeats (pairs (fields_of x)) && no_repeats (pairs (fields_of y))) (fields_conflict (fields_of x) (fields_of y)) (root_unless (merged (struct (fields_of x) m) (struct (fields_of y) n))) named
+    ∙ pick_true (no_repeats (pairs (fields_of x)) && no_repeats (pairs (fields_of y))) (fields_conflict (fields_of x) (fields_of y)) (root_unless (merged_beside (fields_of x) (fields_of y))) named
 
 -- in one of which a name repeats
 pub structs_whole : (d e : DType) (x y : StructFields) (m n : Nullability) → d ≡ Struct x m → e ≡ Struct y n → (no_repeats (children x) && no_repeats (children y)) ≡ false
@@ -38,8 +42,8 @@ structs_whole d e x y m n is_d is_e test =
     let left = ap tree is_d ∙ tree_struct x m in
     let right = ap tree is_e ∙ tree_struct y n in
     ap (λ t. first_conflict t (tree e)) left ∙ ap (λ t. first_conflict (struct (fields_of x) m) t) right
-    ∙ pick_false (no_repeats (pairs (fields_of x)) && no_repeats (pairs (fields_of y))) (fields_conflict (fields_of x) (fields_of y)) (root_unless (merged (struct (fields_of x) m) (struct (fields_of y) n))) named
-    ∙ ap root_unless (sym (by_position (children x) (children y) m n test)) ∙ sym (ap (λ t. root_unless (columns_merged t (tree e))) left ∙ ap (λ t. root_unless (columns_merged (struct (fields_of x) m) t)) right)
+    ∙ pick_false (no_repeats (pairs (fields_of x)) && no_repeats (pairs (fields_of y))) (fields_conflict (fields_of x) (fields_of y)) (root_unless (merged_beside (fields_of x) (fields_of y))) named
+    ∙ sym (root_of (λ hs. struct hs (either m n)) (merged_beside (fields_of x) (fields_of y))) ∙ ap root_unless (sym (by_position (children x) (children y) m n test)) ∙ sym (ap (λ t. root_unless (columns_merged t (tree e))) left ∙ ap (λ t. root_unless (columns_merged (struct (fields_of x) m) t)) right)
 
 -- ---- the fields that are left
 

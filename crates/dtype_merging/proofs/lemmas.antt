@@ -4,6 +4,8 @@
 -- Lemmas about the definitions, which a caller's proof may cite.
 pub mod Finding
 pub mod Repeats
+pub mod Variants
+pub mod Beside
 pub mod Order
 pub mod Reading
 pub mod Columns

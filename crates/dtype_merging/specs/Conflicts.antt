@@ -4,20 +4,21 @@
 -- The first place at which two types can't be merged by columns, as a path that leads to a type in both. For example, it
 -- is `a.[]` for `{a=list(i32), b=i32}` and `{b=utf8, a=list(utf8)}`: the fields are visited in the order of the first
 -- type, and a field is visited with everything in it before the next. A path leads only into structs, lists and
--- fixed-size lists, so if the key types of two maps can't be merged, it ends at the maps.
+-- fixed-size lists, so if the key types of two maps, or the types of a variant of two unions, can't be merged, it ends at
+-- the maps or the unions. In a struct a path finds only the first field of a name, so it also ends at structs in which a
+-- name repeats.
 use Rattle.std.specs.Prelude.{◌≡◌, ◌≢◌, List, [], ◌∷◌, Option, Some, None, ◌&&◌, ◌==◌, if◌then◌else◌, option_and_then}
 use Rattle.std.specs.Option.{option_map}
-use Rattle.dtype_types.specs.nullability.Merged.{merged}
 use Rattle.dtype_types.specs.parts.Lookups.{first_named}
 use Rattle.dtype_types.specs.tree.Tree.{Tree, Fields, no_items, item, pairs, list, fixed_size_list, struct}
 use Rattle.dtype_paths.specs.At.{At}
 use Rattle.dtype_paths.specs.declared.field.Field.{Field}
 use Rattle.dtype_paths.specs.declared.field.Field.TheVariants.{Name, ElementType}
-use Rattle.dtype_merging.specs.MergedColumns.{columns_merged, no_repeats}
+use Rattle.dtype_merging.specs.MergedColumns.{columns_merged, merged_beside, no_repeats}
 use Rattle.dtype_merging.specs.ReadsAs.{NoRepeats}
 
--- the root if there is no merged type, and otherwise no place
-abbrev pub root_unless : Option Tree → Option (List Field)
+-- the root if nothing is merged, and otherwise no place
+abbrev pub root_unless : {X : Type 0} → Option X → Option (List Field)
 root_unless None = Some []
 root_unless (Some m) = None
 
@@ -31,7 +32,7 @@ abbrev mutual
   pub first_conflict : Tree → Tree → Option (List Field)
   first_conflict (list t m) (list u n) = option_map (λ p. ElementType ∷ p) (first_conflict t u)
   first_conflict (fixed_size_list t j m) (fixed_size_list u k n) = if j == k then option_map (λ p. ElementType ∷ p) (first_conflict t u) else Some []
-  first_conflict (struct fs m) (struct gs n) = if no_repeats (pairs fs) && no_repeats (pairs gs) then fields_conflict fs gs else root_unless (merged (struct fs m) (struct gs n))
+  first_conflict (struct fs m) (struct gs n) = if no_repeats (pairs fs) && no_repeats (pairs gs) then fields_conflict fs gs else root_unless (merged_beside fs gs)
   first_conflict t u = root_unless (columns_merged t u)
 
   -- the first place in the fields `fs`, each beside the field of its name in `gs`

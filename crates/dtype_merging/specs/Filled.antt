@@ -3,13 +3,15 @@
 
 -- The value that a reader makes of a value of a type to read it as another type (`ReadsAs`): the columns are in the
 -- order of the other type, and those that the value lacks are null. For example, the value `{b="x", a=1}` of
--- `{b=utf8, a=i32}`, read as `{a=i32, b=utf8?, c=u8?}`, is `{a=1, b="x", c=null}`.
-use Rattle.std.specs.Prelude.{ℕ, List, ◌&&◌, Option, Some, None, if◌then◌else◌, nat_eq}
+-- `{b=utf8, a=i32}`, read as `{a=i32, b=utf8?, c=u8?}`, is `{a=1, b="x", c=null}`. The value of a union stays a value of
+-- its variant, and is read as the type of that variant in the other union. The fields of a struct in which a name repeats
+-- are read one by one, each as the type at its position.
+use Rattle.std.specs.Prelude.{ℕ, List, ◌&&◌, ◌==◌, Option, Some, None, if◌then◌else◌, nat_eq}
 use Rattle.std.specs.Cmp.Lexicographic.{pointwise}
 use Rattle.dtype_types.specs.parts.Lookups.{first_named}
-use Rattle.dtype_types.specs.tree.Tree.{Tree, Fields, no_items, item, pairs, list, fixed_size_list, map_of, struct, extension}
-use Rattle.dtype_types.specs.values.Value.{Value, Values, no_values, value, Entries, no_entries, entry, Named, no_named, named, null_value, items, fixed_items, entries, record_of}
-use Rattle.dtype_merging.specs.MergedColumns.{no_repeats}
+use Rattle.dtype_types.specs.tree.Tree.{Tree, Fields, Variants, no_items, item, pairs, list, fixed_size_list, map_of, struct, union, extension}
+use Rattle.dtype_types.specs.values.Value.{Value, Values, no_values, value, Entries, no_entries, entry, Named, no_named, named, null_value, items, fixed_items, entries, record_of, tagged}
+use Rattle.dtype_merging.specs.MergedColumns.{no_repeats, tags_differ}
 
 abbrev pub each_value : (Value → Value) → Values → Values
 each_value g no_values = no_values
@@ -35,6 +37,11 @@ abbrev pub in_record : (Named → Named) → Value → Value
 in_record g (record_of nvs) = record_of (g nvs)
 in_record g v = v
 
+-- the value of a union with g applied to its tag and what it contains; other values are unchanged
+abbrev pub in_variant : (ℕ → Value → Value) → Value → Value
+in_variant g (tagged k v) = tagged k (g k v)
+in_variant g v = v
+
 -- the value of the first pair with this name
 abbrev pub value_named : Named → List ℕ → Option Value
 value_named no_named n = None
@@ -51,7 +58,8 @@ abbrev mutual
   filled (list t m) (list u n) v = in_items (λ x. filled t u x) v
   filled (fixed_size_list t j m) (fixed_size_list u k n) v = in_items (λ x. filled t u x) v
   filled (map_of t p x m) (map_of u q y n) v = in_entries (λ k. filled t u k) (λ w. filled p q w) v
-  filled (struct fs m) (struct gs n) v = if no_repeats (pairs fs) && no_repeats (pairs gs) then in_record (λ nvs. filled_pairs fs nvs gs) v else v
+  filled (struct fs m) (struct gs n) v = if no_repeats (pairs fs) && no_repeats (pairs gs) then in_record (λ nvs. filled_pairs fs nvs gs) v else in_record (λ nvs. filled_beside fs nvs gs) v
+  filled (union vs m) (union ws n) v = if tags_differ vs then in_variant (λ k x. filled_variant vs ws k x) v else v
   filled (extension i a t) (extension j b u) v = filled t u v
   filled t u v = v
 
@@ -59,3 +67,13 @@ abbrev mutual
   pub filled_pairs : Fields → Named → Fields → Named
   filled_pairs fs nvs no_items = no_named
   filled_pairs fs nvs (item n u _ gs) = named n (cell (λ t v. filled t u v) (first_named (pairs fs) n) (value_named nvs n)) (filled_pairs fs nvs gs)
+
+  -- the pairs, each with its value read as the type at its position
+  pub filled_beside : Fields → Named → Fields → Named
+  filled_beside (item m t _ fs) (named k v nvs) (item n u _ gs) = named k (filled t u v) (filled_beside fs nvs gs)
+  filled_beside fs nvs gs = nvs
+
+  -- what a value of the variant with the tag k contains, read as the type of the variant at the same position
+  pub filled_variant : Variants → Variants → ℕ → Value → Value
+  filled_variant (item m t f vs) (item n u g ws) k v = if k == f then filled t u v else filled_variant vs ws k v
+  filled_variant vs ws k v = v

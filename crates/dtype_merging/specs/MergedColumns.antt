@@ -2,26 +2,44 @@
 -- SPDX-FileCopyrightText: Copyright the Vortex contributors
 
 -- One type for two types with different columns: the fields of the first in their order, and then those of the second
--- that the first lacks. A field that one of the two lacks is nullable. Types without columns, and structs in which a
--- name repeats, are merged by nullability alone. That this is the least type as which both can be read is a theorem
--- (`ReadsAs`, and `laws`).
-use Rattle.std.specs.Prelude.{ℕ, List, [], ◌∷◌, ◌++◌, map, Bool, true, ◌&&◌, ◌==◌, Option, Some, None, is_none, if◌then◌else◌}
-use Rattle.std.specs.List.{filter}
+-- that the first lacks. A field that one of the two lacks is nullable. Unions, and structs in which a name repeats, have
+-- a common type only if their names and tags are the same in the same order; then their types are merged position by
+-- position. For example, `union(x={a=i32})` and `union(x={b=u8})` are merged to `union(x={a=i32?, b=u8?})`. Types without
+-- parts are merged by nullability alone. That this is the least type as which both can be read is a theorem (`ReadsAs`,
+-- and `laws`).
+use Rattle.std.specs.Prelude.{ℕ, List, [], ◌∷◌, ◌++◌, map, Bool, true, false, ◌&&◌, ◌==◌, Option, Some, None, is_none, if◌then◌else◌}
+use Rattle.std.specs.List.{filter, list_all}
 use Rattle.std.specs.Option.{option_map}
 use Rattle.std.specs.Str.{bytes_eq}
-use Rattle.std.proofs.Math.Bool.{beq}
+use Rattle.std.proofs.Math.Bool.{beq, not}
 use Rattle.dtype_base.specs.Nullability.{either}
 use Rattle.dtype_base.specs.declared.nullability.Nullability.{Nullability}
 use Rattle.dtype_base.specs.declared.nullability.Nullability.TheVariants.{NonNullable, Nullable}
+use Rattle.dtype_types.specs.equality.Equality.{same_tag}
 use Rattle.dtype_types.specs.nullability.Merged.{merged}
 use Rattle.dtype_types.specs.nullability.Nullable.{nullability, set_null}
-use Rattle.dtype_types.specs.parts.Lookups.{first_named}
-use Rattle.dtype_types.specs.tree.Tree.{Tree, Fields, no_items, item, pairs, fields, list, fixed_size_list, map_of, struct, extension}
+use Rattle.dtype_types.specs.parts.Lookups.{first_named, variant_names}
+use Rattle.dtype_types.specs.tree.Tree.{Tree, Fields, Variants, Items, Holder, Tag, no_items, item, pairs, triples, fields, list, fixed_size_list, map_of, struct, union, extension}
+use Rattle.dtype_merging.specs.ReadsAs.{tags}
 
 -- no two of the fields have the same name
 abbrev pub no_repeats : List (List ℕ × Tree) → Bool
 no_repeats [] = true
 no_repeats (f ∷ fs) = is_none (first_named fs f.0) && no_repeats fs
+
+-- no item of the list is the same as a later one, by the test `same`
+abbrev pub all_differ : {X : Type 0} → (X → X → Bool) → List X → Bool
+all_differ same [] = true
+all_differ same (x ∷ xs) = list_all (λ y. not (same x y)) xs && all_differ same xs
+
+-- no tag repeats
+abbrev pub tags_differ : Variants → Bool
+tags_differ vs = all_differ (λ f g. f == g) (tags vs)
+
+-- a union can have these variants: there is one, and no name and no tag repeats
+abbrev pub can_be_variants : Variants → Bool
+can_be_variants no_items = false
+can_be_variants vs = all_differ bytes_eq (variant_names (triples vs)) && tags_differ vs
 
 -- the tree, or `t` if there is none
 abbrev pub or_tree : Tree → Option Tree → Tree
@@ -59,6 +77,16 @@ map_with _ _ s n = None
 abbrev pub struct_with : Option (List (List ℕ × Tree)) → List (List ℕ × Tree) → Nullability → Option Tree
 struct_with ps more n = option_map (λ qs. struct (fields (qs ++ more)) n) ps
 
+-- the union of these variants; None if a union can't have them, which no valid union has
+abbrev pub union_with : Option Variants → Nullability → Option Tree
+union_with (Some vs) n = if can_be_variants vs then Some (union vs n) else None
+union_with None n = None
+
+-- the items `rest`, after one named n with the type t and the tag f; None if there is no such type, or no such items
+abbrev pub put_first : {h : Holder} → List ℕ → Tag h → Option Tree → Option (Items h) → Option (Items h)
+put_first n f (Some t) (Some rest) = Some (item n t f rest)
+put_first n f _ _ = None
+
 abbrev mutual
   -- the least type as which both types can be read, or None if there is none
   pub columns_merged : Tree → Tree → Option Tree
@@ -66,7 +94,8 @@ abbrev mutual
   columns_merged (fixed_size_list t j m) (fixed_size_list u k n) = if j == k then option_map (λ x. fixed_size_list x j (either m n)) (columns_merged t u) else None
   columns_merged (map_of t v x m) (map_of u w y n) = if beq x y then map_with (columns_merged t u) (columns_merged v w) x (either m n) else None
   columns_merged (struct fs m) (struct gs n) =
-      if no_repeats (pairs fs) && no_repeats (pairs gs) then struct_with (merged_by_name fs gs) (further (pairs fs) (pairs gs)) (either m n) else merged (struct fs m) (struct gs n)
+      if no_repeats (pairs fs) && no_repeats (pairs gs) then struct_with (merged_by_name fs gs) (further (pairs fs) (pairs gs)) (either m n) else option_map (λ hs. struct hs (either m n)) (merged_beside fs gs)
+  columns_merged (union vs m) (union ws n) = union_with (merged_beside vs ws) (either m n)
   columns_merged (extension i a t) (extension j b u) = if bytes_eq i j && bytes_eq a b then option_map (extension i a) (columns_merged t u) else None
   columns_merged t u = merged t u
 
@@ -74,3 +103,9 @@ abbrev mutual
   pub merged_by_name : Fields → Fields → Option (List (List ℕ × Tree))
   merged_by_name no_items gs = Some []
   merged_by_name (item n t _ fs) gs = prepend n (column t (λ u. columns_merged t u) (first_named (pairs gs) n)) (merged_by_name fs gs)
+
+  -- the items at equal positions, merged; None if their names or tags differ
+  pub merged_beside : {h : Holder} → Items h → Items h → Option (Items h)
+  merged_beside no_items no_items = Some no_items
+  merged_beside {h} (item m t f xs) (item n u g ys) = if bytes_eq m n && same_tag h f g then put_first m f (columns_merged t u) (merged_beside xs ys) else None
+  merged_beside _ _ = None

@@ -5,19 +5,25 @@
 -- by adding nulls for the columns that `t` lacks, and by putting the columns into the order of `u`. For example, the
 -- rows of `{b=utf8, a=i32}` can be read as `{a=i32, b=utf8?, c=u8?}`. This is how query engines read files of one table
 -- that were written with different schemas (DuckDB's `union_by_name`, Spark's `mergeSchema`). A column is found by its
--- name, so a struct in which a name repeats is compared as a whole.
+-- name, so a struct in which a name repeats is read only as structs with the same names in the same order, and each field
+-- as the field at its position. For example, `{a=i32, a={b=u8}}` can be read as `{a=i32?, a={c=bool?, b=u8}}`. A union is
+-- read only as unions with the same names and tags in the same order, and each variant as the variant at its position.
 use Rattle.std.specs.Prelude.{◌≡◌, ◌⊎◌, ℕ, List, Some, None, IsSomeAnd}
 use Rattle.dtype_base.specs.Distinct.{Distinct}
 use Rattle.dtype_base.specs.declared.nullability.Nullability.{Nullability}
 use Rattle.dtype_types.specs.nullability.Nullable.{IsNullable}
 use Rattle.dtype_types.specs.nullability.Sub.{Sub, Allows}
-use Rattle.dtype_types.specs.parts.Lookups.{field_names, first_named}
-use Rattle.dtype_types.specs.tree.Tree.{Tree, Fields, no_items, item, pairs, list, fixed_size_list, map_of, struct, extension}
+use Rattle.dtype_types.specs.parts.Lookups.{field_names, first_named, variant_tags}
+use Rattle.dtype_types.specs.tree.Tree.{Tree, Fields, Variants, Items, Holder, no_items, item, pairs, triples, list, fixed_size_list, map_of, struct, union, extension}
 use Rattle.dtype_types.specs.tree.Valid.{Valid}
 
 -- the names of the fields, in order
 abbrev pub names : Fields → List (List ℕ)
 names fs = field_names (pairs fs)
+
+-- the tags of the variants, in order
+abbrev pub tags : Variants → List ℕ
+tags vs = variant_tags (triples vs)
 
 -- no name repeats in either of the two
 abbrev pub NoRepeats : Fields → Fields → Type 0
@@ -29,14 +35,17 @@ OnlyFurther E fs gs = (n : List ℕ) (u : Tree) → first_named (pairs fs) n ≡
 
 -- Two types are alike if `R` is true of their nullabilities, their parts are alike, and each field of a struct has a
 -- field of its name in the other struct, in any order, whose type is alike. `E` is true of the types of the further
--- fields of the second. `L` is true of types without columns, and of structs in which a name repeats.
+-- fields of the second. Unions, and structs in which a name repeats, are alike if their variants or fields are, position
+-- by position. `L` is true of types without parts. It is also true of unions in which a tag repeats: they aren't valid,
+-- and the tag of a value doesn't tell its variant, so a reader can't change the value.
 abbrev mutual
   pub Alike : (Tree → Tree → Type 0) → (Nullability → Nullability → Type 0) → (Tree → Type 0) → Tree → Tree → Type 0
   Alike L R E (list t m) (list u n) = R m n × Alike L R E t u
   Alike L R E (fixed_size_list t j m) (fixed_size_list u k n) = (j ≡ k) × R m n × Alike L R E t u
   Alike L R E (map_of t v x m) (map_of u w y n) = (x ≡ y) × R m n × Alike L R E t u × Alike L R E v w
   Alike L R E (struct fs m) (struct gs n) =
-      (NoRepeats fs gs × R m n × EachFound L R E fs gs × OnlyFurther E fs gs) ⊎ ((¬ NoRepeats fs gs) × L (struct fs m) (struct gs n))
+      (NoRepeats fs gs × R m n × EachFound L R E fs gs × OnlyFurther E fs gs) ⊎ ((¬ NoRepeats fs gs) × R m n × EachBeside L R E fs gs)
+  Alike L R E (union vs m) (union ws n) = R m n × EachBeside L R E vs ws × (Distinct (tags vs) ⊎ L (union vs m) (union ws n))
   Alike L R E (extension i a t) (extension j b u) = (i ≡ j) × (a ≡ b) × Alike L R E t u
   Alike L R E t u = L t u
 
@@ -44,6 +53,12 @@ abbrev mutual
   pub EachFound : (Tree → Tree → Type 0) → (Nullability → Nullability → Type 0) → (Tree → Type 0) → Fields → Fields → Type 0
   EachFound L R E no_items gs = Unit {0}
   EachFound L R E (item n t _ fs) gs = IsSomeAnd (first_named (pairs gs) n) (λ u. Alike L R E t u) × EachFound L R E fs gs
+
+  -- the items have the same names and tags in the same order, and the two types at each position are alike
+  pub EachBeside : (Tree → Tree → Type 0) → (Nullability → Nullability → Type 0) → (Tree → Type 0) → {h : Holder} → Items h → Items h → Type 0
+  EachBeside L R E no_items no_items = Unit {0}
+  EachBeside L R E (item m t f xs) (item n u g ys) = (m ≡ n) × (f ≡ g) × Alike L R E t u × EachBeside L R E xs ys
+  EachBeside L R E _ _ = ⊥
 
 -- `t` can be read as `u`: `u` is nullable in each place in which `t` is, and its further columns are nullable
 abbrev pub ReadsAs : Tree → Tree → Type 0

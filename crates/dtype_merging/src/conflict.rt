@@ -38,10 +38,10 @@ pub struct MergeConflict<'a> {
 /// into structs, lists and fixed-size lists. If two maps, two unions, two extensions, or two structs in which a name
 /// repeats can't be merged, the path ends there.
 ///
-/// The Rust library has no such call.
+/// vortex-array has no such call.
 ///
-/// The call takes about as long as `merge_columns`. It allocates the path, and the merged types of maps and extensions,
-/// which it drops.
+/// The call takes about as long as `merge_columns`. It allocates the path, and the merged types of maps, unions,
+/// extensions, and structs in which a name repeats, which it drops.
 ///
 /// # Errors
 ///

@@ -22,8 +22,8 @@
 //! - `Filled`: the value that a reader makes of a value of one type to read it as another.
 //! - `Conflicts`: the first place at which two types can't be merged.
 //!
-//! Two kinds of types with parts are merged by nullability alone, so that two of them with different columns inside have
-//! no common type: unions, and structs in which a name repeats, because their columns can't be told apart by name.
+//! Unions have a common type only if they have the same names and tags in the same order, and so have structs in which a
+//! name repeats, because their columns can't be told apart by name. Their types are merged position by position.
 //!
 //! Only private contracts cite `specs/private`. `proofs/lemmas` contains the lemmas that callers may cite. `laws` states
 //! the theorems about the definitions.

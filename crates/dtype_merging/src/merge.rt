@@ -1,19 +1,25 @@
 // SPDX-License-Identifier: Apache-2.0
 // SPDX-FileCopyrightText: Copyright the Vortex contributors
 
-ghost use Rattle.std.specs.Prelude.{◌≡◌, ◌&&◌, ◌++◌, IfNone, IfOk, IfSome};
+ghost use Rattle.std.specs.Prelude.{◌≡◌, ◌&&◌, ◌++◌, IfNone, IfOk, IfSome, Some, length, map};
+ghost use Rattle.std.specs.List.{zip};
 ghost use Rattle.std.specs.Option.{option_map};
 ghost use Rattle.dtype_base.specs.Errors.{Makes};
-ghost use Rattle.dtype_types.specs.tree.TreeOf.{children, extension_tree, fields_of, map_shown, shown, tree};
+ghost use Rattle.dtype_types.specs.parts.Lookups.{variant_names, variant_tags};
+ghost use Rattle.dtype_types.specs.tree.Tree.{struct, variants};
+ghost use Rattle.dtype_types.specs.tree.TreeOf.{children, extension_tree, fields_of, map_shown, shown, tree, variant_list, variants_of};
 ghost use Rattle.dtype_types.specs.tree.Valid.{Valid};
 ghost use Rattle.dtype_types.specs.values.Value.{Of, Value};
 ghost use Rattle.dtype_merging.specs.Filled.{filled};
-ghost use Rattle.dtype_merging.specs.MergedColumns.{column, columns_merged, further, merged_by_name, no_repeats, struct_with};
+ghost use Rattle.dtype_merging.specs.MergedColumns.{column, columns_merged, further, merged_beside, merged_by_name, no_repeats, struct_with, union_with};
 ghost use Rattle.dtype_merging.specs.ReadsAs.{HaveNoReader, IsLeastReader};
-ghost use Rattle.dtype_merging.specs.private.Collected.{collected, maps_merged};
+ghost use Rattle.dtype_merging.specs.private.Collected.{collected, maps_merged, types_merged};
 
-use dtype_base::{FieldName, Nullability, VortexResult};
-use dtype_types::{DType, ExtDTypeRef, FieldDType, MapDType, StructFields, merge_nullability};
+use dtype_base::{FieldName, Nullability, VortexError, VortexResult};
+use dtype_types::{
+    DType, DTypeIter, ExtDTypeRef, FieldDType, MapDType, StructFields, UnionVariants,
+    merge_nullability,
+};
 use std::alloc::Global;
 
 /// Returns the least type as which both types can be read, or `None` if there is none. A program that reads several
@@ -24,18 +30,22 @@ use std::alloc::Global;
 ///   that both have is merged by these rules. A field that one of the two lacks is nullable.
 /// - Lists, fixed-size lists of the same size, maps with the same flag, and extensions with the same id and the same
 ///   metadata are merged by their parts. Maps whose merged key type would be nullable can't be merged.
-/// - All other types are merged as `merge_nullability` merges them. So are structs in which a name repeats, because
-///   their columns can't be told apart by name.
+/// - Unions with the same names and tags in the same order are merged variant by variant. Structs in which a name repeats
+///   are merged field by field, if the names are the same in the same order, because their columns can't be told apart by
+///   name.
+/// - All other types are merged as `merge_nullability` merges them.
 /// - In each place, at every depth, the merged type is nullable if one of the two types is nullable there.
 ///
-/// For example, merging `{a=i32, b=utf8}` and `{c=u8, a=i32?}` returns `{a=i32?, b=utf8?, c=u8?}`. Merging `{a=i32}` and
-/// `{a=utf8}` returns `None`, and `merge_conflict` returns the path `a` and the two types there.
+/// For example, merging `{a=i32, b=utf8}` and `{c=u8, a=i32?}` returns `{a=i32?, b=utf8?, c=u8?}`. Merging
+/// `union(x={a=i32})` and `union(x={b=u8})` returns `union(x={a=i32?, b=u8?})`. Merging `{a=i32}` and `{a=utf8}` returns
+/// `None`, and `merge_conflict` returns the path `a` and the two types there.
 ///
-/// The Rust library has no such call.
+/// vortex-array has no such call.
 ///
 /// The call looks each name of a struct up twice: in the struct itself, to find out whether a name repeats, and in the
-/// other struct. Apart from these lookups, its time grows with the sizes of the two types. It copies the types of fields
-/// that only one of the two has, and these copies share their fields with the originals.
+/// other struct. For a merged union it makes hash sets of the names and of the tags. Apart from these lookups and sets, its
+/// time grows with the sizes of the two types. It copies the types of fields that only one of the two has, and these
+/// copies share their fields with the originals.
 ///
 /// # Errors
 ///
@@ -77,8 +87,11 @@ fn merge(alloc: Global, a: &DType, b: &DType) -> VortexResult<Option<DType>>
             if have_no_repeats(fields, others) {
                 merge_structs(alloc, fields, others, *m | *n)
             } else {
-                merge_nullability(alloc, a, b)
+                merge_in_order(alloc, fields, others, *m | *n)
             }
+        }
+        (DType::Union(variants, m), DType::Union(others, n)) => {
+            merge_unions(alloc, variants, others, *m | *n)
         }
         (DType::Extension(t), DType::Extension(u)) => merge_extensions(alloc, t, u),
         _ => merge_nullability(alloc, a, b),
@@ -148,6 +161,90 @@ fn merge_structs(
         }
         None => Ok(None),
     }
+}
+
+// Returns the merged type of two structs, in one of which a name repeats. Its outer nullability is `n`.
+#[cycle(merging)]
+fn merge_in_order(
+    alloc: Global,
+    a: &StructFields,
+    b: &StructFields,
+    n: Nullability,
+) -> VortexResult<Option<DType>>
+    ensures { Makes result (λ r. option_map tree r
+        ≡ option_map (λ fs. struct fs n) (merged_beside (fields_of a.now) (fields_of b.now))) }
+{
+    if a.names() != b.names() {
+        return Ok(None);
+    }
+    match merge_types(alloc, a.fields(), b.fields())? {
+        Some(dtypes) => {
+            let names = a.names().try_clone(alloc)?;
+            Ok(Some(DType::Struct(StructFields::new(alloc, names, dtypes)?, n)))
+        }
+        None => Ok(None),
+    }
+}
+
+// Returns the merged type of two unions. Its outer nullability is `n`.
+#[cycle(merging)]
+fn merge_unions(
+    alloc: Global,
+    a: &UnionVariants,
+    b: &UnionVariants,
+    n: Nullability,
+) -> VortexResult<Option<DType>>
+    ensures { Makes result (λ r. option_map tree r ≡ union_with (merged_beside (variants_of a.now) (variants_of b.now)) n) }
+{
+    if a.names() != b.names() || a.type_ids() != b.type_ids() {
+        return Ok(None);
+    }
+    match merge_types(alloc, a.variants(), b.variants())? {
+        Some(dtypes) => union_of(alloc, a, dtypes, n),
+        None => Ok(None),
+    }
+}
+
+// Returns the union with the names and the tags of these variants, and with these types, which are equally many. Returns
+// `None` if there is no such union. There is one for the variants of every union that a caller can make.
+fn union_of(
+    alloc: Global,
+    like: &UnionVariants,
+    dtypes: Vec<DType>,
+    n: Nullability,
+) -> VortexResult<Option<DType>>
+    requires { length dtypes.items ≡ length (variant_list like.now) }
+    ensures { Makes result (λ r. option_map tree r ≡ union_with (Some (variants
+        (zip (variant_names (variant_list like.now)) (zip (map tree dtypes.items) (variant_tags (variant_list like.now)))))) n) }
+{
+    let names = like.names().try_clone(alloc)?;
+    let type_ids = Vec::from_slice(alloc, like.type_ids())?;
+    match UnionVariants::try_new(alloc, names, dtypes, type_ids) {
+        Ok(made) => Ok(Some(DType::Union(made, n))),
+        Err(VortexError::UnionEmpty) => Ok(None),
+        Err(VortexError::UnionTagsRepeat) => Ok(None),
+        Err(VortexError::UnionNamesRepeat) => Ok(None),
+        Err(_) => Err(VortexError::OutOfMemory),
+    }
+}
+
+// Returns the types at equal positions, merged. Returns `None` if two of them can't be merged.
+#[cycle(merging)]
+fn merge_types(
+    alloc: Global,
+    a: DTypeIter<'_>,
+    b: DTypeIter<'_>,
+) -> VortexResult<Option<Vec<DType>>>
+    ensures { Makes result (λ r. option_map (λ v. map tree v.items) r ≡ types_merged (map tree a.entry) (map tree b.entry)) }
+{
+    let mut dtypes = Vec::with_capacity(alloc, a.len())?;
+    for (dtype, other) in a.zip(b) {
+        match merge(alloc, dtype, other)? {
+            Some(merged) => dtypes.push(merged)?,
+            None => return Ok(None),
+        }
+    }
+    Ok(Some(dtypes))
 }
 
 // Returns the fields of the first, each merged with the field of its name in the second. Returns `None` if two such

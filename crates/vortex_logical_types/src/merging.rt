@@ -25,8 +25,10 @@ use std::alloc::Global;
 ///   both have is merged by these rules. A field that only one of the two has is nullable.
 /// - Lists, fixed-size lists of the same size, maps with the same `keys_sorted`, and extensions with the same id and
 ///   the same metadata are merged by their parts. Maps whose merged key type would be nullable can't be merged.
-/// - All other types are merged as `vlt_dtype_merge_nullability` merges them. So are structs in which a name repeats,
-///   because their columns can't be told apart by name.
+/// - Unions with the same names and tags in the same order are merged variant by variant. Structs in which a name
+///   repeats are merged field by field, if both have the same names in the same order, because their columns can't be
+///   told apart by name.
+/// - All other types are merged as `vlt_dtype_merge_nullability` merges them.
 /// - A type that isn't an extension is nullable if one of the two is, at every depth.
 ///
 /// For example, it is `{a=i32, b=utf8?}` for `{a=i32}` and `{b=utf8, a=i32}`. Returns 1 if there is no such type.
@@ -54,9 +56,9 @@ pub extern "C" fn vlt_core_dtype_merge_columns(
 /// Stores in `path` the path to the first place at which two types can't be merged by `vlt_dtype_merge_columns`, in
 /// `left` the type at this place in the first type, and in `right` the type at this place in the second. The first
 /// place is the first one in the order of the fields of the first type. A path leads only into structs, lists and
-/// fixed-size lists, so if the keys or values of two maps can't be merged, it is the path to the maps. For example,
-/// the call stores `customer.id`, `u64` and `utf8` for `{customer={id=u64}}` and `{customer={id=utf8}}`. Returns 1 if
-/// the types can be merged.
+/// fixed-size lists, so if the keys or values of two maps can't be merged, it is the path to the maps. The same is
+/// true of unions, extensions, and structs in which a name repeats. For example, the call stores `customer.id`, `u64`
+/// and `utf8` for `{customer={id=u64}}` and `{customer={id=utf8}}`. Returns 1 if the types can be merged.
 #[unsafe(no_mangle)]
 pub extern "C" fn vlt_core_dtype_merge_conflict(
     alloc: Global,

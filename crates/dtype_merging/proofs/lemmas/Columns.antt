@@ -19,7 +19,7 @@ use Rattle.dtype_types.proofs.lemmas.TreeLaws.{pairs_of}
 use Rattle.dtype_merging.specs.ReadsAs.{ReadsAs, names}
 use Rattle.dtype_merging.specs.MergedColumns.{further, made_nullable, no_repeats, or_tree}
 use Rattle.dtype_merging.proofs.lemmas.Finding.{Pairs, agrees_rest, by_name, by_option, by_place, finds_first, finds_later, no_repeats_rest, true_both}
-use Rattle.dtype_merging.proofs.lemmas.Order.{of_extension, of_fixed, of_list, of_map, of_struct}
+use Rattle.dtype_merging.proofs.lemmas.Order.{of_extension, of_fixed, of_list, of_map, of_struct, of_union}
 use Rattle.dtype_merging.proofs.lemmas.Reading.{reads_kind, sub_kind, sub_reads}
 use Rattle.dtype_merging.proofs.lemmas.Repeats.{distinct_tested, tested_distinct}
 
@@ -49,7 +49,10 @@ made_least (decimal p m) (decimal q n) h e = record { erased = h.erased; nullabl
 made_least (utf8 m) (utf8 n) h e = record { erased = h.erased; nullable = λ z. e }
 made_least (binary m) (binary n) h e = record { erased = h.erased; nullable = λ z. e }
 made_least (variant m) (variant n) h e = record { erased = h.erased; nullable = λ z. e }
-made_least (union vs m) (union ws n) h e = record { erased = h.erased; nullable = (λ z. e, h.nullable.1) }
+made_least (union vs m) y h e =
+    let i = of_union Sub Allows IsNullable sub_kind vs m y h in
+    let at = subst IsNullable i.2 e in
+    subst (ReadsAs (union vs Nullable)) (sym i.2) (λ z. at, i.3.1, elim i.3.2 [ inl d ↦ inl d | inr s ↦ inr (record { erased = s.erased; nullable = (λ z. at, s.nullable.1) }) ])
 made_least (list t m) y h e =
     let i = of_list Sub Allows IsNullable sub_kind t m y h in
     let at = subst IsNullable i.2 e in subst (ReadsAs (list t Nullable)) (sym i.2) (λ z. at, i.4)
@@ -64,7 +67,7 @@ made_least (struct fs m) y h e =
     let at = subst IsNullable i.2 e in
     subst (ReadsAs (struct fs Nullable)) (sym i.2) (elim i.3 [
       | inl s ↦ inl (s.0, λ z. at, s.2, s.3)
-      | inr s ↦ inr (s.0, record { erased = s.1.erased; nullable = (λ z. at, s.1.nullable.1) })
+      | inr s ↦ inr (s.0, λ z. at, s.2)
     ])
 made_least (extension i b t) y h e =
     let p = of_extension Sub Allows IsNullable sub_kind i b t y h in

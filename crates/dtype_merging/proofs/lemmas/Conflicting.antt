@@ -3,13 +3,12 @@
 
 -- The first place at which two types can't be merged: there is one exactly if they can't be merged, and it leads to a type
 -- in both, which can't be merged whatever is inside of them.
-use Rattle.std.proofs.Common.{◌≡◌, ◌≢◌, ◌∙◌, ◌==◌, ◌&&◌, ℕ, List, [], ◌∷◌, Bool, true, false, Option, Some, None, IsSome, if◌then◌else◌, option_and_then, refl, sym, ap, subst}
+use Rattle.std.proofs.Common.{◌≡◌, ◌∙◌, ◌==◌, ◌&&◌, ℕ, List, [], ◌∷◌, Bool, true, false, Option, Some, None, IsSome, if◌then◌else◌, option_and_then, refl, sym, ap, subst}
 use Rattle.std.specs.Option.{is_none, is_some, option_map}
 use Rattle.std.proofs.lemmas.Bool.{eq-eqb, false≢true}
 use Rattle.std.proofs.lemmas.Option.{same_Some}
 use Rattle.dtype_base.specs.Nullability.{either}
 use Rattle.dtype_base.specs.declared.nullability.Nullability.{Nullability}
-use Rattle.dtype_types.specs.nullability.Merged.{merged}
 use Rattle.dtype_types.specs.parts.Lookups.{first_named}
 use Rattle.dtype_types.specs.tree.Tree.{Tree, Fields, no_items, item, pairs, list, fixed_size_list, struct}
 use Rattle.dtype_paths.specs.Along.{along}
@@ -17,7 +16,7 @@ use Rattle.dtype_paths.specs.declared.field.Field.{Field}
 use Rattle.dtype_paths.specs.declared.field.Field.TheVariants.{Name, ElementType}
 use Rattle.dtype_paths.proofs.lemmas.Walks.{At-along}
 use Rattle.dtype_merging.specs.Conflicts.{ClashesHere, ConflictsAt, fields_conflict, first_conflict, first_of, root_unless}
-use Rattle.dtype_merging.specs.MergedColumns.{column, columns_merged, further, merged_by_name, no_repeats, prepend, struct_with}
+use Rattle.dtype_merging.specs.MergedColumns.{column, columns_merged, further, merged_beside, merged_by_name, no_repeats, prepend, struct_with}
 use Rattle.dtype_merging.proofs.lemmas.Finding.{Pairs, agrees_rest, by_bool, by_option, finds_first, no_repeats_rest, both_true}
 use Rattle.dtype_merging.proofs.lemmas.Merging.{pick_false, pick_true}
 use Rattle.dtype_merging.proofs.lemmas.Repeats.{repeats_tested}
@@ -32,7 +31,7 @@ some_mapped : {X Y : Type 0} (f : X → Y) (o : Option X) → is_some (option_ma
 some_mapped f None = refl
 some_mapped f (Some x) = refl
 
-rooted : (o : Option Tree) → is_none (root_unless o) ≡ is_some o
+rooted : {X : Type 0} (o : Option X) → is_none (root_unless o) ≡ is_some o
 rooted None = refl
 rooted (Some c) = refl
 
@@ -67,9 +66,9 @@ mutual
   settled (fixed_size_list t j m) (fixed_size_list u k n) =
       picked (j == k) _ [] _ (none_mapped _ (first_conflict t u) ∙ settled t u ∙ sym (some_mapped _ (columns_merged t u)))
   settled (struct fs m) (struct gs n) =
-      structs_picked (no_repeats (pairs fs) && no_repeats (pairs gs)) (fields_conflict fs gs) (root_unless (merged (struct fs m) (struct gs n))) _ _
+      structs_picked (no_repeats (pairs fs) && no_repeats (pairs gs)) (fields_conflict fs gs) (root_unless (merged_beside fs gs)) _ _
       (fields_settled fs gs ∙ sym (some_mapped _ (merged_by_name fs gs)))
-      (rooted (merged (struct fs m) (struct gs n)))
+      (rooted (merged_beside fs gs) ∙ sym (some_mapped _ (merged_beside fs gs)))
   settled t u = rooted (columns_merged t u)
 
   fields_settled : (fs gs : Fields) → is_none (fields_conflict fs gs) ≡ is_some (merged_by_name fs gs)
@@ -97,7 +96,7 @@ mapped : {X Y : Type 0} (f : X → Y) (o : Option X) (y : Y) → option_map f o 
 mapped f (Some x) y e = (x, refl, same_Some (f x) y e)
 mapped f None y e = cc
 
-root_at : (o : Option Tree) (p : List Field) → root_unless o ≡ Some p → (o ≡ None) × ([] ≡ p)
+root_at : {X : Type 0} (o : Option X) (p : List Field) → root_unless o ≡ Some p → (o ≡ None) × ([] ≡ p)
 root_at None p e = (refl, same_Some [] p e)
 root_at (Some c) p e = cc
 
@@ -139,13 +138,13 @@ mutual
       (λ same. false≢true (sym other ∙ eq-eqb j k same)))
   conflict_at (struct fs m) (struct gs n) p e =
       let b = no_repeats (pairs fs) && no_repeats (pairs gs) in
-      let s = merged (struct fs m) (struct gs n) in
+      let s = merged_beside fs gs in
       by_bool b
       (λ d. in_struct fs gs m n p (field_at fs gs p (both_true (no_repeats (pairs fs)) (no_repeats (pairs gs)) d).0 (sym (pick_true b (fields_conflict fs gs) (root_unless s) d) ∙ e)))
       (λ d.
       let r = root_at s p (sym (pick_false b (fields_conflict fs gs) (root_unless s) d) ∙ e) in
       at_root (struct fs m) (struct gs n) p r.1
-      (repeats_tested fs gs d, pick_false b (struct_with (merged_by_name fs gs) (further (pairs fs) (pairs gs)) (either m n)) s d ∙ r.0))
+      (repeats_tested fs gs d, pick_false b (struct_with (merged_by_name fs gs) (further (pairs fs) (pairs gs)) (either m n)) (option_map (λ hs. struct hs (either m n)) s) d ∙ ap (option_map (λ hs. struct hs (either m n))) r.0))
   conflict_at t u p e = let r = root_at (columns_merged t u) p e in at_root t u p r.1 r.0
 
   field_at : (fs gs : Fields) (p : List Field) → no_repeats (pairs fs) ≡ true → fields_conflict fs gs ≡ Some p → FieldPlaced fs gs p

@@ -14,9 +14,11 @@ use Rattle.std.proofs.lemmas.Slice.Eq.{bytes_eq-Decides}
 use Rattle.dtype_base.specs.Nullability.{either}
 use Rattle.dtype_base.specs.declared.nullability.Nullability.TheVariants.{Nullable}
 use Rattle.dtype_types.specs.nullability.Merged.{merge, merge_items, merged}
+use Rattle.dtype_types.specs.nullability.Nullable.{IsNullable}
+use Rattle.dtype_types.specs.nullability.Sub.{Sub, Allows}
 use Rattle.dtype_types.specs.parts.Lookups.{first_named}
 use Rattle.dtype_types.specs.tree.Erase.{erase, erase_items}
-use Rattle.dtype_types.specs.tree.Tree.{Tree, Fields, no_items, item, pairs, fields, list, fixed_size_list, map_of, struct, extension, rest_of}
+use Rattle.dtype_types.specs.tree.Tree.{Tree, Fields, Holder, Items, no_items, item, pairs, fields, list, fixed_size_list, map_of, struct, union, extension, first_tag, rest_of}
 use Rattle.dtype_types.specs.tree.TreeOf.{tree}
 use Rattle.dtype_types.specs.tree.Valid.{Valid, ValidItems}
 use Rattle.dtype_types.specs.values.Value.{Of, Value}
@@ -26,12 +28,14 @@ use Rattle.dtype_types.proofs.lemmas.ValidParts.{fields_of_pairs}
 use Rattle.dtype_types.proofs.lemmas.Validity.{set_valid}
 use Rattle.dtype_merging.specs.Filled.{filled}
 use Rattle.dtype_merging.specs.ReadsAs.{HaveNoReader, IsLeastReader, ReadsAs, SameColumns}
-use Rattle.dtype_merging.specs.MergedColumns.{column, columns_merged, further, made_nullable, map_of_key, map_with, merged_by_name, no_repeats, prepend, struct_with}
+use Rattle.dtype_merging.specs.MergedColumns.{can_be_variants, column, columns_merged, further, made_nullable, map_of_key, map_with, merged_beside, merged_by_name, no_repeats, prepend, struct_with, union_with}
+use Rattle.dtype_merging.proofs.lemmas.Beside.{beside_tags, beside_variants, items_of, name_or, of_items, type_or}
 use Rattle.dtype_merging.proofs.lemmas.Columns.{further_kept, further_left, made_set}
 use Rattle.dtype_merging.proofs.lemmas.Filling.{of_filled}
 use Rattle.dtype_merging.proofs.lemmas.Finding.{Agrees, Pairs, agrees_first, agrees_rest, both_true, by_bool, by_name, by_option, finds_first, finds_later, no_repeats_rest, true_both}
-use Rattle.dtype_merging.proofs.lemmas.Merging.{above, field_valid, if_some, least, map_made, mapped_some, pick_false, pick_true, plain_merged, prepended}
+use Rattle.dtype_merging.proofs.lemmas.Merging.{above, above_beside, field_valid, if_some, least, map_made, mapped_some, pick_false, pick_true, plain_merged, prepended, union_made}
 use Rattle.dtype_merging.proofs.lemmas.Reading.{erased_kind, erased_lacks, reads_back, reads_more}
+use Rattle.dtype_merging.proofs.lemmas.Variants.{also_variants, tested_variants}
 
 -- ---- valid types
 
@@ -63,11 +67,21 @@ mutual
       let test = no_repeats (pairs fs) && no_repeats (pairs gs) in
       let more = further (pairs fs) (pairs gs) in
       let named = struct_with (merged_by_name fs gs) more (either m n) in
+      let beside = option_map (λ hs. struct hs (either m n)) (merged_beside fs gs) in
       by_bool test
       (λ tested.
-      let r = mapped_some (λ qs. struct (fields (qs ++ more)) (either m n)) (merged_by_name fs gs) c (sym (pick_true test named (merged (struct fs m) (struct gs n)) tested) ∙ e) in
+      let r = mapped_some (λ qs. struct (fields (qs ++ more)) (either m n)) (merged_by_name fs gs) c (sym (pick_true test named beside tested) ∙ e) in
       subst Valid r.2 (joined_valid r.0 more (merge_valid_rows fs gs r.0 r.1 h g) (further_valid (pairs fs) (pairs gs) (subst ValidItems (sym (fields_of_pairs gs)) g))))
-      (λ differ. merged_valid (struct fs m) (struct gs n) c (sym (pick_false test named (merged (struct fs m) (struct gs n)) differ) ∙ e) h g)
+      (λ differ.
+      let r = mapped_some (λ hs. struct hs (either m n)) (merged_beside fs gs) c (sym (pick_false test named beside differ) ∙ e) in
+      subst Valid r.2 (merge_valid_beside fs gs r.0 r.1 h g))
+  merge_valid (union vs m) (union ws n) c e h g =
+      let r = union_made (merged_beside vs ws) (either m n) c e in
+      let up = (above_beside vs ws r.0 r.1).0 in
+      subst Valid r.3 (
+        also_variants vs r.0 (beside_variants Sub Allows IsNullable vs r.0 up) (beside_tags Sub Allows IsNullable vs r.0 up) h.0,
+        merge_valid_beside vs ws r.0 r.1 h.1 g.1,
+      )
   merge_valid (extension i a t) (extension j b u) c e h g =
       let s = if_some (bytes_eq i j && bytes_eq a b) (option_map (extension i a) (columns_merged t u)) c e in
       let r = mapped_some (extension i a) (columns_merged t u) c s.1 in subst Valid r.2 (h.0, merge_valid t u r.0 r.1 h.1 g.1)
@@ -82,6 +96,13 @@ mutual
       (λ none. subst Valid (same_Some (made_nullable t) x (sym (ap (column t (λ u. columns_merged t u)) none) ∙ r.2)) (made_valid t h.0))
       (λ u some. merge_valid t u x (sym (ap (column t (λ u. columns_merged t u)) some) ∙ r.2) h.0 (field_valid gs n u g some)) in
       subst (λ qs. ValidItems (fields qs)) r.4 (here, merge_valid_rows fs gs r.1 r.3 h.1 g)
+
+  merge_valid_beside : {h : Holder} (xs ys zs : Items h) → merged_beside xs ys ≡ Some zs → ValidItems xs → ValidItems ys → ValidItems zs
+  merge_valid_beside no_items no_items zs e p q = subst ValidItems (same_Some no_items zs e) tt
+  merge_valid_beside (item m t f xs) (item n u g ys) zs e p q =
+      let r = items_of m t f xs n u g ys zs e in subst ValidItems r.6 (merge_valid t u r.0 r.4 p.0 q.0, merge_valid_beside xs ys r.1 r.5 p.1 q.1)
+  merge_valid_beside no_items (item n u g ys) zs e p q = cc
+  merge_valid_beside (item m t f xs) no_items zs e p q = cc
 
 -- ---- types that differ in nullabilities alone
 
@@ -115,15 +136,22 @@ mutual
       let test = no_repeats (pairs fs) && no_repeats (pairs gs) in
       let more = further (pairs fs) (pairs gs) in
       let named = struct_with (merged_by_name fs gs) more (either m n) in
+      let beside = option_map (λ hs. struct hs (either m n)) (merged_beside fs gs) in
       let whole = merge_items either fs gs in
       by_bool test
       (λ tested.
       let d = both_true (no_repeats (pairs fs)) (no_repeats (pairs gs)) tested in
       let none : more ≡ [] = further_none (pairs fs) (pairs gs) (λ k u is. by_option (first_named (pairs fs) k) (λ lacks. let z = erased_lacks fs gs k f lacks in cc) (λ t at. (t, at))) in
-      pick_true test named (merged (struct fs m) (struct gs n)) tested ∙ ap (λ r. struct_with r more (either m n)) (agree_rows fs gs gs f d.1 (λ k u is. is) h g)
+      pick_true test named beside tested ∙ ap (λ r. struct_with r more (either m n)) (agree_rows fs gs gs f d.1 (λ k u is. is) h g)
       ∙ ap (λ qs. Some (struct (fields (pairs whole ++ qs)) (either m n))) none ∙ ap (λ qs. Some (struct (fields qs) (either m n))) (append-nil (pairs whole)) ∙ ap (λ hs. Some (struct hs (either m n))) (fields_of_pairs whole))
-      (λ differ. pick_false test named (merged (struct fs m) (struct gs n)) differ ∙ under_some either (struct fs m) (struct gs n) e)
+      (λ differ. pick_false test named beside differ ∙ ap (option_map (λ hs. struct hs (either m n))) (agree_beside fs gs f h g))
   agree (struct fs m) b e h g = let k = erased_kind (struct fs m) b e in cc
+  agree (union vs m) (union ws n) e h g =
+      let f : erase_items vs ≡ erase_items ws = cc in
+      let whole = merge_items either vs ws in
+      let valid = merged_valid (union vs m) (union ws n) (union whole (either m n)) (under_some either (union vs m) (union ws n) e) h g in
+      ap (λ o. union_with o (either m n)) (agree_beside vs ws f h.1 g.1) ∙ pick_true (can_be_variants whole) (Some (union whole (either m n))) None (tested_variants whole valid.0)
+  agree (union vs m) b e h g = let k = erased_kind (union vs m) b e in cc
   agree (extension i a t) (extension j b u) e h g =
       let f : erase t ≡ erase u = cc in
       let id : i ≡ j = cc in
@@ -145,6 +173,13 @@ mutual
       let at : first_named (pairs hs) n ≡ Some u = sym (ap (first_named (pairs hs)) name) ∙ agrees_first k u (pairs gs) (pairs hs) a in
       ap (λ o. prepend n (column t (λ u. columns_merged t u) o) (merged_by_name fs hs)) at ∙ ap (λ o. prepend n o (merged_by_name fs hs)) (agree t u f h.0 g.0)
       ∙ ap (prepend n (Some (merge either t u))) (agree_rows fs gs hs (ap rest_of e) r.1 (agrees_rest k u (pairs gs) (pairs hs) r.0 a) h.1 g.1)
+
+  agree_beside : {h : Holder} (xs ys : Items h) → erase_items xs ≡ erase_items ys → ValidItems xs → ValidItems ys → merged_beside xs ys ≡ Some (merge_items either xs ys)
+  agree_beside no_items no_items e p q = refl
+  agree_beside (item m t f xs) (item n u g ys) e p q =
+      of_items m t f xs n u g ys (merge either t u) (merge_items either xs ys) (ap (name_or m) e) (ap (first_tag f) e) (agree t u (ap (type_or (erase t)) e) p.0 q.0) (agree_beside xs ys (ap rest_of e) p.1 q.1)
+  agree_beside no_items (item n u g ys) e p q = cc
+  agree_beside (item m t f xs) no_items e p q = cc
 
 pub as_by_nullability : (a b : Tree) → Valid a → Valid b → erase a ≡ erase b → columns_merged a b ≡ merged a b
 as_by_nullability a b h g e = agree a b e h g ∙ sym (under_some either a b e)

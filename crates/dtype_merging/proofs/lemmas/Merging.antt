@@ -19,7 +19,7 @@ use Rattle.dtype_types.specs.nullability.Merged.{merge, merged}
 use Rattle.dtype_types.specs.nullability.Nullable.{IsNullable, nullability}
 use Rattle.dtype_types.specs.nullability.Sub.{Sub, Allows}
 use Rattle.dtype_types.specs.parts.Lookups.{first_named}
-use Rattle.dtype_types.specs.tree.Tree.{Tree, Fields, no_items, item, pairs, fields, list, fixed_size_list, map_of, struct, extension}
+use Rattle.dtype_types.specs.tree.Tree.{Tree, Fields, Variants, Holder, Items, no_items, item, pairs, fields, list, fixed_size_list, map_of, struct, union, extension}
 use Rattle.dtype_types.specs.tree.Valid.{Valid, ValidItems}
 use Rattle.dtype_types.proofs.lemmas.Bounds.{upwards}
 use Rattle.dtype_types.proofs.lemmas.JoinedFields.{named_behind}
@@ -27,13 +27,15 @@ use Rattle.dtype_types.proofs.lemmas.Merging.{merged_least, under_some}
 use Rattle.dtype_types.proofs.lemmas.NullValues.{allows_either}
 use Rattle.dtype_types.proofs.lemmas.Validity.{type_named_valid}
 use Rattle.dtype_types.proofs.lemmas.ValidParts.{fields_of_pairs}
-use Rattle.dtype_merging.specs.ReadsAs.{EachFound, NoRepeats, OnlyFurther, ReadsAs}
-use Rattle.dtype_merging.specs.MergedColumns.{column, columns_merged, further, made_nullable, map_of_key, map_with, merged_by_name, no_repeats, prepend, struct_with}
+use Rattle.dtype_merging.specs.ReadsAs.{EachBeside, EachFound, NoRepeats, OnlyFurther, ReadsAs, tags}
+use Rattle.dtype_merging.specs.MergedColumns.{can_be_variants, column, columns_merged, further, made_nullable, map_of_key, map_with, merged_beside, merged_by_name, no_repeats, prepend, struct_with, union_with}
+use Rattle.dtype_merging.proofs.lemmas.Beside.{beside_names, beside_tags, beside_variants, items_of, of_items}
 use Rattle.dtype_merging.proofs.lemmas.Columns.{Rows, distinct_columns, found_before, found_behind, further_back, further_finds, further_repeats, further_skips, in_struct, joined_repeats, made_above, made_is, made_least, of_columns, row_at, row_back, row_none, row_repeats}
 use Rattle.dtype_merging.proofs.lemmas.Finding.{Pairs, both_true, by_bool, by_option, each_found, found, some_and, true_both}
-use Rattle.dtype_merging.proofs.lemmas.Order.{alike_plain, of_extension, of_fixed, of_list, of_map, of_struct, plain, plain_kind}
-use Rattle.dtype_merging.proofs.lemmas.Reading.{reads_kind, reads_nullable, sub_kind, sub_names, sub_reads}
-use Rattle.dtype_merging.proofs.lemmas.Repeats.{distinct_tested, tested_distinct}
+use Rattle.dtype_merging.proofs.lemmas.Order.{alike_plain, of_extension, of_fixed, of_list, of_map, of_struct, of_union, plain, plain_kind}
+use Rattle.dtype_merging.proofs.lemmas.Reading.{reads_kind, reads_nullable, sub_kind, sub_reads}
+use Rattle.dtype_merging.proofs.lemmas.Repeats.{distinct_tested, repeats_tested, tested_distinct}
+use Rattle.dtype_merging.proofs.lemmas.Variants.{also_variants, tested_variants, variants_tested}
 
 -- ---- results that are there
 
@@ -43,7 +45,7 @@ pick_true b x y e = ap (λ z. if z then x else y) e
 pub pick_false : {X : Type 0} (b : Bool) (x y : X) → b ≡ false → (if b then x else y) ≡ y
 pick_false b x y e = ap (λ z. if z then x else y) e
 
-pub if_some : (b : Bool) (o : Option Tree) (c : Tree) → (if b then o else None) ≡ Some c → (b ≡ true) × (o ≡ Some c)
+pub if_some : {X : Type 0} (b : Bool) (o : Option X) (c : X) → (if b then o else None) ≡ Some c → (b ≡ true) × (o ≡ Some c)
 if_some true o c e = (refl, e)
 if_some false o c e = cc
 
@@ -64,6 +66,10 @@ pub map_made : (o p : Option Tree) (s : Bool) (n : Nullability) (c : Tree) → m
 map_made (Some k) (Some v) s n c e = let r = keyed (nullability k) k v s n c e in (k, v, refl, refl, r.0, r.1)
 map_made (Some k) None s n c e = cc
 map_made None p s n c e = cc
+
+pub union_made : (o : Option Variants) (n : Nullability) (c : Tree) → union_with o n ≡ Some c → (vs : Variants) × (o ≡ Some vs) × (can_be_variants vs ≡ true) × (union vs n ≡ c)
+union_made (Some vs) n c e = let s = if_some (can_be_variants vs) (Some (union vs n)) c e in (vs, refl, s.0, same_Some (union vs n) c s.1)
+union_made None n c e = cc
 
 key_kept : (m : Nullability) (k v : Tree) (s : Bool) (n : Nullability) → m ≢ Nullable → map_of_key m k v s n ≡ Some (map_of k v s n)
 key_kept NonNullable k v s n sure = refl
@@ -112,6 +118,24 @@ structs_above fs gs m n ps d e rows =
       ),
     )
 
+-- two structs, in one of which a name repeats, can be read as the struct of fields as which theirs can be read one by one
+repeating_above : (fs gs hs : Fields) (m n : Nullability) → (¬ NoRepeats fs gs) → EachBeside Sub Allows IsNullable fs hs × EachBeside Sub Allows IsNullable gs hs
+    → ReadsAs (struct fs m) (struct hs (either m n)) × ReadsAs (struct gs n) (struct hs (either m n))
+repeating_above fs gs hs m n repeat h =
+    let first = beside_names Sub Allows IsNullable fs hs h.0 in
+    let second = beside_names Sub Allows IsNullable gs hs h.1 in (
+      inr (λ d. repeat (d.0, subst Distinct (sym second) d.1), allows_either m n, h.0),
+      inr (λ d. repeat (subst Distinct (sym first) d.1, d.0), upwards.second m n, h.1),
+    )
+
+-- and so can two unions
+unions_above : (vs ws us : Variants) (m n : Nullability) → Distinct (tags us) → EachBeside Sub Allows IsNullable vs us × EachBeside Sub Allows IsNullable ws us
+    → ReadsAs (union vs m) (union us (either m n)) × ReadsAs (union ws n) (union us (either m n))
+unions_above vs ws us m n d h = (
+  (allows_either m n, h.0, inl (subst Distinct (sym (beside_tags Sub Allows IsNullable vs us h.0)) d)),
+  (upwards.second m n, h.1, inl (subst Distinct (sym (beside_tags Sub Allows IsNullable ws us h.1)) d)),
+)
+
 mutual
   pub above : (a b c : Tree) → columns_merged a b ≡ Some c → ReadsAs a c × ReadsAs b c
   above (list t m) (list u n) c e =
@@ -133,12 +157,18 @@ mutual
       let test = no_repeats (pairs fs) && no_repeats (pairs gs) in
       let more = further (pairs fs) (pairs gs) in
       let named = struct_with (merged_by_name fs gs) more (either m n) in
+      let beside = option_map (λ hs. struct hs (either m n)) (merged_beside fs gs) in
       by_bool test
       (λ tested.
       let d = both_true (no_repeats (pairs fs)) (no_repeats (pairs gs)) tested in
-      let r = mapped_some (λ qs. struct (fields (qs ++ more)) (either m n)) (merged_by_name fs gs) c (sym (pick_true test named (merged (struct fs m) (struct gs n)) tested) ∙ e) in
+      let r = mapped_some (λ qs. struct (fields (qs ++ more)) (either m n)) (merged_by_name fs gs) c (sym (pick_true test named beside tested) ∙ e) in
       subst (λ z. ReadsAs (struct fs m) z × ReadsAs (struct gs n) z) r.2 (structs_above fs gs m n r.0 d.0 d.1 (above_rows fs gs r.0 r.1)))
-      (λ differ. of_merged (struct fs m) (struct gs n) c (sym (pick_false test named (merged (struct fs m) (struct gs n)) differ) ∙ e))
+      (λ differ.
+      let r = mapped_some (λ hs. struct hs (either m n)) (merged_beside fs gs) c (sym (pick_false test named beside differ) ∙ e) in
+      subst (λ z. ReadsAs (struct fs m) z × ReadsAs (struct gs n) z) r.2 (repeating_above fs gs r.0 m n (repeats_tested fs gs differ) (above_beside fs gs r.0 r.1)))
+  above (union vs m) (union ws n) c e =
+      let r = union_made (merged_beside vs ws) (either m n) c e in
+      subst (λ z. ReadsAs (union vs m) z × ReadsAs (union ws n) z) r.3 (unions_above vs ws r.0 m n (variants_tested r.0 r.2) (above_beside vs ws r.0 r.1))
   above (extension i a t) (extension j b u) c e =
       let s = if_some (bytes_eq i j && bytes_eq a b) (option_map (extension i a) (columns_merged t u)) c e in
       let same = both_true (bytes_eq i j) (bytes_eq a b) s.0 in
@@ -160,6 +190,16 @@ mutual
       let h = above t u x (sym (ap (column t (λ u. columns_merged t u)) some) ∙ r.2) in
       (h.0, λ v at. subst (λ z. ReadsAs z x) (same_Some u v (sym some ∙ at)) h.1, λ none. cc)) in
       subst (Rows (Above gs) (item n t tt fs)) r.4 (refl, here, above_rows fs gs r.1 r.3)
+
+  pub above_beside : {h : Holder} (xs ys zs : Items h) → merged_beside xs ys ≡ Some zs → EachBeside Sub Allows IsNullable xs zs × EachBeside Sub Allows IsNullable ys zs
+  above_beside no_items no_items zs e = subst (λ z. EachBeside Sub Allows IsNullable no_items z × EachBeside Sub Allows IsNullable no_items z) (same_Some no_items zs e) (tt, tt)
+  above_beside (item m t f xs) (item n u g ys) zs e =
+      let r = items_of m t f xs n u g ys zs e in
+      let h = above t u r.0 r.4 in
+      let rest = above_beside xs ys r.1 r.5 in
+      subst (λ z. EachBeside Sub Allows IsNullable (item m t f xs) z × EachBeside Sub Allows IsNullable (item n u g ys) z) r.6 ((refl, refl, h.0, rest.0), (sym r.2, sym r.3, h.1, rest.1))
+  above_beside no_items (item n u g ys) zs e = cc
+  above_beside (item m t f xs) no_items zs e = cc
 
 -- ---- what is merged can be read as each valid type as which both can be read
 
@@ -201,6 +241,7 @@ plain_merged (list t m) b p = absurd (false≢true p)
 plain_merged (fixed_size_list t j m) b p = absurd (false≢true p)
 plain_merged (map_of t v x m) b p = absurd (false≢true p)
 plain_merged (struct fs m) b p = absurd (false≢true p)
+plain_merged (union vs m) b p = absurd (false≢true p)
 plain_merged (extension i a t) b p = absurd (false≢true p)
 plain_merged a b p = refl
 
@@ -223,24 +264,42 @@ field_valid hs n y v is = type_named_valid (pairs hs) n y is (subst ValidItems (
 -- of two structs, from what is done with their fields
 structs_least : (fs gs hs : Fields) (m n o : Nullability)
     → (EachFound Sub Allows IsNullable fs hs → EachFound Sub Allows IsNullable gs hs → OnlyFurther IsNullable gs hs → (ps : Pairs) × (merged_by_name fs gs ≡ Some ps) × Rows (Below hs) fs ps)
+    → (EachBeside Sub Allows IsNullable fs hs → EachBeside Sub Allows IsNullable gs hs → (xs : Fields) × (merged_beside fs gs ≡ Some xs) × EachBeside Sub Allows IsNullable xs hs)
     → ReadsAs (struct fs m) (struct hs o) → ReadsAs (struct gs n) (struct hs o) → MergedBelow (struct fs m) (struct gs n) (struct hs o)
-structs_least fs gs hs m n o go (inl h) (inl g) =
+structs_least fs gs hs m n o go also (inl h) (inl g) =
     let rows = go h.2 g.2 g.3 in
     let more = further (pairs fs) (pairs gs) in
     let tested = true_both (no_repeats (pairs fs)) (no_repeats (pairs gs)) (tested_distinct (pairs fs) h.0.0) (tested_distinct (pairs gs) g.0.0) in (
       struct (fields (rows.0 ++ more)) (either m n),
-      pick_true (no_repeats (pairs fs) && no_repeats (pairs gs)) (struct_with (merged_by_name fs gs) more (either m n)) (merged (struct fs m) (struct gs n)) tested ∙ ap (λ r. struct_with r more (either m n)) rows.1,
+      pick_true (no_repeats (pairs fs) && no_repeats (pairs gs)) (struct_with (merged_by_name fs gs) more (either m n)) (option_map (λ hs. struct hs (either m n)) (merged_beside fs gs)) tested ∙ ap (λ r. struct_with r more (either m n)) rows.1,
       structs_below fs gs hs m n o rows.0 h.0 g.0 h.1 g.1 h.2 g.2 h.3 rows.2,
     )
-structs_least fs gs hs m n o go (inl h) (inr g) = absurd (g.0 (subst Distinct (sym (sub_names gs hs n o g.1)) h.0.1, h.0.1))
-structs_least fs gs hs m n o go (inr h) (inl g) = absurd (h.0 (subst Distinct (sym (sub_names fs hs m o h.1)) g.0.1, g.0.1))
-structs_least fs gs hs m n o go (inr h) (inr g) =
-    let s = subs_below (struct fs m) (struct gs n) (struct hs o) h.1 g.1 in
+structs_least fs gs hs m n o go also (inl h) (inr g) = absurd (g.0 (subst Distinct (sym (beside_names Sub Allows IsNullable gs hs g.2)) h.0.1, h.0.1))
+structs_least fs gs hs m n o go also (inr h) (inl g) = absurd (h.0 (subst Distinct (sym (beside_names Sub Allows IsNullable fs hs h.2)) g.0.1, g.0.1))
+structs_least fs gs hs m n o go also (inr h) (inr g) =
+    let s = also h.2 g.2 in
+    let same = beside_names Sub Allows IsNullable fs hs h.2 in
     let test = no_repeats (pairs fs) && no_repeats (pairs gs) in
     let differ : test ≡ false = by_bool test
-    (λ tested. let d = distinct_tested (pairs fs) ((both_true (no_repeats (pairs fs)) (no_repeats (pairs gs)) tested).0) in absurd (h.0 (d, subst Distinct (sub_names fs hs m o h.1) d)))
+    (λ tested. let d = distinct_tested (pairs fs) ((both_true (no_repeats (pairs fs)) (no_repeats (pairs gs)) tested).0) in absurd (h.0 (d, subst Distinct same d)))
     (λ e. e) in
-    (s.0, pick_false test (struct_with (merged_by_name fs gs) (further (pairs fs) (pairs gs)) (either m n)) (merged (struct fs m) (struct gs n)) differ ∙ s.1, s.2)
+    let beside = option_map (λ xs. struct xs (either m n)) (merged_beside fs gs) in (
+      struct s.0 (either m n),
+      pick_false test (struct_with (merged_by_name fs gs) (further (pairs fs) (pairs gs)) (either m n)) beside differ ∙ ap (option_map (λ xs. struct xs (either m n))) s.1,
+      inr (λ d. h.0 (subst Distinct (sym same) d.1, d.1), upwards.least o m n h.1 g.1, s.2),
+    )
+
+-- of two unions
+unions_least : (vs ws us : Variants) (m n o : Nullability) → Valid (union us o)
+    → (EachBeside Sub Allows IsNullable vs us → EachBeside Sub Allows IsNullable ws us → (xs : Variants) × (merged_beside vs ws ≡ Some xs) × EachBeside Sub Allows IsNullable xs us)
+    → ReadsAs (union vs m) (union us o) → ReadsAs (union ws n) (union us o) → MergedBelow (union vs m) (union ws n) (union us o)
+unions_least vs ws us m n o v also h g =
+    let s = also h.1 g.1 in
+    let can : can_be_variants s.0 ≡ true = tested_variants s.0 (also_variants us s.0 (sym (beside_variants Sub Allows IsNullable s.0 us s.2)) (sym (beside_tags Sub Allows IsNullable s.0 us s.2)) v.0) in (
+      union s.0 (either m n),
+      ap (λ r. union_with r (either m n)) s.1 ∙ pick_true (can_be_variants s.0) (Some (union s.0 (either m n))) None can,
+      (upwards.least o m n h.0 g.0, s.2, inl (variants_tested s.0 can)),
+    )
 
 mutual
   pub least : (a b d : Tree) → Valid d → ReadsAs a d → ReadsAs b d → MergedBelow a b d
@@ -275,9 +334,15 @@ mutual
   least (map_of t p x m) b d v h g = let ha = reads_kind (map_of t p x m) d h in let hb = reads_kind b d g in cc
   least (struct fs m) (struct gs n) d v h g =
       let i = of_struct Sub Allows IsNullable sub_kind fs m d h in
-      let s = structs_least fs gs i.0 m n i.1 (rows_least fs gs i.0 (subst Valid i.2 v)) i.3 (subst (ReadsAs (struct gs n)) i.2 g) in
+      let s = structs_least fs gs i.0 m n i.1 (rows_least fs gs i.0 (subst Valid i.2 v)) (beside_least fs gs i.0 (subst Valid i.2 v)) i.3 (subst (ReadsAs (struct gs n)) i.2 g) in
       (s.0, s.1, subst (ReadsAs s.0) (sym i.2) s.2)
   least (struct fs m) b d v h g = let ha = reads_kind (struct fs m) d h in let hb = reads_kind b d g in cc
+  least (union vs m) (union ws n) d v h g =
+      let i = of_union Sub Allows IsNullable sub_kind vs m d h in
+      let valid = subst Valid i.2 v in
+      let s = unions_least vs ws i.0 m n i.1 valid (beside_least vs ws i.0 valid.1) i.3 (subst (ReadsAs (union ws n)) i.2 g) in
+      (s.0, s.1, subst (ReadsAs s.0) (sym i.2) s.2)
+  least (union vs m) b d v h g = let ha = reads_kind (union vs m) d h in let hb = reads_kind b d g in cc
   least (extension i a t) (extension j b u) d v h g =
       let p = of_extension Sub Allows IsNullable sub_kind i a t d h in
       let q = subst (ReadsAs (extension j b u)) p.1 g in
@@ -309,3 +374,15 @@ mutual
         ap (λ o. prepend n o (merged_by_name fs gs)) cell.1 ∙ ap (prepend n (Some cell.0)) rest.1,
         (refl, λ z at. subst (ReadsAs cell.0) (same_Some y z (sym s.1 ∙ at)) cell.2, rest.2),
       )
+
+  beside_least : {h : Holder} (xs ys zs : Items h) → ValidItems zs → EachBeside Sub Allows IsNullable xs zs → EachBeside Sub Allows IsNullable ys zs
+      → (ws : Items h) × (merged_beside xs ys ≡ Some ws) × EachBeside Sub Allows IsNullable ws zs
+  beside_least no_items no_items no_items v p q = (no_items, refl, tt)
+  beside_least (item m t f xs) (item n u g ys) (item k y e zs) v p q =
+      let c = least t u y v.0 p.2 q.2 in
+      let rest = beside_least xs ys zs v.1 p.3 q.3 in
+      (item m c.0 f rest.0, of_items m t f xs n u g ys c.0 rest.0 (p.0 ∙ sym q.0) (p.1 ∙ sym q.1) c.1 rest.1, (p.0, p.1, c.2, rest.2))
+  beside_least no_items ys (item k y e zs) v p q = absurd p
+  beside_least (item m t f xs) ys no_items v p q = absurd p
+  beside_least no_items (item n u g ys) no_items v p q = absurd q
+  beside_least (item m t f xs) no_items (item k y e zs) v p q = absurd q

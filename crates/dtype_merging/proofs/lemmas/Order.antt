@@ -12,20 +12,22 @@ use Rattle.dtype_types.specs.declared.dtype.kinds.Kind.{Kind}
 use Rattle.dtype_types.specs.declared.dtype.kinds.Kind.TheVariants as variants
 use Rattle.dtype_types.specs.parts.Lookups.{first_named}
 use Rattle.dtype_types.specs.tree.Kinds.{kind}
-use Rattle.dtype_types.specs.tree.Tree.{Tree, Fields, no_items, item, pairs, list, fixed_size_list, map_of, struct, extension}
-use Rattle.dtype_merging.specs.ReadsAs.{Alike, EachFound, OnlyFurther, names}
+use Rattle.dtype_types.specs.tree.Tree.{Tree, Fields, Variants, Holder, Items, no_items, item, pairs, list, fixed_size_list, map_of, struct, union, extension}
+use Rattle.dtype_merging.specs.ReadsAs.{Alike, EachBeside, EachFound, OnlyFurther}
 use Rattle.dtype_merging.specs.MergedColumns.{no_repeats}
+use Rattle.dtype_merging.proofs.lemmas.Beside.{beside_names, beside_tags}
 use Rattle.dtype_merging.proofs.lemmas.Repeats.{repeat_or_not, tested_distinct}
 use Rattle.dtype_merging.proofs.lemmas.Finding.{Agrees, agrees_first, agrees_rest, by_option, found, no_repeats_rest, of_some_and, some_and}
 
--- ---- kinds without columns
+-- ---- kinds without parts
 
--- whether the types of a kind have no columns, and no parts that may have some
+-- whether the types of a kind have no parts
 abbrev pub plain_kind : Kind → Bool
 plain_kind variants.List = false
 plain_kind variants.FixedSizeList = false
 plain_kind variants.Map = false
 plain_kind variants.Struct = false
+plain_kind variants.Union = false
 plain_kind variants.Extension = false
 plain_kind _ = true
 
@@ -40,6 +42,7 @@ module _ (L : Tree → Tree → Type 0) (R : Nullability → Nullability → Typ
   alike_plain (fixed_size_list t j m) u p h = absurd (false≢true p)
   alike_plain (map_of t v x m) u p h = absurd (false≢true p)
   alike_plain (struct fs m) u p h = absurd (false≢true p)
+  alike_plain (union vs m) u p h = absurd (false≢true p)
   alike_plain (extension i a t) u p h = absurd (false≢true p)
   alike_plain t u p h = h
 
@@ -48,6 +51,7 @@ module _ (L : Tree → Tree → Type 0) (R : Nullability → Nullability → Typ
   plain_alike (fixed_size_list t j m) u p h = absurd (false≢true p)
   plain_alike (map_of t v x m) u p h = absurd (false≢true p)
   plain_alike (struct fs m) u p h = absurd (false≢true p)
+  plain_alike (union vs m) u p h = absurd (false≢true p)
   plain_alike (extension i a t) u p h = absurd (false≢true p)
   plain_alike t u p h = h
 
@@ -69,6 +73,10 @@ module _ (L : Tree → Tree → Type 0) (R : Nullability → Nullability → Typ
     of_struct fs m (struct gs n) h = (gs, n, refl, h)
     of_struct fs m w h = let e = kinds (struct fs m) w h in cc
 
+    pub of_union : (vs : Variants) (m : Nullability) (w : Tree) → Alike L R E (union vs m) w → (ws : Variants) × (n : Nullability) × (w ≡ union ws n) × Alike L R E (union vs m) (union ws n)
+    of_union vs m (union ws n) h = (ws, n, refl, h)
+    of_union vs m w h = let e = kinds (union vs m) w h in cc
+
     pub of_extension : (i b : List ℕ) (t w : Tree) → Alike L R E (extension i b t) w → (u : Tree) × (w ≡ extension i b u) × Alike L R E t u
     of_extension i b t (extension j c u) h = (u, ap (λ o. extension o c u) (sym h.0) ∙ ap (λ o. extension i o u) (sym h.1), h.2)
     of_extension i b t w h = let e = kinds (extension i b t) w h in cc
@@ -79,6 +87,7 @@ module _ (L : Tree → Tree → Type 0) (R : Nullability → Nullability → Typ
     alike_kind (fixed_size_list t j m) w h = ap kind (sym (of_fixed t j m w h).2)
     alike_kind (map_of t v x m) w h = ap kind (sym (of_map t v x m w h).3)
     alike_kind (struct fs m) w h = ap kind (sym (of_struct fs m w h).2)
+    alike_kind (union vs m) w h = ap kind (sym (of_union vs m w h).2)
     alike_kind (extension i b t) w h = ap kind (sym (of_extension i b t w h).1)
     alike_kind t w h = kinds t w (alike_plain t w refl h)
 
@@ -92,8 +101,9 @@ module _ (L : Tree → Tree → Type 0) (R : Nullability → Nullability → Typ
         alike_itself (map_of t v x m) = (refl, R_same m, alike_itself t, alike_itself v)
         alike_itself (struct fs m) = elim (repeat_or_not fs fs) [
           | inl d ↦ inl (d, R_same m, found_itself fs fs (tested_distinct (pairs fs) d.0) (λ n t is. is), λ n u none is. cc)
-          | inr d ↦ inr (d, L_same (struct fs m))
+          | inr d ↦ inr (d, R_same m, beside_itself fs)
         ]
+        alike_itself (union vs m) = (R_same m, beside_itself vs, inr (L_same (union vs m)))
         alike_itself (extension i b t) = (refl, refl, alike_itself t)
         alike_itself t = L_same t
 
@@ -103,11 +113,13 @@ module _ (L : Tree → Tree → Type 0) (R : Nullability → Nullability → Typ
             let r = no_repeats_rest (n, t) (pairs fs) d in
             (of_some_and (Alike L R E t) (first_named (pairs gs) n) t (agrees_first n t (pairs fs) (pairs gs) h) (alike_itself t), found_itself fs gs r.1 (agrees_rest n t (pairs fs) (pairs gs) r.0 h))
 
+        beside_itself : {h : Holder} (xs : Items h) → EachBeside L R E xs xs
+        beside_itself no_items = tt
+        beside_itself (item n t f xs) = (refl, refl, alike_itself t, beside_itself xs)
+
     -- ---- transitive
 
-    -- a struct has the names of one that it is `L` of
-    module _ (same_names : (fs gs : Fields) (m n : Nullability) → L (struct fs m) (struct gs n) → names fs ≡ names gs)
-        (L_more : (t u v : Tree) → L t u → L u v → L t v) (R_more : (l m n : Nullability) → R l m → R m n → R l n)
+    module _ (L_more : (t u v : Tree) → L t u → L u v → L t v) (R_more : (l m n : Nullability) → R l m → R m n → R l n)
         (E_more : (t u : Tree) → Alike L R E t u → E t → E u) where
       further_more : (fs gs hs : Fields) → OnlyFurther E fs gs → EachFound L R E gs hs → OnlyFurther E gs hs → OnlyFurther E fs hs
       further_more fs gs hs f a g n v none is = by_option (first_named (pairs gs) n)
@@ -116,11 +128,27 @@ module _ (L : Tree → Tree → Type 0) (R : Nullability → Nullability → Typ
 
       -- two structs after a third, from what is done with their fields
       structs_more : (fs gs hs : Fields) (l m n : Nullability) → (EachFound L R E fs gs → EachFound L R E gs hs → EachFound L R E fs hs)
+          → (EachBeside L R E fs gs → EachBeside L R E gs hs → EachBeside L R E fs hs)
           → Alike L R E (struct fs l) (struct gs m) → Alike L R E (struct gs m) (struct hs n) → Alike L R E (struct fs l) (struct hs n)
-      structs_more fs gs hs l m n go (inl h) (inl g) = inl ((h.0.0, g.0.1), R_more l m n h.1 g.1, go h.2 g.2, further_more fs gs hs h.3 g.2 g.3)
-      structs_more fs gs hs l m n go (inl h) (inr g) = absurd (g.0 (h.0.1, subst Distinct (same_names gs hs m n g.1) h.0.1))
-      structs_more fs gs hs l m n go (inr h) (inl g) = absurd (h.0 (subst Distinct (sym (same_names fs gs l m h.1)) g.0.0, g.0.0))
-      structs_more fs gs hs l m n go (inr h) (inr g) = inr (λ d. h.0 (d.0, subst Distinct (same_names fs gs l m h.1) d.0), L_more (struct fs l) (struct gs m) (struct hs n) h.1 g.1)
+      structs_more fs gs hs l m n go also (inl h) (inl g) = inl ((h.0.0, g.0.1), R_more l m n h.1 g.1, go h.2 g.2, further_more fs gs hs h.3 g.2 g.3)
+      structs_more fs gs hs l m n go also (inl h) (inr g) = absurd (g.0 (h.0.1, subst Distinct (beside_names L R E gs hs g.2) h.0.1))
+      structs_more fs gs hs l m n go also (inr h) (inl g) = absurd (h.0 (subst Distinct (sym (beside_names L R E fs gs h.2)) g.0.0, g.0.0))
+      structs_more fs gs hs l m n go also (inr h) (inr g) = inr (λ d. h.0 (d.0, subst Distinct (beside_names L R E fs gs h.2) d.0), R_more l m n h.1 g.1, also h.2 g.2)
+
+      -- two unions after a third
+      unions_more : (us vs ws : Variants) (l m n : Nullability) → (EachBeside L R E us vs → EachBeside L R E vs ws → EachBeside L R E us ws)
+          → Alike L R E (union us l) (union vs m) → Alike L R E (union vs m) (union ws n) → Alike L R E (union us l) (union ws n)
+      unions_more us vs ws l m n also h g = (
+        R_more l m n h.0 g.0,
+        also h.1 g.1,
+        elim h.2 [
+          | inl d ↦ inl d
+          | inr a ↦ elim g.2 [
+            | inl d ↦ inl (subst Distinct (sym (beside_tags L R E us vs h.1)) d)
+            | inr b ↦ inr (L_more (union us l) (union vs m) (union ws n) a b)
+          ]
+        ],
+      )
 
       mutual
         pub alike_more : (t u v : Tree) → Alike L R E t u → Alike L R E u v → Alike L R E t v
@@ -139,7 +167,11 @@ module _ (L : Tree → Tree → Type 0) (R : Nullability → Nullability → Typ
         alike_more (struct fs l) u v h g =
             let i = of_struct fs l u h in
             let j = of_struct i.0 i.1 v (subst (λ z. Alike L R E z v) i.2 g) in
-            subst (Alike L R E (struct fs l)) (sym j.2) (structs_more fs i.0 j.0 l i.1 j.1 (found_more fs i.0 j.0) i.3 j.3)
+            subst (Alike L R E (struct fs l)) (sym j.2) (structs_more fs i.0 j.0 l i.1 j.1 (found_more fs i.0 j.0) (beside_more fs i.0 j.0) i.3 j.3)
+        alike_more (union us l) u v h g =
+            let i = of_union us l u h in
+            let j = of_union i.0 i.1 v (subst (λ z. Alike L R E z v) i.2 g) in
+            subst (Alike L R E (union us l)) (sym j.2) (unions_more us i.0 j.0 l i.1 j.1 (beside_more us i.0 j.0) i.3 j.3)
         alike_more (extension i b t) u v h g =
             let p = of_extension i b t u h in
             let q = of_extension i b p.0 v (subst (λ z. Alike L R E z v) p.1 g) in
@@ -154,3 +186,11 @@ module _ (L : Tree → Tree → Type 0) (R : Nullability → Nullability → Typ
             let s = some_and (Alike L R E t) (first_named (pairs gs) n) h.0 in
             let r = found L R E gs hs g n s.0 s.1 in
             (of_some_and (Alike L R E t) (first_named (pairs hs) n) r.0 r.1 (alike_more t s.0 r.0 s.2 r.2), found_more fs gs hs h.1 g)
+
+        beside_more : {h : Holder} (xs ys zs : Items h) → EachBeside L R E xs ys → EachBeside L R E ys zs → EachBeside L R E xs zs
+        beside_more no_items no_items no_items h g = tt
+        beside_more (item m t f xs) (item n u g ys) (item k v e zs) p q = (p.0 ∙ q.0, p.1 ∙ q.1, alike_more t u v p.2 q.2, beside_more xs ys zs p.3 q.3)
+        beside_more no_items no_items (item k v e zs) p q = absurd q
+        beside_more no_items (item n u g ys) zs p q = absurd p
+        beside_more (item m t f xs) no_items zs p q = absurd p
+        beside_more (item m t f xs) (item n u g ys) no_items p q = absurd q

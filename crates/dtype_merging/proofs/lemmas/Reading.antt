@@ -2,22 +2,24 @@
 -- SPDX-FileCopyrightText: Copyright the Vortex contributors
 
 -- `ReadsAs` is an order up to the order of columns, and a subset of a type can be read as the type.
-use Rattle.std.proofs.Common.{◌≡◌, ℕ, List, ◌∷◌, true, Some, None, refl, sym, ap, subst, ◌∙◌, inl, inr}
+use Rattle.std.proofs.Common.{◌≡◌, ℕ, List, true, Some, None, refl, sym, ap, subst, ◌∙◌, inl, inr}
 use Rattle.std.specs.Option.{option_map}
 use Rattle.std.proofs.lemmas.Option.{same_Some}
+use Rattle.dtype_base.specs.Distinct.{Distinct}
 use Rattle.dtype_base.specs.declared.nullability.Nullability.{Nullability}
 use Rattle.dtype_types.specs.nullability.Nullable.{IsNullable}
 use Rattle.dtype_types.specs.nullability.Sub.{Sub, Allows, NullableWhereverItems}
 use Rattle.dtype_types.specs.parts.Lookups.{first_named}
 use Rattle.dtype_types.specs.tree.Erase.{erase, erase_items}
 use Rattle.dtype_types.specs.tree.Kinds.{kind}
-use Rattle.dtype_types.specs.tree.Tree.{Tree, Fields, no_items, item, pairs, list, fixed_size_list, map_of, struct, extension, rest_of}
+use Rattle.dtype_types.specs.tree.Tree.{Tree, Fields, Variants, Holder, Items, no_items, item, pairs, list, fixed_size_list, map_of, struct, union, extension, first_tag, rest_of}
 use Rattle.dtype_types.proofs.lemmas.Bounds.{upwards}
 use Rattle.dtype_types.proofs.lemmas.Order.{above_nullable, sub_antisymmetric, sub_reflexive, sub_transitive}
-use Rattle.dtype_merging.specs.ReadsAs.{EachFound, ReadsAs, SameColumns, names}
+use Rattle.dtype_merging.specs.ReadsAs.{EachBeside, EachFound, ReadsAs, SameColumns}
 use Rattle.dtype_merging.specs.MergedColumns.{no_repeats}
+use Rattle.dtype_merging.proofs.lemmas.Beside.{beside_tags, name_or, type_or}
 use Rattle.dtype_merging.proofs.lemmas.Finding.{Agrees, agrees_first, agrees_rest, by_name, by_option, finds_first, finds_later, found, no_repeats_rest, of_some_and, some_and}
-use Rattle.dtype_merging.proofs.lemmas.Order.{alike_itself, alike_kind, alike_more, alike_plain, of_extension, of_fixed, of_list, of_map, of_struct, plain_alike, plain_kind}
+use Rattle.dtype_merging.proofs.lemmas.Order.{alike_itself, alike_kind, alike_more, alike_plain, of_extension, of_fixed, of_list, of_map, of_struct, of_union, plain_alike, plain_kind}
 use Rattle.dtype_merging.proofs.lemmas.Repeats.{repeat_or_not, tested_distinct}
 
 -- ---- what is erased
@@ -28,13 +30,6 @@ kind_erased _ = refl
 
 pub erased_kind : (t u : Tree) → erase t ≡ erase u → kind t ≡ kind u
 erased_kind t u e = sym (kind_erased t) ∙ ap kind e ∙ kind_erased u
-
-names_erased : (fs : Fields) → names (erase_items fs) ≡ names fs
-names_erased no_items = refl
-names_erased (item n t _ fs) = ap (λ ns. n ∷ ns) (names_erased fs)
-
-pub erased_names : (fs gs : Fields) → erase_items fs ≡ erase_items gs → names fs ≡ names gs
-erased_names fs gs e = sym (names_erased fs) ∙ ap names e ∙ names_erased gs
 
 named_erased : (fs : Fields) (n : List ℕ) → first_named (pairs (erase_items fs)) n ≡ option_map erase (first_named (pairs fs) n)
 named_erased no_items n = refl
@@ -49,19 +44,13 @@ erased_lacks fs gs n e none = by_option (first_named (pairs gs) n) (λ is. is)
     let both : option_map erase (first_named (pairs fs) n) ≡ option_map erase (first_named (pairs gs) n) = sym (named_erased fs n) ∙ ap (λ hs. first_named (pairs hs) n) e ∙ named_erased gs n in
     let some : None ≡ Some (erase u) = sym (ap (option_map erase) none) ∙ both ∙ ap (option_map erase) is in cc)
 
--- ---- the two relations between types without columns
+-- ---- the two relations between types without parts
 
 pub sub_kind : (t u : Tree) → Sub t u → kind t ≡ kind u
 sub_kind t u h = erased_kind t u h.erased
 
-pub sub_names : (fs gs : Fields) (m n : Nullability) → Sub (struct fs m) (struct gs n) → names fs ≡ names gs
-sub_names fs gs m n h = let e = h.erased in let f : erase_items fs ≡ erase_items gs = cc in erased_names fs gs f
-
 same_kind : (t u : Tree) → t ≡ u → kind t ≡ kind u
 same_kind t u e = ap kind e
-
-same_struct_names : (fs gs : Fields) (m n : Nullability) → struct fs m ≡ struct gs n → names fs ≡ names gs
-same_struct_names fs gs m n e = let f : fs ≡ gs = cc in ap names f
 
 allows_more : (l m n : Nullability) → Allows l m → Allows m n → Allows l n
 allows_more l m n f g h = g (f h)
@@ -93,15 +82,16 @@ reads_nullable (fixed_size_list t j m) u h e = let i = of_fixed Sub Allows IsNul
 reads_nullable (map_of t v x m) u h e = let i = of_map Sub Allows IsNullable sub_kind t v x m u h in subst IsNullable (sym i.3) (i.4 e)
 reads_nullable (struct fs m) u h e =
     let i = of_struct Sub Allows IsNullable sub_kind fs m u h in
-    subst IsNullable (sym i.2) (elim i.3 [ inl s ↦ s.1 e | inr s ↦ above_nullable (struct fs m) (struct i.0 i.1) s.1 e ])
+    subst IsNullable (sym i.2) (elim i.3 [ inl s ↦ s.1 e | inr s ↦ s.1 e ])
+reads_nullable (union vs m) u h e = let i = of_union Sub Allows IsNullable sub_kind vs m u h in subst IsNullable (sym i.2) (i.3.0 e)
 reads_nullable (extension i b t) u h e = let p = of_extension Sub Allows IsNullable sub_kind i b t u h in subst IsNullable (sym p.1) (reads_nullable t p.0 p.2 e)
 reads_nullable t u h e = above_nullable t u (alike_plain Sub Allows IsNullable t u refl h) e
 
 pub reads_more : (t u v : Tree) → ReadsAs t u → ReadsAs u v → ReadsAs t v
-reads_more = alike_more Sub Allows IsNullable sub_kind sub_names sub_transitive allows_more reads_nullable
+reads_more = alike_more Sub Allows IsNullable sub_kind sub_transitive allows_more reads_nullable
 
 pub same_more : (t u v : Tree) → SameColumns t u → SameColumns u v → SameColumns t v
-same_more = alike_more Same Equal Never same_kind same_struct_names (λ t u v e f. e ∙ f) (λ l m n e f. e ∙ f) (λ t u h e. absurd e)
+same_more = alike_more Same Equal Never same_kind (λ t u v e f. e ∙ f) (λ l m n e f. e ∙ f) (λ t u h e. absurd e)
 
 -- ---- a subset can be read as what it is a subset of
 
@@ -124,9 +114,11 @@ mutual
           sub_found fs gs gs f h.nullable.1 (tested_distinct (pairs gs) d.1) (λ k t is. is),
           λ k u none is. let lacks = erased_lacks fs gs k f none in cc,
         )
-        | inr d ↦ inr (d, h)
+        | inr d ↦ inr (d, h.nullable.0, sub_beside fs gs f h.nullable.1)
       ]
   sub_reads (struct fs m) u h = let e = sub_kind (struct fs m) u h in cc
+  sub_reads (union vs m) (union ws n) h = let e = h.erased in let f : erase_items vs ≡ erase_items ws = cc in (h.nullable.0, sub_beside vs ws f h.nullable.1, inr h)
+  sub_reads (union vs m) u h = let e = sub_kind (union vs m) u h in cc
   sub_reads (extension i b t) (extension j c u) h = let e = h.erased in (cc, cc, sub_reads t u (record { erased = cc; nullable = h.nullable }))
   sub_reads (extension i b t) u h = let e = sub_kind (extension i b t) u h in cc
   sub_reads t u h = h
@@ -142,20 +134,43 @@ mutual
         sub_found fs gs hs (ap rest_of e) h.1 r.1 (agrees_rest n u (pairs gs) (pairs hs) r.0 a),
       )
 
+  sub_beside : {h : Holder} (xs ys : Items h) → erase_items xs ≡ erase_items ys → NullableWhereverItems xs ys → EachBeside Sub Allows IsNullable xs ys
+  sub_beside no_items no_items e h = tt
+  sub_beside (item m t f xs) (item n u g ys) e h =
+      (ap (name_or m) e, ap (first_tag f) e, sub_reads t u (record { erased = ap (type_or (erase t)) e; nullable = h.0 }), sub_beside xs ys (ap rest_of e) h.1)
+  sub_beside no_items (item n u g ys) e h = absurd h
+  sub_beside (item m t f xs) no_items e h = absurd h
+
 -- ---- types of which each can be read as the other
 
 -- two structs, from what is done with their fields
 structs_back : (fs gs : Fields) (m n : Nullability) → (EachFound Sub Allows IsNullable fs gs → no_repeats (pairs fs) ≡ true → EachFound Sub Allows IsNullable gs fs → EachFound Same Equal Never fs gs)
+    → (EachBeside Sub Allows IsNullable fs gs → EachBeside Sub Allows IsNullable gs fs → EachBeside Same Equal Never fs gs)
     → ReadsAs (struct fs m) (struct gs n) → ReadsAs (struct gs n) (struct fs m) → SameColumns (struct fs m) (struct gs n)
-structs_back fs gs m n go (inl h) (inl g) = inl (
+structs_back fs gs m n go also (inl h) (inl g) = inl (
   h.0,
   upwards.only m n h.1 g.1,
   go h.2 (tested_distinct (pairs fs) h.0.0) g.2,
   λ k u none is. let s = found Sub Allows IsNullable gs fs g.2 k u is in let at = s.1 in cc,
 )
-structs_back fs gs m n go (inl h) (inr g) = absurd (g.0 (h.0.1, h.0.0))
-structs_back fs gs m n go (inr h) (inl g) = absurd (h.0 (g.0.1, g.0.0))
-structs_back fs gs m n go (inr h) (inr g) = inr (h.0, sub_antisymmetric (struct fs m) (struct gs n) h.1 g.1)
+structs_back fs gs m n go also (inl h) (inr g) = absurd (g.0 (h.0.1, h.0.0))
+structs_back fs gs m n go also (inr h) (inl g) = absurd (h.0 (g.0.1, g.0.0))
+structs_back fs gs m n go also (inr h) (inr g) = inr (h.0, upwards.only m n h.1 g.1, also h.2 g.2)
+
+-- two unions
+unions_back : (vs ws : Variants) (m n : Nullability) → (EachBeside Sub Allows IsNullable vs ws → EachBeside Sub Allows IsNullable ws vs → EachBeside Same Equal Never vs ws)
+    → ReadsAs (union vs m) (union ws n) → ReadsAs (union ws n) (union vs m) → SameColumns (union vs m) (union ws n)
+unions_back vs ws m n also h g = (
+  upwards.only m n h.0 g.0,
+  also h.1 g.1,
+  elim h.2 [
+    | inl d ↦ inl d
+    | inr a ↦ elim g.2 [
+      | inl d ↦ inl (subst Distinct (beside_tags Sub Allows IsNullable ws vs g.1) d)
+      | inr b ↦ inr (sub_antisymmetric (union vs m) (union ws n) a b)
+    ]
+  ],
+)
 
 mutual
   pub reads_back : (t u : Tree) → ReadsAs t u → ReadsAs u t → SameColumns t u
@@ -174,7 +189,11 @@ mutual
   reads_back (struct fs m) u h g =
       let i = of_struct Sub Allows IsNullable sub_kind fs m u h in
       let back = subst (λ z. ReadsAs z (struct fs m)) i.2 g in
-      subst (SameColumns (struct fs m)) (sym i.2) (structs_back fs i.0 m i.1 (λ f d g. found_back fs i.0 fs f d (λ k t is. is) g) i.3 back)
+      subst (SameColumns (struct fs m)) (sym i.2) (structs_back fs i.0 m i.1 (λ f d g. found_back fs i.0 fs f d (λ k t is. is) g) (beside_back fs i.0) i.3 back)
+  reads_back (union vs m) u h g =
+      let i = of_union Sub Allows IsNullable sub_kind vs m u h in
+      let back = subst (λ z. ReadsAs z (union vs m)) i.2 g in
+      subst (SameColumns (union vs m)) (sym i.2) (unions_back vs i.0 m i.1 (beside_back vs i.0) i.3 back)
   reads_back (extension i b t) u h g =
       let p = of_extension Sub Allows IsNullable sub_kind i b t u h in
       let back = subst (λ z. ReadsAs z (extension i b t)) p.1 g in
@@ -193,6 +212,12 @@ mutual
       let rest = no_repeats_rest (n, t) (pairs fs) d in
       (of_some_and (SameColumns t) (first_named (pairs gs) n) s.0 s.1 (reads_back t s.0 s.2 (subst (ReadsAs s.0) same r.2)), found_back fs gs hs h.1 rest.1 (agrees_rest n t (pairs fs) (pairs hs) rest.0 a) g)
 
+  beside_back : {h : Holder} (xs ys : Items h) → EachBeside Sub Allows IsNullable xs ys → EachBeside Sub Allows IsNullable ys xs → EachBeside Same Equal Never xs ys
+  beside_back no_items no_items h g = tt
+  beside_back (item m t f xs) (item n u e ys) h g = (h.0, h.1, reads_back t u h.2 g.2, beside_back xs ys h.3 g.3)
+  beside_back no_items (item n u e ys) h g = absurd h
+  beside_back (item m t f xs) no_items h g = absurd h
+
 -- ---- types that are the same up to the order of columns can be read as each other
 
 mutual
@@ -210,8 +235,12 @@ mutual
       let i = of_struct Same Equal Never same_kind fs m u h in
       subst (ReadsAs (struct fs m)) (sym i.2) (elim i.3 [
         | inl s ↦ inl (s.0, subst (Allows m) s.1 (λ z. z), same_found fs i.0 s.2, λ k v none is. absurd (s.3 k v none is))
-        | inr s ↦ inr (s.0, subst (Sub (struct fs m)) s.1 (sub_reflexive (struct fs m)))
+        | inr s ↦ inr (s.0, subst (Allows m) s.1 (λ z. z), same_beside fs i.0 s.2)
       ])
+  same_reads (union vs m) u h =
+      let i = of_union Same Equal Never same_kind vs m u h in
+      subst (ReadsAs (union vs m)) (sym i.2)
+      (subst (Allows m) i.3.0 (λ z. z), same_beside vs i.0 i.3.1, elim i.3.2 [ inl d ↦ inl d | inr e ↦ inr (subst (Sub (union vs m)) e (sub_reflexive (union vs m))) ])
   same_reads (extension i b t) u h =
       let p = of_extension Same Equal Never same_kind i b t u h in
       subst (ReadsAs (extension i b t)) (sym p.1) (refl, refl, same_reads t p.0 p.2)
@@ -222,3 +251,9 @@ mutual
   same_found (item n t _ fs) gs h =
       let s = some_and (SameColumns t) (first_named (pairs gs) n) h.0 in
       (of_some_and (ReadsAs t) (first_named (pairs gs) n) s.0 s.1 (same_reads t s.0 s.2), same_found fs gs h.1)
+
+  same_beside : {h : Holder} (xs ys : Items h) → EachBeside Same Equal Never xs ys → EachBeside Sub Allows IsNullable xs ys
+  same_beside no_items no_items h = tt
+  same_beside (item m t f xs) (item n u e ys) h = (h.0, h.1, same_reads t u h.2, same_beside xs ys h.3)
+  same_beside no_items (item n u e ys) h = absurd h
+  same_beside (item m t f xs) no_items h = absurd h

@@ -2,7 +2,7 @@
 -- SPDX-FileCopyrightText: Copyright the Vortex contributors
 
 -- What the calls that merge two types collect on their way.
-use Rattle.std.specs.Prelude.{ℕ, List, map, Option, None, if◌then◌else◌}
+use Rattle.std.specs.Prelude.{ℕ, List, [], ◌∷◌, map, Option, Some, None, if◌then◌else◌}
 use Rattle.std.proofs.Math.Bool.{beq}
 use Rattle.dtype_base.specs.declared.nullability.Nullability.{Nullability}
 use Rattle.dtype_types.specs.declared.field_dtype.FieldDType.{FieldDType}
@@ -18,3 +18,13 @@ collected cs = map (λ p. (p.0, field_tree p.1)) cs
 -- the merged type of two maps
 abbrev pub maps_merged : MapParts → MapParts → Nullability → Option Tree
 maps_merged a b n = if beq a.2 b.2 then map_with (columns_merged a.0 b.0) (columns_merged a.1 b.1) a.2 n else None
+
+-- the types `rest` after the type `t`, or None if there is no such type, or no such types
+abbrev pub type_first : Option Tree → Option (List Tree) → Option (List Tree)
+type_first (Some t) (Some rest) = Some (t ∷ rest)
+type_first _ _ = None
+
+-- the types at equal positions, merged
+abbrev pub types_merged : List Tree → List Tree → Option (List Tree)
+types_merged (t ∷ ts) (u ∷ us) = type_first (columns_merged t u) (types_merged ts us)
+types_merged _ _ = Some []

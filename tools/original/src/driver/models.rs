@@ -215,27 +215,31 @@ fn columns(a: &StructFields, b: &StructFields) -> Option<Vec<(FieldName, DType, 
 
 /// The least type as which both types can be read: by adding nulls for columns that a struct lacks, and by putting its
 /// columns into another order. It has the columns of the first, each merged with that of its name in the second, and
-/// then the columns that the first lacks. What one of the two lacks is nullable. What has no columns is merged by
+/// then the columns that the first lacks. What one of the two lacks is nullable. Structs in which a name repeats, and
+/// unions, have their names and tags in the same order, and are merged part by part. What has no parts is merged by
 /// nullability alone.
 pub fn merge_columns(a: &DType, b: &DType) -> Answer<Option<DType>> {
     let by_nullability = || bound(|a, b| a || b, a, b);
     let nullability = (is_marked(a) || is_marked(b)).into();
     let are_alike = match (a, b) {
         (DType::Struct(fields, _), DType::Struct(others, _)) => {
-            let (Some(here), Some(there)) = (columns(fields, others), columns(others, fields)) else {
-                return by_nullability();
-            };
-            let mut merged = Vec::new();
-            for (name, dtype, other) in here {
-                let column = other.map_or_else(|| Ok(Some(dtype.as_nullable())), |it| merge_columns(&dtype, &it))?;
-                let Some(column) = column else {
-                    return Ok(None);
-                };
-                merged.push((name, column));
+            if let (Some(here), Some(there)) = (columns(fields, others), columns(others, fields)) {
+                let mut merged = Vec::new();
+                for (name, dtype, other) in here {
+                    let column = other.map_or_else(|| Ok(Some(dtype.as_nullable())), |it| merge_columns(&dtype, &it))?;
+                    let Some(column) = column else {
+                        return Ok(None);
+                    };
+                    merged.push((name, column));
+                }
+                let further = there.into_iter().filter(|(_, _, here)| here.is_none());
+                merged.extend(further.map(|(name, dtype, _)| (name, dtype.as_nullable())));
+                return Ok(Some(DType::Struct(StructFields::from_iter(merged), nullability)));
             }
-            let further = there.into_iter().filter(|(_, _, here)| here.is_none());
-            merged.extend(further.map(|(name, dtype, _)| (name, dtype.as_nullable())));
-            return Ok(Some(DType::Struct(StructFields::from_iter(merged), nullability)));
+            fields.names() == others.names()
+        }
+        (DType::Union(variants, _), DType::Union(others, _)) => {
+            variants.names() == others.names() && variants.type_ids() == others.type_ids()
         }
         (DType::List(..), DType::List(..)) => true,
         (DType::FixedSizeList(_, size, _), DType::FixedSizeList(_, other, _)) => size == other,

@@ -1,14 +1,24 @@
 -- SPDX-License-Identifier: Apache-2.0
 -- SPDX-FileCopyrightText: Copyright the Vortex contributors
 
-use Rattle.std.proofs.Common.{◌≡◌, ◌∙◌, ◌&&◌, ◌++◌, [], ◌∷◌, true, false, Some, None, sym, rules}
+use Rattle.std.proofs.Common.{◌≡◌, ◌∙◌, ◌&&◌, ◌++◌, [], ◌∷◌, true, false, Some, None, inl, inr, length, map, ap, subst, sym, rules, arith}
+use Rattle.std.specs.Iterator.Adapters.{zip_first, zip_second}
+use Rattle.std.specs.List.{zip}
+use Rattle.std.specs.Option.{option_map}
+use Rattle.std.proofs.lemmas.Bool.Decides.{Decides-eqb}
+use Rattle.std.proofs.lemmas.List.{length-map}
+use Rattle.std.proofs.lemmas.Slice.Eq.{bytes_eq-Decides}
+use Rattle.dtype_base.specs.Errors.{Makes}
 use Rattle.dtype_types.specs.nullability.Nullable.{IsNullable}
-use Rattle.dtype_types.specs.parts.Lookups.{first_named}
+use Rattle.dtype_types.specs.parts.Lookups.{field_names, field_types, first_named, variant_names, variant_tags, variant_types}
 use Rattle.dtype_types.specs.parts.FieldTypes.{field_tree}
-use Rattle.dtype_types.specs.tree.TreeOf.{children, map_shown, shown, tree}
+use Rattle.dtype_types.specs.tree.TreeOf.{children, map_shown, shown, tree, variant_list}
 use Rattle.dtype_merging.specs.MergedColumns.{column, columns_merged, no_repeats}
+use Rattle.dtype_merging.specs.private.Collected.{types_merged}
 use Rattle.dtype_merging.proofs.Collecting.{keys_nullable, lighter, merged_more, merged_stops, structs_by_name, structs_by_position}
+use Rattle.dtype_merging.proofs.Ordered.{fields_count, fields_weigh, left_done, right_done, struct_apart, struct_made, struct_unmade, told_alike, told_apart, union_apart, union_some, union_unmade, variants_count, variants_weigh, weight_all}
 use Rattle.dtype_merging.proofs.merge.+merging.Goals as goal
+use Rattle.dtype_merging.proofs.merge.+merging.Goals.{merge_unions-then-ne-via-then-ne, merge_unions-then-ne-via-else-ne+then-ne-2}
 
 pub merge-returns-then-have_no_repeats : goal.merge-returns-then-have_no_repeats
 merge-returns-then-have_no_repeats t c =
@@ -20,7 +30,7 @@ pub merge-returns-else-have_no_repeats : goal.merge-returns-else-have_no_repeats
 merge-returns-else-have_no_repeats t c =
     let of = c.in-Struct-Struct in
     let test : (no_repeats (children of.fields) && no_repeats (children of.others)) ≡ false = sym c.have_no_repeats.ensures ∙ c.if-have_no_repeats.false in
-    structs_by_position c.args.a.now c.args.b.now of.fields of.others of.m of.n c.merge_nullability.result of.is-0 of.is-1 test c.merge_nullability.ensures.ok
+    structs_by_position c.args.a.now c.args.b.now of.fields of.others of.m of.n c.bitor-else-have_no_repeats.result c.merge_in_order.result of.is-0 of.is-1 test c.bitor-else-have_no_repeats.ensures c.merge_in_order.ensures
 
 pub merge_by_name-loop-name-preserved : goal.merge_by_name-loop-name-preserved
 merge_by_name-loop-name-preserved t c =
@@ -48,3 +58,87 @@ merge_maps-returns-then-is_nullable t c =
     let key : Some (tree c.in-Some.key) ≡ columns_merged a.0 b.0 = search (rules, c.in_ok-key.ensures, c.in-Some.is, c.key_dtype.ensures, c.key_dtype-2.ensures) in
     let nulls : IsNullable (tree c.in-Some.key) = search (rules, c.is_nullable.ensures, c.if-is_nullable.true) in
     keys_nullable a b c.args.n (tree c.in-Some.key) same key nulls
+
+pub merge_in_order-returns-then-ne : goal.merge_in_order-returns-then-ne
+merge_in_order-returns-then-ne t c =
+    let one = c.names.result.now in
+    let other = c.names-2.result.now in
+    struct_apart c.args.n (children c.args.a.now) (children c.args.b.now) (λ e. told_apart bytes_eq-Decides one other c.ne.result c.ne.ensures c.if-ne.true (c.names.ensures ∙ e ∙ sym c.names-2.ensures))
+
+pub merge_in_order-merge_types-requires : goal.merge_in_order-merge_types-requires
+merge_in_order-merge_types-requires t c = (omega (arith, ap weight_all c.fields.ensures.all, fields_weigh (children c.args.a.now)), tt)
+
+pub merge_in_order-new-requires : goal.merge_in_order-new-requires
+merge_in_order-new-requires t c =
+    let ps = children c.args.a.now in
+    let qs = children c.args.b.now in
+    let items = c.in-Some.dtypes.items in
+    let same : field_names ps ≡ field_names qs = sym c.names.ensures ∙ told_alike bytes_eq-Decides c.names.result.now c.names-2.result.now c.ne.result c.ne.ensures c.if-ne.false ∙ c.names-2.ensures in
+    let made : Some (map tree items) ≡ types_merged (field_types ps) (field_types qs) = search (rules, c.in_ok-dtypes.ensures, c.in-Some.is, c.fields.ensures.all, c.fields-2.ensures.all) in
+    let names : c.in_ok-names-in-Some.names ≡ field_names ps = search (rules, c.in_ok-names-in-Some.ensures, c.names-in-Some.ensures) in
+    let count : length items ≡ length (field_names ps) = sym (length-map items tree) ∙ fields_count ps qs (map tree items) made same in
+    search (rules, names, count)
+
+pub merge_in_order-returns-in_ok-new-in-Some : goal.merge_in_order-returns-in_ok-new-in-Some
+merge_in_order-returns-in_ok-new-in-Some t c =
+    let ps = children c.args.a.now in
+    let qs = children c.args.b.now in
+    let ts = map tree c.in-Some.dtypes.items in
+    let same : field_names ps ≡ field_names qs = sym c.names.ensures ∙ told_alike bytes_eq-Decides c.names.result.now c.names-2.result.now c.ne.result c.ne.ensures c.if-ne.false ∙ c.names-2.ensures in
+    let made : Some ts ≡ types_merged (field_types ps) (field_types qs) = search (rules, c.in_ok-dtypes.ensures, c.in-Some.is, c.fields.ensures.all, c.fields-2.ensures.all) in
+    let names : c.in_ok-names-in-Some.names ≡ field_names ps = search (rules, c.in_ok-names-in-Some.ensures, c.names-in-Some.ensures) in
+    struct_made c.in_ok-new-in-Some.field-0 c.args.n ps qs ts same made (c.in_ok-new-in-Some.ensures.ok ∙ ap (λ ns. zip ns ts) names)
+
+pub merge_in_order-returns-in-None : goal.merge_in_order-returns-in-None
+merge_in_order-returns-in-None t c =
+    let ps = children c.args.a.now in
+    let qs = children c.args.b.now in
+    let same : field_names ps ≡ field_names qs = sym c.names.ensures ∙ told_alike bytes_eq-Decides c.names.result.now c.names-2.result.now c.ne.result c.ne.ensures c.if-ne.false ∙ c.names-2.ensures in
+    let none : None ≡ types_merged (field_types ps) (field_types qs) = search (rules, c.in_ok-dtypes.ensures, c.in-None.is, c.fields.ensures.all, c.fields-2.ensures.all) in
+    struct_unmade c.args.n ps qs same none
+
+pub merge_unions-returns-then-ne : goal.merge_unions-returns-then-ne
+merge_unions-returns-then-ne t c = union_apart c.args.n (variant_list c.args.a.now) (variant_list c.args.b.now) (λ e f. elim c.then-ne.branch [
+  | merge_unions-then-ne-via-then-ne w ↦ told_apart bytes_eq-Decides c.names.result.now c.names-2.result.now c.ne.result c.ne.ensures w.if-ne.true (c.names.ensures ∙ e ∙ sym c.names-2.ensures)
+  | merge_unions-then-ne-via-else-ne+then-ne-2 w ↦ told_apart Decides-eqb w.type_ids.result.now w.type_ids-else-ne.result.now w.ne-else-ne.result w.ne-else-ne.ensures w.if-ne-2.true (w.type_ids.ensures ∙ f ∙ sym w.type_ids-else-ne.ensures)
+])
+
+pub merge_unions-merge_types-requires : goal.merge_unions-merge_types-requires
+merge_unions-merge_types-requires t c = (omega (arith, ap weight_all c.variants.ensures.all, variants_weigh (variant_list c.args.a.now)), tt)
+
+pub merge_unions-union_of-requires : goal.merge_unions-union_of-requires
+merge_unions-union_of-requires t c =
+    let vs = variant_list c.args.a.now in
+    let ws = variant_list c.args.b.now in
+    let items = c.in-Some.dtypes.items in
+    let names : variant_names vs ≡ variant_names ws = sym c.names.ensures ∙ told_alike bytes_eq-Decides c.names.result.now c.names-2.result.now c.ne.result c.ne.ensures c.if-ne.false ∙ c.names-2.ensures in
+    let made : Some (map tree items) ≡ types_merged (variant_types vs) (variant_types ws) = search (rules, c.in_ok-dtypes.ensures, c.in-Some.is, c.variants.ensures.all, c.variants-2.ensures.all) in
+    sym (length-map items tree) ∙ variants_count vs ws (map tree items) made names
+
+pub merge_unions-returns-in-Some : goal.merge_unions-returns-in-Some
+merge_unions-returns-in-Some t c =
+    let vs = variant_list c.args.a.now in
+    let ws = variant_list c.args.b.now in
+    let ts = map tree c.in-Some.dtypes.items in
+    let names : variant_names vs ≡ variant_names ws = sym c.names.ensures ∙ told_alike bytes_eq-Decides c.names.result.now c.names-2.result.now c.ne.result c.ne.ensures c.if-ne.false ∙ c.names-2.ensures in
+    let tags : variant_tags vs ≡ variant_tags ws = sym c.type_ids.ensures ∙ told_alike Decides-eqb c.type_ids.result.now c.type_ids-else-ne.result.now c.ne-else-ne.result c.ne-else-ne.ensures c.if-ne-2.false ∙ c.type_ids-else-ne.ensures in
+    let made : Some ts ≡ types_merged (variant_types vs) (variant_types ws) = search (rules, c.in_ok-dtypes.ensures, c.in-Some.is, c.variants.ensures.all, c.variants-2.ensures.all) in
+    subst (λ z. Makes c.union_of.result (λ r. option_map tree r ≡ z)) (union_some c.args.n vs ws ts names tags made) c.union_of.ensures
+
+pub merge_unions-returns-in-None : goal.merge_unions-returns-in-None
+merge_unions-returns-in-None t c =
+    let vs = variant_list c.args.a.now in
+    let ws = variant_list c.args.b.now in
+    let names : variant_names vs ≡ variant_names ws = sym c.names.ensures ∙ told_alike bytes_eq-Decides c.names.result.now c.names-2.result.now c.ne.result c.ne.ensures c.if-ne.false ∙ c.names-2.ensures in
+    let tags : variant_tags vs ≡ variant_tags ws = sym c.type_ids.ensures ∙ told_alike Decides-eqb c.type_ids.result.now c.type_ids-else-ne.result.now c.ne-else-ne.result c.ne-else-ne.ensures c.if-ne-2.false ∙ c.type_ids-else-ne.ensures in
+    let none : None ≡ types_merged (variant_types vs) (variant_types ws) = search (rules, c.in_ok-dtypes.ensures, c.in-None.is, c.variants.ensures.all, c.variants-2.ensures.all) in
+    union_unmade c.args.n vs ws names tags none
+
+pub merge_types-returns : goal.merge_types-returns
+merge_types-returns t c =
+    let it = c.loop-dtype.dtype-iterator in
+    let done = map tree c.loop-dtype.dtypes.items in
+    elim c.in-None.ensures.steps [
+      | inl a ↦ left_done done (map tree (zip_first it)) (map tree (zip_second it)) _ (search (rules, a.1)) c.loop-dtype.invariant.merged
+      | inr b ↦ right_done done (map tree (zip_first it)) (map tree (zip_second it)) _ (search (rules, b.1)) c.loop-dtype.invariant.merged
+    ]

@@ -1,14 +1,16 @@
 -- SPDX-License-Identifier: Apache-2.0
 -- SPDX-FileCopyrightText: Copyright the Vortex contributors
 
-use Rattle.std.proofs.Common.{◌≡◌, ◌+◌, ◌*◌, ◌++◌, ◌≤◌}
+use Rattle.std.proofs.Common.{◌≡◌, ◌+◌, ◌*◌, ◌++◌, ◌≤◌, map}
+use Rattle.std.specs.Iterator.Adapters.{zip_first, zip_second}
 use Rattle.std.specs.Option.{option_map}
 use Rattle.dtype_types.specs.parts.Maps.{key_tree, value_tree}
 use Rattle.dtype_types.specs.tree.Tree.{fields}
-use Rattle.dtype_types.specs.tree.TreeOf.{fields_of, storage_tree, tree, with_trees}
+use Rattle.dtype_types.specs.tree.TreeOf.{fields_of, storage_tree, tree, variants_of, with_trees}
 use Rattle.dtype_types.proofs.lemmas.TypesBelow.{weight, weight_items}
 use Rattle.dtype_merging.specs.MergedColumns.{merged_by_name}
-use Rattle.dtype_merging.specs.private.Collected.{collected}
+use Rattle.dtype_merging.specs.private.Collected.{collected, types_merged}
+use Rattle.dtype_merging.proofs.Ordered.{weight_all}
 use Rattle.dtype_merging.proofs.merge.+merging.Given as goal
 
 abbrev pub decreases-merge : goal.decreases-merge
@@ -28,6 +30,22 @@ decreases-merge_by_name l = 4 * weight_items (fields_of l.a.now) + 2
 
 abbrev pub decreases-merge_column : goal.decreases-merge_column
 decreases-merge_column l = 4 * weight (tree l.dtype.now) + 1
+
+abbrev pub decreases-merge_in_order : goal.decreases-merge_in_order
+decreases-merge_in_order l = 4 * weight_items (fields_of l.a.now) + 3
+
+abbrev pub decreases-merge_unions : goal.decreases-merge_unions
+decreases-merge_unions l = 4 * weight_items (variants_of l.a.now) + 3
+
+abbrev pub decreases-merge_types : goal.decreases-merge_types
+decreases-merge_types l = 4 * weight_all (map tree l.a) + 1
+
+-- the types so far, followed by what is merged of those that are left, are what is merged of all
+abbrev pub invariant-merge_types-loop-dtype : goal.invariant-merge_types-loop-dtype
+invariant-merge_types-loop-dtype l = record {
+  merged : option_map (λ ts. map tree l.dtypes.items ++ ts) (types_merged (map tree (zip_first l.dtype-iterator)) (map tree (zip_second l.dtype-iterator))) ≡ types_merged (map tree l.fn.a) (map tree l.fn.b);
+  within : weight_all (map tree (zip_first l.dtype-iterator)) ≤ weight_all (map tree l.fn.a);
+}
 
 -- the columns so far, followed by what is merged of the fields that are left, are what is merged of all
 abbrev pub invariant-merge_by_name-loop-name : goal.invariant-merge_by_name-loop-name

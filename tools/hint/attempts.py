@@ -14,9 +14,9 @@ from repository import text_of
 
 # How many rulesets are tried alone in the first round and in the third, and how many pairs in the second.
 FIRST, LATER, PAIRS = 12, 14, 10
-# The rulesets for a loop over two structs side by side, and for one that goes down a type, of which no definition tells
-# that they fit.
-ZIPPED, SMALLER = (f"vortex_dtype::proofs::rulesets::{it}" for it in ("zipped", "smaller_parts"))
+# The rulesets for a loop over two structs side by side, for one that goes down a type, and for one over the paths that a
+# set lends. The code tells that they fit, and no definition does.
+ZIPPED, SMALLER, LENT = (f"vortex_dtype::proofs::rulesets::{it}" for it in ("zipped", "smaller_parts", "lent_paths"))
 
 # A change of a function: the text with a form in it, the rulesets of the line above it (None: as it is), its invariant.
 Try = namedtuple("Try", "form rulesets invariant")
@@ -42,10 +42,7 @@ class Subject:
         crate = re.search(r"crates/(\w+)/src/", function.file)[1]
         self.loops = [(it, guess) for it in every if it.loop
                       for guess in invariants.guesses_of_form(it, text, crate, path)[:2]]
-        self.ranked = rulesets.ranked(self.contract, function.signature + function.body)
-        for word, fitting in ((".zip(", ZIPPED), ("while ", SMALLER)):
-            if word in self.text and fitting in self.ranked:
-                self.ranked.sort(key=lambda it: it != fitting)
+        self.ranked = by_code(self.text, rulesets.ranked(self.contract, function.signature + function.body))
         self.unfolded = unfolded(function, text)
         self.tried = {AS_WRITTEN: said.open_goals(path)}
         # (of a loop that has an invariant the skeleton is what a check says without it)
@@ -185,6 +182,12 @@ class Subject:
         if it.rulesets is not None:
             kept = [line for line in kept if not own_line(line)] + [f"{indent}{line_of(it.rulesets)}\n"]
         return "".join(kept)
+
+
+def by_code(text, names):
+    """These rulesets, with those in front of which the code of a function tells that they fit."""
+    fitting = [it for word, it in ((".iter()?", LENT), (".zip(", ZIPPED), ("while ", SMALLER)) if word in text]
+    return sorted(names, key=lambda it: it not in fitting)
 
 
 def proofs_of(path, recursive):

@@ -381,25 +381,32 @@ CHAIN = "a chain that ends in"
 
 
 def chains(parts, _):
-    """`any` or `all` in place of a loop at the end that does nothing but look for one element. A chain needs no invariant."""
+    """`any`, `all` or `find` in place of a loop at the end that does nothing but look for one element. A chain needs no
+    invariant."""
     found = EARLY.search(parts.body)
     if not found:
         return
-    method = {("true", "false"): "any", ("false", "true"): "all"}
-    ends = tuple(re.sub(r"^Ok\((\w+)\)$", r"\1", found[it]) for it in ("found", "end"))
-    if ends not in method or found["found"].startswith("Ok(") != found["end"].startswith("Ok("):
+    ends = tuple(re.sub(r"^Ok\((.*)\)$", r"\1", found[it]) for it in ("found", "end"))
+    method = {("true", "false"): "any", ("false", "true"): "all", (f"Some({found['item']})", "None"): "find"}.get(ends)
+    if not method or found["found"].startswith("Ok(") != found["end"].startswith("Ok("):
         return
     over = found["over"].strip()
     is_own = re.fullmatch(r"&?\w+", over)
     over = f"{over.lstrip('&')}.iter()" if is_own else over
     test = " ".join(found["test"].split())
-    chain = f"{over}.{method[ends]}(|{found['item']}| {test if method[ends] == 'any' else negated(test)})"
+    test = {"any": test, "all": negated(test), "find": lent(test, found["item"])}[method]
+    chain = f"{over}.{method}(|{found['item']}| {test})"
     chain = f"Ok({chain})" if found["end"].startswith("Ok(") else chain
     changed = parts._replace(body=f"{parts.body[:found.start()]}{chain}\n}}")
-    name = f"{CHAIN} `{method[ends]}` in place of the loop, which needs no invariant"
+    name = f"{CHAIN} `{method}` in place of the loop, which needs no invariant"
     yield Form(name, changed, (), "")
     for it in of_each(changed, _):
         yield Form(f"{name}, and {it.name}", it.text, it.imports, "")
+
+
+def lent(test, item):
+    """A test of an item, of which the closure has a reference: an argument of a call is the item behind it."""
+    return re.sub(rf"(\(|, )(&?){item}(?=[,)])", lambda it: it[1] + ("" if it[2] else "*") + item, test)
 
 
 def negated(test):

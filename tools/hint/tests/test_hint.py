@@ -11,6 +11,7 @@ import unittest
 from planted import TOOLS, Planted
 
 sys.path.append(f"{TOOLS}/hint")
+import attempts
 import forms
 import goals
 import imports
@@ -364,6 +365,18 @@ class Forms(unittest.TestCase):
         self.assertEqual([forms.negated(it) for it in ("a.b()", "!a.b()", "a && b", "a < b", "a != b")],
                          ["!a.b()", "a.b()", "!(a && b)", "!(a < b)", "a == b"])
 
+    def test_find_in_place_of_a_loop(self):
+        text = ("fn f<'a>(s: &'a S, t: &T) -> VortexResult<Option<&'a P>>\n    ensures { IfOk result (λ r. IfNone r (Q s.now t.now)) }\n{\n"
+                "    for p in s.iter()? {\n        if p.meets(t) {\n            return Ok(Some(p));\n        }\n    }\n    Ok(None)\n}")
+        name = "a chain that ends in `find` in place of the loop, which needs no invariant"
+        self.assertTrue(form(text, name).endswith("{\n    Ok(s.iter()?.find(|p| p.meets(t)))\n}"), form(text, name))
+        self.assertIn("Ok(s.iter()?.find(|p| !t.has(*p)))\n", form(text.replace("p.meets(t)", "!t.has(p)"), name))
+        self.assertIn("Ok(s.iter()?.find(|p| t.has(u, *p) && p.is(p.a)))\n", form(text.replace("p.meets(t)", "t.has(u, p) && p.is(p.a)"), name))
+        self.assertIn("Ok(s.into_iter()?.find(|p| t.has(p)))\n", form(text.replace("s.iter()", "s.into_iter()").replace("p.meets(t)", "t.has(&p)"), name))
+        self.assertIn("{\n    s.iter().find(|p| p.meets(t))\n}", form(text.replace("in s.iter()?", "in s").replace("Ok(Some(p))", "Some(p)").replace("Ok(None)", "None"), name))
+        for other in (text.replace("Some(p)", "Some(t)"), text.replace("Ok(None)", "Ok(Some(s))"), text.replace("Ok(None)", "None")):
+            self.assertIsNone(form(other, name))
+
     def test_a_name_in_a_pattern(self):
         text = "fn f(a: u8) -> bool\n{\n    match g(a) {\n        Ok(_) => true,\n        Err(_) => false,\n    }\n}"
         self.assertEqual(form(text, "a name in place of `_` in a pattern"),
@@ -591,6 +604,13 @@ class Goals(unittest.TestCase):
 
 
 class Rulesets(unittest.TestCase):
+    def test_the_code_tells_that_a_ruleset_fits(self):
+        contract = "IfOk result (λ r. IfNone r ((p : List Field) → IsTrue (set.contains s.now p) → Overlaps p path.now → ⊥))"
+        body = "for p in s.iter()? { if p.overlap(path) { return Ok(Some(p)); } } Ok(None)"
+        known = rulesets.ranked(contract, body)
+        self.assertEqual(attempts.by_code(body, known), [attempts.LENT, *(it for it in known if it != attempts.LENT)])
+        self.assertEqual(attempts.by_code(body.replace("iter()?", "into_iter()?"), known), known)
+
     def test_each_ruleset_has_lemmas(self):
         for path, it in rulesets.rulesets().items():
             with self.subTest(path):

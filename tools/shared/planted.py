@@ -1,7 +1,7 @@
 # SPDX-License-Identifier: Apache-2.0
 # SPDX-FileCopyrightText: Copyright the Vortex contributors
 
-"""A copy of the repository, without what is built, in which a test plants a fault."""
+"""A copy of the repository, without what is built and without the release, in which a test plants a fault."""
 import os
 import shutil
 import subprocess
@@ -14,11 +14,19 @@ BUILT = shutil.ignore_patterns(".git", "out", "target", "__pycache__")
 
 
 class Planted(unittest.TestCase):
+    # The folders and the files that the tests need, if they don't need all.
+    parts = None
+
     def setUp(self):
         self.top = tempfile.mkdtemp(prefix="planted-")
         self.addCleanup(shutil.rmtree, self.top)
-        shutil.copytree(os.path.dirname(TOOLS), self.top, ignore=BUILT, copy_function=shutil.copy,
-                        dirs_exist_ok=True)
+        top = os.path.dirname(TOOLS)
+        for part in self.parts or set(os.listdir(top)) - {".git", "out", "release"}:
+            os.makedirs(os.path.dirname(f"{self.top}/{part}"), exist_ok=True)
+            if os.path.isdir(f"{top}/{part}"):
+                shutil.copytree(f"{top}/{part}", f"{self.top}/{part}", ignore=BUILT, copy_function=shutil.copy)
+            else:
+                shutil.copy(f"{top}/{part}", f"{self.top}/{part}")
 
     def read(self, file):
         with open(f"{self.top}/{file}", encoding="utf-8") as it:

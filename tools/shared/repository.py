@@ -135,9 +135,9 @@ def rattle_over_built(verb, crate, *flags):
             "--logic-built", f"{kit}/logic_built", *flags]
 
 
-def version():
-    """The newest version of CHANGELOG.md, or None."""
-    found = re.search(r"(?m)^## (\d+\.\d+\.\d+)", text_of("CHANGELOG.md"))
+def version(changes=None):
+    """The newest version of CHANGELOG.md, or of another text of it, or None."""
+    found = re.search(r"(?m)^## (\d+\.\d+\.\d+)", text_of("CHANGELOG.md") if changes is None else changes)
     return found and found[1]
 
 

@@ -11,6 +11,7 @@ RUN_BY = "tools/pages/run_by"
 CALLING = "crates/vortex_dtype/CALLING.md"
 CHANGES = [
     ("README.md", "", "```rust\nlet gone = FieldName::gone();\n```\n", "README.md:LINE: no source has this block"),
+    ("README.md", "", "```c\nvlt_gone();\n```\n", "README.md:LINE: no source has this block"),
     ("README.md", "", "```console\n> name a\nb\n```\n", "README.md:LINE: > name a: no golden test has this line and"),
     (CALLING, "", "```text\nfn FieldName::gone()\n```\n", "fn FieldName::gone(): no function has this signature"),
     (CALLING, "(into_iter_items r.0)", "(into_iter_items r.1)", "no such clause: ensures ok: Makes result (λ r. set_of"),
@@ -36,6 +37,7 @@ CHANGES = [
     ("crates/dtype_native/src/integer_ptype.rt", "/// A native integer type: `u8`", "/// A type: `u8`",
      "docs/reference/dtype_native.md isn't of these sources"),
     ("CHANGELOG.md", f"## {version()}", f"## 9.9.9\n\n## {version()}", "its newest version is 9.9.9, the console's"),
+    ("bindings/rust/Cargo.toml", f'\nversion = "{version()}"', '\nversion = "9.9.8"', "Cargo.toml: its version is 9.9.8, and the newest"),
     ("crates/dtype_console/stdin", "", "name b\n", "stdin: its lines aren't those of crates/dtype_console/stdout"),
     ("docs/benchmarks.csv", "", "find/x/10,30,10\n", "its summary isn't of docs/benchmarks.csv"),
     ("docs/benchmarks.csv", "", "fly/x,20,10\n", "no operation of tools/pages/speed.py has the case fly/x"),
@@ -49,6 +51,15 @@ class Pages(Planted):
     def test_takes_what_is_there(self):
         self.change("docs/TRUST.md", "", "\n```console\n> name \"a b\"\n\"a b\"\n```\n\n```sh\ntools/pages/reference --check\n```\n")
         self.assertEqual(self.run_tool("pages")[0], 0)
+
+    def test_tells_files_that_a_release_lacks(self):
+        self.write("release/rust/Cargo.toml", "")
+        status, said = self.run_tool("pages")
+        self.assertEqual(status, 1)
+        for told in ("README.md: there is no release/python/vortex_logical_types-*.whl\n",
+                     "README.md: there is no release/lib/libvortex_logical_types.a\n", "there is no release/MADE\n"):
+            self.assertIn(told, said)
+        self.assertNotIn("there is no release/rust", said)
 
     def test_tells_a_line_that_is_too_long(self):
         long = "a" * 501

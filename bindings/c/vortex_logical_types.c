@@ -7,12 +7,15 @@
  * file isn't proved, but tested (bindings/c/tests). tools/bindings/bindings writes the functions at its end. */
 #include "vortex_logical_types.h"
 
+#include <string.h>
+
 /* What is passed for a null pointer with the length 0, since a proved function takes no null pointer. */
 static size_t no_items[2];
 
-/* Returns whether two slots are the same slot, or have the same object. */
+/* Returns whether two slots are the same slot, or have the same object. (The pointers to the objects are compared first,
+ * because they mostly differ, and so a call with several slots loads each pointer once.) */
 static inline bool are_same(const vlt_slot *one, const vlt_slot *other) {
-    return one == other || (one->at == other->at && one->at);
+    return one->at == other->at && (one->at || one == other);
 }
 
 /* Returns whether a slot is one of the `count` slots that begin at `slots`, or has the object of one of them. */
@@ -23,11 +26,24 @@ static bool is_among(const vlt_slot *slot, const vlt_slot *slots, size_t count) 
     return (has_object && slot->at) || (uintptr_t)slot - (uintptr_t)slots < count * sizeof(vlt_slot);
 }
 
-/* How many pointers are compared with each other, how many are in one part, about, and the room of a table for them. */
-enum { FEW = 32, MANY = 1024, ROOM = 2 * MANY };
+/* How many pointers are looked for among those before them, how many are in one part, about, and the room of a table for
+ * them. */
+enum { FEW = 64, MANY = 1024, ROOM = 2 * MANY };
 
 /* A number that is different for most pointers. */
 static inline uint64_t mixed(const void *pointer) { return (uint64_t)(uintptr_t)pointer * 0x9e3779b97f4a7c15u; }
+
+/* Returns whether each pointer is greater than those before it, so that none is there twice. */
+static bool are_in_order(const vlt_slot *slots, size_t count) {
+    uintptr_t greatest = 0;
+    for (size_t at = 0; at < count; at++) {
+        uintptr_t pointer = (uintptr_t)slots[at].at;
+        if (pointer && pointer <= greatest)
+            return false;
+        greatest = pointer ? pointer : greatest;
+    }
+    return true;
+}
 
 /* Returns whether one of the slots before `at` has the object of the slot at `at`. */
 static bool is_earlier(const vlt_slot *slots, size_t at) {
@@ -37,22 +53,38 @@ static bool is_earlier(const vlt_slot *slots, size_t at) {
     return found && slots[at].at;
 }
 
-/* Returns whether two of the slots whose pointers are in one of the parts have the same object. The number of parts is a
- * power of two. The table is on the stack, so that the checks of a call can't lack memory. */
-static bool repeats_in_part(const vlt_slot *slots, size_t count, size_t part, size_t parts) {
-    const void *table[ROOM] = {0};
+/* Returns whether two of a few slots have the same object. Each pointer has one of 1,024 bits, and if no pointer before it
+ * has that bit, then none of them is this pointer. */
+static bool few_have_repeats(const vlt_slot *slots, size_t count) {
+    uint64_t seen[16] = {0};
+    for (size_t at = 0; at < count; at++) {
+        uint64_t number = mixed(slots[at].at), bit = (uint64_t)1 << (number >> 54 & 63);
+        uint64_t *word = &seen[number >> 60];
+        if (*word & bit && is_earlier(slots, at))
+            return true;
+        *word |= bit;
+    }
+    return false;
+}
+
+/* Returns whether two of the slots whose pointers are in one of the parts have the same object. The number of parts, and the
+ * room that is used of the table, are powers of two. The table is on the stack, so that the checks of a call can't lack
+ * memory. */
+static bool repeats_in_part(const vlt_slot *slots, size_t count, size_t part, size_t parts, size_t room) {
+    const void *table[ROOM];
     size_t entered = 0;
+    memset(table, 0, room * sizeof(*table));
     for (size_t at = 0; at < count; at++) {
         uint64_t number = mixed(slots[at].at);
-        size_t place = (size_t)(number >> 40) % ROOM;
+        size_t place = (size_t)(number >> 40) & (room - 1);
         if (!slots[at].at || ((size_t)(number >> 16) & (parts - 1)) != part)
             continue;
         while (table[place] && table[place] != slots[at].at)
-            place = (place + 1) % ROOM;
+            place = (place + 1) & (room - 1);
         /* (If more pointers fall into this part than the table has room for, the slow test is made.) */
-        if (table[place] || (entered == ROOM - 1 && is_earlier(slots, at)))
+        if (table[place] || (entered == room - 1 && is_earlier(slots, at)))
             return true;
-        if (entered < ROOM - 1) {
+        if (entered < room - 1) {
             table[place] = slots[at].at;
             entered++;
         }
@@ -60,20 +92,21 @@ static bool repeats_in_part(const vlt_slot *slots, size_t count, size_t part, si
     return false;
 }
 
-/* Returns whether two of the slots have the same object. Few slots are compared with each other. Many slots are first
- * divided into parts by their pointers, because comparing each with each takes too long. */
+/* Returns whether two of the slots have the same object. Objects that were made one after another are mostly in this order
+ * in memory, which is tested first. Many slots are divided into parts by their pointers, because looking for each among all
+ * before it takes too long. */
 static bool have_repeats(const vlt_slot *slots, size_t count) {
-    if (count <= FEW) {
-        for (size_t at = 1; at < count; at++)
-            if (is_earlier(slots, at))
-                return true;
+    size_t parts = 1, room = 4 * FEW;
+    if (are_in_order(slots, count))
         return false;
-    }
-    size_t parts = 1;
+    if (count <= FEW)
+        return few_have_repeats(slots, count);
     while (parts * MANY < count)
         parts *= 2;
+    while (room < ROOM && room < 2 * count)
+        room *= 2;
     for (size_t part = 0; part < parts; part++)
-        if (repeats_in_part(slots, count, part, parts))
+        if (repeats_in_part(slots, count, part, parts, room))
             return true;
     return false;
 }

@@ -4,26 +4,27 @@
 /* The logical types of columnar data, and paths into them: the C interface of a library that is proved.
  *
  * What is proved. Each function below checks its arguments and then calls a proved function, whose name begins with
- * vlt_core_. The contract of a proved function, in crates/vortex_logical_types, says what the function returns and what
- * its slots contain afterwards. The checks are in vortex_logical_types.c. They aren't proved, but tested.
+ * vlt_core_. The contract of a proved function says what the function returns and what its slots contain afterwards. (The
+ * contracts are in the folder crates/vortex_logical_types of the project's repository.) The checks are in
+ * vortex_logical_types.c. They aren't proved, but tested.
  *
  * The contracts leave these things open, which are only tested: at which byte of a text an error is, what
- * vlt_error_message writes, and how many paths vlt_set_extend_from_list has added if memory runs out. A call that stores
- * an object or writes bytes may always return VLT_LIBRARY because memory runs out, and the order of the paths in a list is
- * open.
+ * vlt_error_message writes of an error of the library or of a text that can't be read, and how many paths
+ * vlt_set_extend_from_list has added if memory runs out. A call that stores an object or writes bytes may always return
+ * VLT_LIBRARY because memory runs out, and the order of the paths in a list is open.
  *
  * Slots. A slot is a place for one object, which it owns. There is a type of slots for each kind of object, for example
  * vlt_dtype for types and vlt_path for paths, so that a compiler refuses a path where a type is expected. Initialise a
  * slot with VLT_EMPTY, which makes it empty. When you no longer need its object, call the function of its kind that ends in
- * _free, for example vlt_dtype_free, which drops the object and leaves the slot empty. Never copy a slot by =, because
+ * _free, for example vlt_dtype_free, which frees the object and leaves the slot empty. Never copy a slot by =, because
  * then two slots own one object. If the comment of a function says that it stores something in `out`, then the function
- * drops the object that `out` contained before and stores the result there if it returns VLT_DONE. If it returns any
+ * frees the object that `out` contained before and stores the result there if it returns VLT_DONE. If it returns any
  * other number, `out` is unchanged. A slot that is passed as a pointer to const keeps its object.
  *
  * The slots of one call must be different, and have different objects. If two of them are the same slot or have the same
  * object, the call returns VLT_SAME_SLOT and changes nothing. This is also so for the slots of an array.
  *
- * Results. Each call returns a vlt_result, except those that drop an object, vlt_kind and vlt_abi_version. The last
+ * Results. Each call returns a vlt_result, except those that free an object, vlt_kind and vlt_abi_version. The last
  * sentence of a comment lists all results of the function, and the sentences before it say when they are returned, except
  * for these, which have the same meaning everywhere:
  *
@@ -54,9 +55,17 @@
  * Texts and bytes that are returned. The call writes them to `buffer`, which has room for `buffer_len` bytes. If it
  * returns VLT_DONE, it has written `*length` bytes, and no zero byte after them. If the buffer is too small, it returns
  * VLT_SMALL, writes nothing to the buffer, and sets `*length` to the size that is needed. So you can find the size with
- * a buffer that is null and a `buffer_len` of 0. Several names are written to two buffers, in the form in which they are
- * passed in: the bytes of all names, and the length of each. If a step of a path is returned and `*length` is VLT_ELEMENT, then the
- * step is the one to the element, and no bytes were written.
+ * a buffer that is null and a `buffer_len` of 0:
+ *
+ *     size_t length = 0;
+ *     uint8_t *text = NULL;
+ *     vlt_result result = vlt_dtype_to_text(&dtype, NULL, 0, &length);
+ *     if (result == VLT_SMALL && (text = malloc(length)) != NULL)
+ *         result = vlt_dtype_to_text(&dtype, text, length, &length);
+ *
+ * Several names are written to two buffers, in the form in which they are passed in: the bytes of all names, and the
+ * length of each. If a step of a path is returned and `*length` is VLT_ELEMENT, then the step is the one to the element,
+ * and no bytes were written.
  *
  * Messages. The library doesn't read the bytes of protobuf. A program that decodes them by itself writes what it
  * decoded as an array of vlt_node and as the bytes of all texts, one text directly after the other, and passes both to
@@ -68,8 +77,8 @@
  *
  * - A pointer is valid for its length.
  * - A pointer to a slot, or to a place where a call writes a number, isn't null. No other argument of the call overlaps
- *   such a place or a buffer. Only an `error` that isn't wanted, and the argument of a
- *   function that ends in _free, may be null.
+ *   such a place or a buffer. Only an `error` that isn't wanted, and the argument of a function that ends in _free, may be
+ *   null.
  * - A slot is empty, or it was filled by the library.
  * - No two calls are made at the same time, on whatever threads and with whatever objects, because types share their
  *   parts, and the owners of a part are counted without a lock. For example, a program with several threads holds one
@@ -466,8 +475,10 @@ VLT_MUST_USE vlt_result vlt_dtype_union_consecutive(
  *   both have is merged by these rules. A field that only one of the two has is nullable.
  * - Lists, fixed-size lists of the same size, maps with the same `keys_sorted`, and extensions with the same id and
  *   the same metadata are merged by their parts. Maps whose merged key type would be nullable can't be merged.
- * - All other types are merged as `vlt_dtype_merge_nullability` merges them. So are structs in which a name repeats,
- *   because their columns can't be told apart by name.
+ * - Unions with the same names and tags in the same order are merged variant by variant. Structs in which a name
+ *   repeats are merged field by field, if both have the same names in the same order, because their columns can't be
+ *   told apart by name.
+ * - All other types are merged as `vlt_dtype_merge_nullability` merges them.
  * - A type that isn't an extension is nullable if one of the two is, at every depth.
  *
  * For example, it is `{a=i32, b=utf8?}` for `{a=i32}` and `{b=utf8, a=i32}`. Returns 1 if there is no such type.
@@ -478,9 +489,9 @@ VLT_MUST_USE vlt_result vlt_dtype_merge_columns(const vlt_dtype *one, const vlt_
 /* Stores in `path` the path to the first place at which two types can't be merged by `vlt_dtype_merge_columns`, in
  * `left` the type at this place in the first type, and in `right` the type at this place in the second. The first
  * place is the first one in the order of the fields of the first type. A path leads only into structs, lists and
- * fixed-size lists, so if the keys or values of two maps can't be merged, it is the path to the maps. For example,
- * the call stores `customer.id`, `u64` and `utf8` for `{customer={id=u64}}` and `{customer={id=utf8}}`. Returns 1 if
- * the types can be merged.
+ * fixed-size lists, so if the keys or values of two maps can't be merged, it is the path to the maps. The same is
+ * true of unions, extensions, and structs in which a name repeats. For example, the call stores `customer.id`, `u64`
+ * and `utf8` for `{customer={id=u64}}` and `{customer={id=utf8}}`. Returns 1 if the types can be merged.
  *
  * Results: VLT_DONE, VLT_NONE, VLT_KIND, VLT_SAME_SLOT or VLT_LIBRARY. */
 VLT_MUST_USE vlt_result vlt_dtype_merge_conflict(
@@ -726,9 +737,9 @@ VLT_MUST_USE vlt_result vlt_struct_names(
  * Results: VLT_DONE, VLT_KIND, VLT_CONDITION, VLT_SMALL, VLT_SAME_SLOT, VLT_RANGE or VLT_LIBRARY. */
 VLT_MUST_USE vlt_result vlt_struct_types(const vlt_dtype *dtype, vlt_dtype *types, size_t types_len, size_t *count);
 
-/* Stores in `out` the struct without the field at the position `index`, which is counted from 0. It has the outer
- * nullability of the original struct. Returns 5 if the type isn't a struct, and 117 if the position isn't below the
- * number of fields. Then `error` contains the error with both numbers.
+/* Stores in `out` the struct without the field with this index, which is counted from 0. It is nullable if the
+ * struct in `dtype` is. Returns 5 if the type isn't a struct, and 117 if the index isn't below the number of fields.
+ * Then `error` contains the error with the index and the number of fields.
  *
  * Results: VLT_DONE, VLT_KIND, VLT_CONDITION, VLT_SAME_SLOT, VLT_LIBRARY or VLT_ERROR_INDEX_OUT_OF_BOUNDS. */
 VLT_MUST_USE vlt_result vlt_struct_without_field(
@@ -749,8 +760,8 @@ VLT_MUST_USE vlt_result vlt_struct_disjoint_merge(
  * of bytes of each name. For example, the names `id` and `city` are the bytes `idcity` with the lengths 2 and 4.
  *
  * Returns 3 if a name isn't UTF-8, 5 if the type isn't a struct, 9 if the lengths don't add up to the number of
- * bytes, and 116 if one of the names isn't the name of any field. Then `error` contains the error with the position
- * of the first such name among the names, counted from 0.
+ * bytes, and 116 if one of the names isn't the name of any field. Then `error` contains the error with the index of
+ * the first such name among the names, counted from 0.
  *
  * Results: VLT_DONE, VLT_KIND, VLT_UTF8, VLT_CONDITION, VLT_SAME_SLOT, VLT_RANGE, VLT_LIBRARY or
  * VLT_ERROR_FIELD_NOT_FOUND. */
@@ -763,13 +774,13 @@ VLT_MUST_USE vlt_result vlt_struct_project(
  * Results: VLT_DONE, VLT_KIND or VLT_CONDITION. */
 VLT_MUST_USE vlt_result vlt_struct_nfields(const vlt_dtype *dtype, size_t *count);
 
-/* Stores in `out` the type of the field at the position `index`, which is counted from 0. Returns 1 if the position
- * isn't below the number of fields, and 5 if the type isn't a struct.
+/* Stores in `out` the type of the field with this index, which is counted from 0. Returns 1 if the index isn't below
+ * the number of fields, and 5 if the type isn't a struct.
  *
  * Results: VLT_DONE, VLT_NONE, VLT_KIND, VLT_CONDITION, VLT_SAME_SLOT or VLT_LIBRARY. */
 VLT_MUST_USE vlt_result vlt_struct_field_by_index(const vlt_dtype *dtype, size_t index, vlt_dtype *out);
 
-/* Writes the position of the first field with this name, counted from 0, to `index`. Returns 1 if no field has the
+/* Writes the index of the first field with this name, counted from 0, to `index`. Returns 1 if no field has the
  * name, 3 if the name isn't UTF-8, and 5 if the type isn't a struct.
  *
  * Results: VLT_DONE, VLT_NONE, VLT_KIND, VLT_UTF8, VLT_CONDITION or VLT_RANGE. */
@@ -781,8 +792,8 @@ VLT_MUST_USE vlt_result vlt_struct_find(const vlt_dtype *dtype, const uint8_t *n
  * Results: VLT_DONE, VLT_NONE, VLT_KIND, VLT_UTF8, VLT_CONDITION, VLT_SAME_SLOT, VLT_RANGE or VLT_LIBRARY. */
 VLT_MUST_USE vlt_result vlt_struct_field(const vlt_dtype *dtype, const uint8_t *name, size_t name_len, vlt_dtype *out);
 
-/* Writes the name of the field at the position `index`, which is counted from 0, to `buffer`. Returns 1 if the
- * position isn't below the number of fields, and 5 if the type isn't a struct.
+/* Writes the name of the field with this index, which is counted from 0, to `buffer`. Returns 1 if the index isn't
+ * below the number of fields, and 5 if the type isn't a struct.
  *
  * Results: VLT_DONE, VLT_NONE, VLT_KIND, VLT_CONDITION, VLT_SMALL or VLT_RANGE. */
 VLT_MUST_USE vlt_result vlt_struct_field_name(
@@ -824,14 +835,14 @@ VLT_MUST_USE vlt_result vlt_union_types(const vlt_dtype *dtype, vlt_dtype *types
  * Results: VLT_DONE, VLT_KIND or VLT_CONDITION. */
 VLT_MUST_USE vlt_result vlt_union_len(const vlt_dtype *dtype, size_t *count);
 
-/* Stores in `out` the type of the variant at the position `index`, which is counted from 0. Returns 1 if the position
- * isn't below the number of variants, and 5 if the type isn't a union.
+/* Stores in `out` the type of the variant with this index, which is counted from 0. Returns 1 if the index isn't
+ * below the number of variants, and 5 if the type isn't a union.
  *
  * Results: VLT_DONE, VLT_NONE, VLT_KIND, VLT_CONDITION, VLT_SAME_SLOT or VLT_LIBRARY. */
 VLT_MUST_USE vlt_result vlt_union_variant_by_index(const vlt_dtype *dtype, size_t index, vlt_dtype *out);
 
-/* Writes the position of the variant with this name, counted from 0, to `index`. Returns 1 if no variant has the
- * name, 3 if the name isn't UTF-8, and 5 if the type isn't a union.
+/* Writes the index of the variant with this name, counted from 0, to `index`. Returns 1 if no variant has the name,
+ * 3 if the name isn't UTF-8, and 5 if the type isn't a union.
  *
  * Results: VLT_DONE, VLT_NONE, VLT_KIND, VLT_UTF8, VLT_CONDITION or VLT_RANGE. */
 VLT_MUST_USE vlt_result vlt_union_find(const vlt_dtype *dtype, const uint8_t *name, size_t name_len, size_t *index);
@@ -842,20 +853,20 @@ VLT_MUST_USE vlt_result vlt_union_find(const vlt_dtype *dtype, const uint8_t *na
  * Results: VLT_DONE, VLT_NONE, VLT_KIND, VLT_UTF8, VLT_CONDITION, VLT_SAME_SLOT, VLT_RANGE or VLT_LIBRARY. */
 VLT_MUST_USE vlt_result vlt_union_variant(const vlt_dtype *dtype, const uint8_t *name, size_t name_len, vlt_dtype *out);
 
-/* Writes the position of the variant with this tag, counted from 0, to `index`. Returns 1 if no variant has the tag,
+/* Writes the index of the variant with this tag, counted from 0, to `index`. Returns 1 if no variant has the tag,
  * and 5 if the type isn't a union.
  *
  * Results: VLT_DONE, VLT_NONE, VLT_KIND or VLT_CONDITION. */
 VLT_MUST_USE vlt_result vlt_union_tag_to_child_index(const vlt_dtype *dtype, uint8_t tag, size_t *index);
 
-/* Writes the tag of the variant at the position `index`, which is counted from 0, to `tag`. Returns 1 if the position
- * isn't below the number of variants, and 5 if the type isn't a union.
+/* Writes the tag of the variant with this index, which is counted from 0, to `tag`. Returns 1 if the index isn't
+ * below the number of variants, and 5 if the type isn't a union.
  *
  * Results: VLT_DONE, VLT_NONE, VLT_KIND or VLT_CONDITION. */
 VLT_MUST_USE vlt_result vlt_union_child_index_to_tag(const vlt_dtype *dtype, size_t index, uint8_t *tag);
 
-/* Writes the name of the variant at the position `index`, which is counted from 0, to `buffer`. Returns 1 if the
- * position isn't below the number of variants, and 5 if the type isn't a union.
+/* Writes the name of the variant with this index, which is counted from 0, to `buffer`. Returns 1 if the index isn't
+ * below the number of variants, and 5 if the type isn't a union.
  *
  * Results: VLT_DONE, VLT_NONE, VLT_KIND, VLT_CONDITION, VLT_SMALL or VLT_RANGE. */
 VLT_MUST_USE vlt_result vlt_union_variant_name(
@@ -925,9 +936,9 @@ VLT_MUST_USE vlt_result vlt_path_root(vlt_path *out);
  * Results: VLT_DONE or VLT_KIND. */
 VLT_MUST_USE vlt_result vlt_path_len(const vlt_path *path, size_t *count);
 
-/* Writes the step at the position `index`, which is counted from 0. For a step to a field, it writes the bytes of the
- * name to `buffer` and their number to `length`. For the step to the element, it writes only a length, which is 2^64
- * - 1 (`VLT_ELEMENT` in C). Returns 1 if the position isn't below the number of steps.
+/* Writes the step with this index, which is counted from 0. For a step to a field, it writes the bytes of the name
+ * to `buffer` and their number to `length`. For the step to the element, it writes only a length, which is 2^64 - 1
+ * (`VLT_ELEMENT` in C). Returns 1 if the index isn't below the number of steps.
  *
  * Results: VLT_DONE, VLT_NONE, VLT_KIND, VLT_SMALL or VLT_RANGE. */
 VLT_MUST_USE vlt_result vlt_path_step(
@@ -1111,10 +1122,9 @@ VLT_MUST_USE vlt_result vlt_set_extend_from_list(vlt_path_set *paths, const vlt_
 
 /* == Lists of paths == */
 
-/* Takes the path at the position `index`, which is counted from 0, out of the list, and stores it in `out`. The list
- * has the root at this position afterwards. So a program that goes through a list can own each path without copying
- * it. Returns 1 if the position isn't below the length of the list. If the call doesn't return 0, the list is
- * unchanged.
+/* Takes the path with this index, which is counted from 0, out of the list, and stores it in `out`. The list has the
+ * root in its place afterwards. So a program that goes through a list can own each path without copying it. Returns
+ * 1 if the index isn't below the length of the list. If the call doesn't return 0, the list is unchanged.
  *
  * Results: VLT_DONE, VLT_NONE, VLT_KIND, VLT_SAME_SLOT or VLT_LIBRARY. */
 VLT_MUST_USE vlt_result vlt_paths_take(vlt_path_list *paths, size_t index, vlt_path *out);
@@ -1124,8 +1134,8 @@ VLT_MUST_USE vlt_result vlt_paths_take(vlt_path_list *paths, size_t index, vlt_p
  * Results: VLT_DONE or VLT_KIND. */
 VLT_MUST_USE vlt_result vlt_paths_len(const vlt_path_list *paths, size_t *count);
 
-/* Stores in `out` a copy of the path at the position `index`, which is counted from 0, of the list. Returns 1 if the
- * position isn't below the length of the list.
+/* Stores in `out` a copy of the path with this index in the list, counted from 0. Returns 1 if the index isn't below
+ * the length of the list.
  *
  * Results: VLT_DONE, VLT_NONE, VLT_KIND, VLT_SAME_SLOT or VLT_LIBRARY. */
 VLT_MUST_USE vlt_result vlt_paths_get(const vlt_path_list *paths, size_t index, vlt_path *out);

@@ -37,9 +37,9 @@ fn main() {
         Err(looked_for) => {
             println!("cargo::rustc-cfg=without_library");
             println!(
-                "cargo::rustc-env=WITHOUT_LIBRARY=there is no {ARCHIVE} ({looked_for}): take the package of a release, which \
-                 has it in native/, or run `tools/bindings/library --prove` at the top of the repository, or set {SETTING} \
-                 to its path"
+                "cargo::rustc-env=WITHOUT_LIBRARY=there is no {ARCHIVE} ({looked_for}): take the package in release/rust of \
+                 the repository, which has it in native/, or run `tools/bindings/library --prove` at the top of the \
+                 repository, or set {SETTING} to its path"
             );
         }
     }

@@ -12,6 +12,7 @@
  * Each struct of the test has to be released exactly once. The last line is `N passed, M failed`. */
 #include "../vortex_logical_types.h"
 #include "heap.h"
+#include "refused.h"
 #include "schemas.h"
 
 #include <stdio.h>
@@ -20,7 +21,6 @@
 
 enum { NULLABLE = 2, SORTED = 4 };
 
-static size_t passed, failed, lacked;
 static uint64_t state = 1;
 
 static void check(int is_right, int line, const char *what, const char *found) {
@@ -507,22 +507,6 @@ static void all(void) {
     HOLDS(structs_made == structs_released);
 }
 
-static void with_each_refused(void) {
-    const size_t checks = passed, faults = failed;
-    size_t wrong = 0;
-    do {
-        heap_refused++;
-        heap_asked = lacked = failed = 0;
-        all();
-        HOLDS(lacked <= 1);
-        wrong += failed != 0;
-    } while (heap_asked >= heap_refused);
-    /* (each allocation that was refused counts as one check) */
-    passed = checks + heap_refused - 1 - wrong;
-    failed = faults + wrong;
-    printf("arrow: %zu allocations were refused in turn\n", heap_refused - 1);
-}
-
 /* == Random types == */
 
 /* The text of a random type, whether it can be written, and how many nodes it has. */
@@ -876,7 +860,7 @@ int main(int count, char **given) {
     } else {
         all();
         if (count > 1)
-            with_each_refused();
+            with_each_refused("arrow", all);
     }
     printf("%zu passed, %zu failed\n", passed, failed);
     return failed != 0;

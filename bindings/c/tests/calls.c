@@ -11,6 +11,7 @@
  * The last line is `N passed, M failed`. */
 #include "../vortex_logical_types.h"
 #include "heap.h"
+#include "refused.h"
 
 #include <stdio.h>
 #include <stdlib.h>
@@ -31,8 +32,6 @@ typedef union {
     vlt_fields fields;
     vlt_error error;
 } any;
-
-static size_t passed, failed, lacked;
 
 static void check(int is_right, int line, const char *what, unsigned long long found) {
     if (is_right) {
@@ -356,6 +355,11 @@ static void merging(void) {
     HAS(&s[2], "{a=i32?, b=list({x=u8?, y=u8?}), c=utf8?}");
     NONE(vlt_dtype_merge_conflict(&s[0].dtype, &s[1].dtype, &s[2].path, &s[3].dtype, &s[4].dtype));
     HAS(&s[2], "{a=i32?, b=list({x=u8?, y=u8?}), c=utf8?}");
+    type_of(&s[0], "{u=union(x@5={a=u8}), r={a=u8, a={b=u8}}}");
+    type_of(&s[1], "{r={a=u8, a={c=u8}}, u=union(x@5={b=u8})}");
+    DONE(vlt_dtype_merge_columns(&s[0].dtype, &s[1].dtype, &s[2].dtype));
+    HAS(&s[2], "{u=union(x@5={a=u8?, b=u8?}), r={a=u8, a={b=u8?, c=u8?}}}");
+    type_of(&s[0], "{a=i32, b=list({x=u8})}");
     type_of(&s[1], "{b=list({x=f64}), a=i32}");
     NONE(vlt_dtype_merge_columns(&s[0].dtype, &s[1].dtype, &s[2].dtype));
     DONE(vlt_dtype_merge_conflict(&s[0].dtype, &s[1].dtype, &s[2].path, &s[3].dtype, &s[4].dtype));
@@ -1080,8 +1084,12 @@ static void repeats(size_t count, size_t distance, int are_alike) {
  * into which it divides them, which is more than its table has room for. */
 static void long_arrays(void) {
     size_t count;
-    for (count = 2; count <= 40; count++)
+    for (count = 2; count <= 70; count++)
         repeats(count, count / 2, 0);
+    for (count = 128; count <= 1024; count *= 2) {
+        repeats(count, count / 2, 0);
+        repeats(count + 1, count / 2, 0);
+    }
     repeats(1023, 1022, 0);
     repeats(1025, 1, 0);
     repeats(5000, 4999, 0);
@@ -1141,21 +1149,8 @@ static void all(void) {
 
 int main(int count, char **arguments) {
     all();
-    if (count > 1 && strcmp(arguments[1], "refused") == 0) {
-        const size_t checks = passed, faults = failed;
-        size_t wrong = 0;
-        do {
-            heap_refused++;
-            heap_asked = lacked = failed = 0;
-            all();
-            HOLDS(lacked <= 1);
-            wrong += failed != 0;
-        } while (heap_asked >= heap_refused);
-        /* (each allocation that was refused counts as one check) */
-        passed = checks + heap_refused - 1 - wrong;
-        failed = faults + wrong;
-        printf("calls: %zu allocations were refused in turn\n", heap_refused - 1);
-    }
+    if (count > 1 && strcmp(arguments[1], "refused") == 0)
+        with_each_refused("calls", all);
     printf("%zu passed, %zu failed\n", passed, failed);
     return failed != 0;
 }

@@ -24,16 +24,17 @@ is always nullable, and extensions, which have the nullability of their storage 
     decimal(10,-2)                      a decimal with its precision and scale
     list(i32?)?                         a list
     fixed_size_list(u8)[20]             a fixed-size list with its size
-    map(utf8, i32, keys_sorted=true)    a map
+    map(utf8, i32, keys_sorted=true)    a map with its flag, which is always written
     {a=i32, "b c"=utf8?}                a struct
     union(a=i32, b=utf8)                a union with the tags 0, 1 and so on
     union(a@5=i32, b@9=utf8)            a union with other tags
     x.tag[0x6162](utf8)                 an extension with its id, its metadata and its storage type
 
-Blanks, ends of lines and comments, which go from `#` to the end of the line, may stand between the parts of a type.
+Blanks, ends of lines and comments, which go from `#` to the end of the line, may stand between the parts of a type, but
+not before a `?`.
 
 A path is steps with a `.` between them, each a name or `[]` for the element of a list, such as `lines.[].sku`. The root
-is `.` alone. A name that consists of letters, digits, `_` and characters beyond ASCII is written without quotes, and
+is `.` alone. A `$` before a name has no meaning, because vortex-array displays paths with it. A name that consists of letters, digits, `_` and characters beyond ASCII is written without quotes, and
 any other in double quotes. So is a name with a typographic quote, or with one of the characters beyond ASCII that a
 list of the library calls special, such as a no-break space. In quotes a backslash begins an escape: one of two quotes,
 a tab, a newline, a carriage return or a backslash, as in Python, or `x` with the two hexadecimal digits of a byte.
@@ -41,6 +42,7 @@ a tab, a newline, a carriage return or a backslash, as in Python, or `x` with th
 A call that the library refuses raises a `VortexError`, whose text is the library's own. The docstring of `VortexError`
 explains which class of exceptions is raised when, and that of `ErrorKind` lists the kinds with the library's numbers.
 If memory runs out, a call that allocates raises `OutOfMemory` (0), which the docstrings of the calls don't repeat.
+Types that can't be merged are no error of the library: `DType.merge_all` raises `MergeConflict`, which is a `ValueError`.
 
 >>> orders.project(["id", "note"])
 Traceback (most recent call last):

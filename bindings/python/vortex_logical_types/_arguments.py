@@ -8,7 +8,7 @@ else than what the library takes is ever passed to `ctypes`, to which None would
 from __future__ import annotations
 
 import operator
-from typing import Callable, Iterable, Optional, TypeVar, Union
+from typing import Callable, Iterable, Iterator, Optional, TypeVar, Union
 
 T = TypeVar("T")
 R = TypeVar("R")
@@ -72,21 +72,53 @@ def instance_given(it: object, cls: type[T], name: Name) -> T:
     return it
 
 
-def items_given(it: Iterable[T], name: Name, wanted: str, item_given: Callable[[T, Name], R],
-                refused: tuple[type, ...] = ()) -> list[R]:
-    """Returns the items of an iterable, each as `item_given` returns it. A text or bytes are no iterable of items here,
-    and neither are objects of the classes `refused`."""
-    if isinstance(it, (str, bytes, bytearray, memoryview, *refused)):
+def items_in(it: Iterable[T], name: Name, wanted: str, refused: tuple[type, ...] = ()) -> Iterator[T]:
+    """Returns an iterator over the items of an iterable. A text or bytes are no iterable of items here, and neither are
+    objects of the classes `refused`."""
+    # (That a list or a tuple isn't of one of the classes is found faster by what it is, if a class is an abstract one.)
+    if type(it) not in PLAIN and isinstance(it, (str, bytes, bytearray, memoryview, *refused)):
         raise wrong(name, f"an iterable of {wanted}", it)
     try:
-        items = iter(it)
+        return iter(it)
     except TypeError:
         raise wrong(name, f"an iterable of {wanted}", it) from None
-    return [item_given(item, (name, index)) for index, item in enumerate(items)]
 
 
-def text_or_none_given(it: Optional[str], name: Name) -> Optional[bytes]:
-    """Returns a text in UTF-8, or None."""
-    if it is not None and not isinstance(it, str):
-        raise wrong(name, "a str or None", it)
-    return None if it is None else str.encode(it)
+PLAIN = (list, tuple)
+
+
+def items_given(it: Iterable[T], name: Name, wanted: str, item_given: Callable[[T, Name], R],
+                refused: tuple[type, ...] = ()) -> list[R]:
+    """Returns the items of an iterable, each as `item_given` returns it, as `items_in` yields them."""
+    return [item_given(item, (name, index)) for index, item in enumerate(items_in(it, name, wanted, refused))]
+
+
+def texts_given(it: Iterable[str], name: Name, refused: tuple[type, ...] = ()) -> list[bytes]:
+    """Returns the texts of an iterable in UTF-8. (A call for each item would take longer than what is done with it.)"""
+    if type(it) in PLAIN:
+        try:
+            return [*map(str.encode, it)]
+        except TypeError:  # (The loop finds which item is no text.)
+            pass
+    texts: list[bytes] = []
+    append, encode = texts.append, str.encode
+    for item in items_in(it, name, "str", refused):
+        if not isinstance(item, str):
+            raise wrong((name, len(texts)), "a str", item)
+        append(encode(item))
+    return texts
+
+
+def texts_or_given(it: Iterable[object], name: Name, wanted: str, other: object, shown: str,
+                   refused: tuple[type, ...] = ()) -> list[Optional[bytes]]:
+    """Returns the texts of an iterable in UTF-8, and None for each item that is the object `other`."""
+    texts: list[Optional[bytes]] = []
+    append, encode = texts.append, str.encode
+    for item in items_in(it, name, wanted, refused):
+        if isinstance(item, str):
+            append(encode(item))
+        elif item is other:
+            append(None)
+        else:
+            raise wrong((name, len(texts)), f"a str or {shown}", item)
+    return texts

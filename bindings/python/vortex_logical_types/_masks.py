@@ -10,7 +10,7 @@ from typing import Optional, Union
 
 from . import _table
 from ._arguments import wrong
-from ._native import Object, T, bytes_and_length, found, is_done, made, native, number
+from ._native import Object, T, bytes_and_length, explained, found, is_done, made, made_or_told, native, number
 from ._paths import ELEMENT, FieldPath, Step, path_given
 
 
@@ -86,7 +86,7 @@ class FieldMask(Object):
         >>> FieldMask.exact("a.b").step_into()
         FieldMask.exact('b')
         """
-        return made(FieldMask, native.vlt_mask_step_into, self._slot)
+        return made_or_told(FieldMask, native.vlt_mask_step_into, self._slot)
 
     def starting_field(self) -> Optional[Step]:
         """Returns the first step of the path of the mask, which is a name or `ELEMENT`, or None if the path is the
@@ -95,7 +95,7 @@ class FieldMask(Object):
         >>> FieldMask.prefix("a.b").starting_field()
         'a'
         """
-        it = bytes_and_length(native.vlt_mask_starting_field, self._slot)
+        it = bytes_and_length(explained(native.vlt_mask_starting_field), self._slot)
         return None if it is None else ELEMENT if it[1] == _table.ELEMENT else it[0].decode()
 
     @property

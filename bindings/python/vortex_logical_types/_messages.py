@@ -10,7 +10,7 @@ from typing import Callable, Iterable, NamedTuple
 
 from . import _table
 from ._arguments import Name, bytes_given, flag_given, instance_given, items_given
-from ._native import Object, T, error_of, is_done, made, native
+from ._native import Object, T, error_of, is_done, made, made_or_told, native
 from ._table import Node
 
 
@@ -97,7 +97,8 @@ class Message(Object):
         >>> message.normal(allow_unknown=True)
         Message([Node(kind=13, has_first=1, has_second=1), Node(kind=14, number=5), Node(kind=14), Node(kind=5)], b'x.tag')
         """
-        return made(Message, native.vlt_message_normal, self._slot, flag_given(allow_unknown, "allow_unknown"))
+        is_allowed = flag_given(allow_unknown, "allow_unknown")
+        return made_or_told(Message, native.vlt_message_normal, self._slot, is_allowed)
 
     def __eq__(self, other: object) -> bool:
         if not isinstance(other, Message):

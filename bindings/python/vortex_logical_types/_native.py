@@ -91,7 +91,8 @@ def _load() -> SimpleNamespace:
     path = _path()
     if not os.path.exists(path):
         raise ImportError(
-            f"there is no {path}: install the wheel of a release, which has it, or set {SETTING} to the library's path"
+            f"there is no {path}: install the wheel in release/python of the repository, which has it, or set {SETTING} to "
+            "the library's path"
         )
     missing = missing_flags("/proc/cpuinfo")
     if missing:
@@ -106,7 +107,7 @@ def _load() -> SimpleNamespace:
         function = getattr(library, name)
         function.restype, function.argtypes = result, arguments
         functions[name] = function if lock is None else lock.around(function)
-    for name in (*_table.WITH_ERRORS, *_table.ARROW_WITH_ERRORS):
+    for name in _table.ARROW_WITH_ERRORS:
         functions[name] = explained(functions[name])
     version = library.vlt_abi_version()
     if version != _table.ABI_VERSION:
@@ -115,12 +116,13 @@ def _load() -> SimpleNamespace:
 
 
 def explained(function: Callable[..., int]) -> Callable[..., int]:
-    """Returns the function without its last parameter, the slot for its error. If there is an error in it, it is raised."""
+    """Returns the function without its last parameter, the slot for its error. Its errors are raised. (Where a call is made
+    often, `made_or_told` and its like pass the slot themselves, because a function around each call takes time.)"""
 
     def call(*arguments: Any) -> int:
         error = Slot()
         code = function(*arguments, error)
-        if error.at is not None:
+        if code > 1 and error.at is not None:
             raise error_told(code, error)
         return code
 
@@ -217,12 +219,22 @@ def error_told(code: int, slot: Slot) -> VortexError:
     return CLASSES.get(kind, LibraryError)(kind, message)
 
 
+def told(code: int, slot: Slot) -> VortexError:
+    """Returns the error of what a call returned that had this slot for its error, in which there may be none."""
+    return error_of(code) if slot.at is None else error_told(code, slot)
+
+
 def is_done(code: int) -> bool:
     """Returns whether the code says that a call succeeded, or that its answer is true. Raises the error of another
     code."""
     if code > 1:
         raise error_of(code)
     return code == 0
+
+
+def is_done_of_kind(code: int) -> Optional[bool]:
+    """Returns the same, or None if the code says that the object isn't of the kind that is asked about."""
+    return None if code == _table.CONDITION else is_done(code)
 
 
 def holding(cls: type[T], slot: Slot) -> T:
@@ -260,19 +272,38 @@ def made(cls: type[T], call: Callable[..., int], *arguments: Any) -> T:
     return it
 
 
-def read(cls: type[T], call: Callable[..., int], given: bytes) -> T:
-    """Returns the object that a call reads from a text."""
-    out = Slot()
-    code = call(given, len(given), out)
+def made_or_told(cls: type[T], call: Callable[..., int], *arguments: Any) -> T:
+    """Returns the object that a call puts into a slot, for which the call has another slot for its error."""
+    out, error = Slot(), Slot()
+    code = call(*arguments, out, error)
     if code:
-        raise error_of(code)
-    return holding(cls, out)
+        raise told(code, error)
+    it = object.__new__(cls)
+    it._slot, it._known = out, {}
+    return it
 
 
 def number(kind: Any, call: Callable[..., int], *arguments: Any) -> Optional[int]:
     """Returns the number that a call writes, or None."""
     it = kind()
     return int(it.value) if is_done(call(*arguments, it)) else None
+
+
+def number_of_kind(kind: Any, call: Callable[..., int], *arguments: Any) -> Optional[int]:
+    """Returns the number that a call writes, or None if the object isn't of the kind that is asked about."""
+    it = kind()
+    return int(it.value) if is_done_of_kind(call(*arguments, it)) else None
+
+
+def number_or_told(kind: Any, call: Callable[..., int], *arguments: Any) -> Optional[int]:
+    """Returns the number that a call writes, or None. The call has a slot for its error too, and is made again with one if
+    it fails."""
+    it = kind()
+    code = call(*arguments, it, None)
+    if code > 1:
+        error = Slot()
+        raise told(call(*arguments, it, error), error)
+    return None if code else int(it.value)
 
 
 # Buffers that no call uses at the moment. A call takes the last of them, or a new one, so another call may begin while it

@@ -11,9 +11,9 @@ from collections.abc import Sequence
 from typing import Iterable, Iterator, Optional, Union, overload
 
 from . import _table
-from ._arguments import Name, instance_given, items_given, number_given, text_given, text_or_none_given, wrong
+from ._arguments import Name, instance_given, items_in, number_given, text_given, texts_or_given, wrong
 from ._native import (
-    Object, T, bytes_and_length, found, is_done, joined_names, made, native, number, read, remembered, text,
+    Object, T, bytes_and_length, found, is_done, joined_names, made, made_or_told, native, number, remembered, text,
 )
 from ._types import DType
 
@@ -56,7 +56,8 @@ class FieldPath(Object, Sequence[Step]):
 
     def __new__(cls: type[T], source: Union[str, FieldPath] = ".") -> T:
         if isinstance(source, str):
-            return read(cls, native.vlt_path_from_text, text_given(source, "source"))
+            given = str.encode(source)
+            return made_or_told(cls, native.vlt_path_from_text, given, len(given))
         if not isinstance(source, FieldPath):
             raise wrong("source", "a str or a FieldPath", source)
         return made(cls, native.vlt_path_copy, source._slot)
@@ -79,7 +80,7 @@ class FieldPath(Object, Sequence[Step]):
         >>> FieldPath.from_steps(["a", ELEMENT, "b c"])
         FieldPath('a.[]."b c"')
         """
-        given = items_given(steps, "steps", "steps", _step_given)
+        given = texts_or_given(steps, "steps", "steps", ELEMENT, "ELEMENT")
         return made(FieldPath, native.vlt_path_from_steps, *joined_names(given))
 
     @staticmethod
@@ -90,8 +91,8 @@ class FieldPath(Object, Sequence[Step]):
         >>> FieldPath.from_proto(["a", "b"])
         FieldPath('a.b')
         """
-        given = items_given(parts, "parts", "str and None", text_or_none_given, (Object,))
-        return made(FieldPath, native.vlt_path_from_message, *joined_names(given))
+        given = texts_or_given(parts, "parts", "str and None", None, "None", (Object,))
+        return made_or_told(FieldPath, native.vlt_path_from_message, *joined_names(given))
 
     @remembered
     def __len__(self) -> int:
@@ -288,4 +289,5 @@ def path_given(it: Union[FieldPath, str], name: Name) -> FieldPath:
 
 def paths_given(it: Iterable[Union[FieldPath, str]], name: Name) -> list[FieldPath]:
     """Returns paths, each of which is read if it is given as a text. One path is no iterable of paths here."""
-    return items_given(it, name, "FieldPath and str", path_given, (FieldPath,))
+    items = enumerate(items_in(it, name, "FieldPath and str", (FieldPath,)))
+    return [item if type(item) is FieldPath else path_given(item, (name, index)) for index, item in items]

@@ -20,6 +20,10 @@ from ._types import DType
 
 # How many paths are inserted in one call. (A call of many compares their objects with each other, which takes longer.)
 AT_ONCE = 1000
+# So few paths are inserted by a call for each, which takes less time than to put their slots side by side.
+FEW = 4
+# The paths that a set has of which nothing else is said.
+NONE: tuple[FieldPath, ...] = ()
 
 
 class Below(NamedTuple):
@@ -77,10 +81,14 @@ class FieldPathSet(Object, AbstractSet[FieldPath]):
     _copy = native.vlt_set_copy
     _is_mutable = True
 
-    def __init__(self, paths: Iterable[Union[FieldPath, str]] = ()) -> None:
-        it = made(FieldPathSet, native.vlt_set_new)
-        it.extend(paths)
-        it._move_to(self)
+    def __init__(self, paths: Iterable[Union[FieldPath, str]] = NONE) -> None:
+        if hasattr(self, "_slot"):  # (A set that is there gets other paths.)
+            FieldPathSet(paths)._move_to(self)
+            return
+        self._slot, self._known = Slot(), {}
+        is_done(native.vlt_set_new(self._slot))
+        if paths is not NONE:
+            FieldPathSet.extend(self, paths)
 
     def insert(self, path: Union[FieldPath, str]) -> None:
         """Inserts the path. If the set contains the path already, nothing changes."""
@@ -94,11 +102,16 @@ class FieldPathSet(Object, AbstractSet[FieldPath]):
     def extend(self, paths: Iterable[Union[FieldPath, str]]) -> None:
         """Inserts the paths, in order. All of them are taken from `paths` before the first is inserted. If memory runs
         out, the call raises `OutOfMemory` (0), and the paths that it inserted before stay in the set."""
-        if isinstance(paths, FieldPathSet):
+        # (That an object is no set of paths is found slowly, because this class is an abstract one's, so `Object` is asked first.)
+        if isinstance(paths, Object) and isinstance(paths, FieldPathSet):
             members = made(Paths, native.vlt_set_members, paths._slot)
             is_done(native.vlt_set_extend_from_list(self._slot, members._slot))
             return
         given = paths_given(paths, "paths")
+        if len(given) <= FEW:
+            for it in given:
+                is_done(native.vlt_set_insert(self._slot, it._slot))
+            return
         # (The slots of all paths, side by side. A call doesn't take one object twice.)
         objects = array.array("Q", dict.fromkeys(it._slot.at for it in given))
         for begin in range(0, len(objects), AT_ONCE):
@@ -270,7 +283,7 @@ class FieldPathSet(Object, AbstractSet[FieldPath]):
         return None if it is None else [str(path[0]) for path in it.all()]
 
     def __repr__(self) -> str:
-        return f"FieldPathSet({[it.to_source() for it in sorted(self)]!r})"
+        return f"FieldPathSet({sorted(it.to_source() for it in self)!r})"
 
     def _made_by(self) -> tuple[type, tuple[list[str]]]:
         return type(self), (sorted(it.to_source() for it in self),)

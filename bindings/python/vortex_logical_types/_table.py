@@ -76,7 +76,42 @@ LIBRARY = 100
 class Node(Numbers):
     """One item of the flat form of a message: a message, a text or a tag. The node of a message is followed by the nodes
     of its texts, then by the nodes of its tags, and then by its parts, each of which is a message with the nodes that
-    follow it. A field that the kind of a node doesn't use is 0."""
+    follow it. A field that the kind of a node doesn't use is 0.
+
+    `kind`:
+        What the node is: 0 for a message without a kind; 1 null, 2 bool, 3 primitive, 4 decimal, 5 utf8, 6 binary, 7
+        list, 8 fixed-size list, 9 map, 10 struct, 11 union, 12 variant and 13 extension for a message of this kind; 14
+        for a text; 15 for a tag.
+
+    `nullable`:
+        1 if the message has the flag `nullable` and the flag is set, and otherwise 0. The messages of null and of an
+        extension don't have this flag.
+
+    `keys_sorted`:
+        1 if the keys of a map are declared to be sorted, and otherwise 0.
+
+    `has_first`:
+        1 if the element type of a list or of a fixed-size list, the key type of a map or the storage type of an extension
+        follows, and otherwise 0.
+
+    `has_second`:
+        1 if the value type of a map or the text of the metadata of an extension follows, and otherwise 0.
+
+    `names`:
+        The number of names that follow a struct or a union.
+
+    `tags`:
+        The number of tags that follow a union.
+
+    `types`:
+        The number of types that follow a struct or a union.
+
+    `number`:
+        The precision of a decimal, the size of a fixed-size list, or the number of bytes of a text.
+
+    `value`:
+        The number of a primitive type, the scale of a decimal, or a tag.
+    """
 
     _fields_ = [
         ("kind", ctypes.c_uint32),
@@ -277,25 +312,6 @@ FUNCTIONS = {
     "vlt_error_position": (U32, [SLOT_AT, SIZE_AT]),
     "vlt_error_message": (U32, [SLOT_AT, BUFFER, SIZE, SIZE_AT]),
 }
-
-# The functions whose last parameter is a slot for the error of a call that fails.
-WITH_ERRORS = (
-    "vlt_dtype_decimal",
-    "vlt_dtype_union",
-    "vlt_dtype_union_consecutive",
-    "vlt_dtype_from_text",
-    "vlt_dtype_element_size",
-    "vlt_dtype_map",
-    "vlt_struct_without_field",
-    "vlt_struct_disjoint_merge",
-    "vlt_struct_project",
-    "vlt_path_from_message",
-    "vlt_path_from_text",
-    "vlt_mask_step_into",
-    "vlt_mask_starting_field",
-    "vlt_message_to_dtype",
-    "vlt_message_normal",
-)
 # end of what tools/bindings writes
 
 

@@ -7,16 +7,17 @@ from __future__ import annotations
 
 import ctypes
 import enum
-from typing import Any, Callable, Iterable, Iterator, Mapping, Optional, Union
+from typing import Iterable, Iterator, Mapping, Optional, Union
 
 from . import _arrow, _table, _time
 from ._arguments import (
-    Name, bytes_given, flag_given, instance_given, items_given, number_given, position_given, text_given, wrong,
+    Name, bytes_given, flag_given, instance_given, items_given, number_given, position_given, text_given, texts_given,
+    wrong,
 )
 from ._errors import FieldNotFound
 from ._native import (
-    Object, T, bytes_found, error_of, found, is_done, joined_names, made, names_written, native, number, objects_stored,
-    read, remembered, text, text_found,
+    Object, T, bytes_found, error_of, found, is_done, is_done_of_kind, joined_names, made, made_or_told, names_written, native,
+    number, number_of_kind, number_or_told, objects_stored, remembered, text, text_found,
 )
 from ._time import TimeUnit
 
@@ -85,11 +86,12 @@ class DType(Object):
     _copy = native.vlt_dtype_copy
 
     def __new__(cls: type[T], source: Union[str, DType]) -> T:
-        if isinstance(source, DType):
-            return made(cls, native.vlt_dtype_copy, source._slot)
-        if not isinstance(source, str):
+        if isinstance(source, str):
+            given = str.encode(source)
+            return made_or_told(cls, native.vlt_dtype_from_text, given, len(given))
+        if not isinstance(source, DType):
             raise wrong("source", "a str or a DType", source)
-        return read(cls, native.vlt_dtype_from_text, text_given(source, "source"))
+        return made(cls, native.vlt_dtype_copy, source._slot)
 
     @staticmethod
     def null() -> DType:
@@ -129,7 +131,7 @@ class DType(Object):
         is_nullable = flag_given(nullable, "nullable")
         if not 0 <= given[0] < 256 or not -128 <= given[1] < 128:
             raise error_of(_table.RANGE)
-        return made(DType, native.vlt_dtype_decimal, *given, is_nullable)
+        return made_or_told(DType, native.vlt_dtype_decimal, *given, is_nullable)
 
     @staticmethod
     def utf8(nullable: bool = False) -> DType:
@@ -180,8 +182,8 @@ class DType(Object):
         """
         keys = instance_given(key, DType, "key")
         values = instance_given(value, DType, "value")._other_than(keys)
-        return made(DType, native.vlt_dtype_map, keys._slot, values._slot, flag_given(keys_sorted, "keys_sorted"),
-                    flag_given(nullable, "nullable"))
+        return made_or_told(DType, native.vlt_dtype_map, keys._slot, values._slot, flag_given(keys_sorted, "keys_sorted"),
+                            flag_given(nullable, "nullable"))
 
     @staticmethod
     def struct(fields: Parts, nullable: bool = False) -> DType:
@@ -193,7 +195,9 @@ class DType(Object):
         True
         """
         given = _parts_given(fields, "fields")
-        return DType._of_parts(native.vlt_dtype_struct, given, flag_given(nullable, "nullable"))
+        is_nullable = flag_given(nullable, "nullable")
+        parts = DType._fields_of(given)
+        return made(DType, native.vlt_dtype_struct, parts._slot, is_nullable)
 
     @staticmethod
     def union(variants: Parts, nullable: bool = False, tags: Optional[bytes] = None) -> DType:
@@ -216,10 +220,11 @@ class DType(Object):
         If several of these are so, it is the first of them.
         """
         given, is_nullable = _parts_given(variants, "variants"), flag_given(nullable, "nullable")
-        if tags is None:
-            return DType._of_parts(native.vlt_dtype_union_consecutive, given, is_nullable)
-        numbers = bytes_given(tags, "tags")
-        return DType._of_parts(native.vlt_dtype_union, given, numbers, len(numbers), is_nullable)
+        numbers = None if tags is None else bytes_given(tags, "tags")
+        parts = DType._fields_of(given)
+        if numbers is None:
+            return made_or_told(DType, native.vlt_dtype_union_consecutive, parts._slot, is_nullable)
+        return made_or_told(DType, native.vlt_dtype_union, parts._slot, numbers, len(numbers), is_nullable)
 
     @staticmethod
     def extension(id: str, metadata: bytes, storage: DType) -> DType:
@@ -269,11 +274,14 @@ class DType(Object):
         return DType.extension(id, _time.metadata_of(given, zone), storage)
 
     @staticmethod
-    def _of_parts(call: Callable[..., int], parts: list[tuple[bytes, DType]], *rest: Any) -> DType:
+    def _fields_of(parts: list[tuple[bytes, DType]]) -> Object:
+        """Returns the object of these names and types of which a struct or a union is made. (It has to be kept in a variable
+        during the call, because its slot is emptied when nobody refers to it.)"""
         fields = made(Object, native.vlt_fields_new)
+        slot, push = fields._slot, native.vlt_fields_push
         for name, dtype in parts:
-            is_done(native.vlt_fields_push(fields._slot, name, len(name), dtype._slot))
-        return made(DType, call, fields._slot, *rest)
+            is_done(push(slot, name, len(name), dtype._slot))
+        return fields
 
     def _other_than(self, other: DType) -> DType:
         """Returns this type, or a copy if it is the same object as `other`, because the slots of a call must differ."""
@@ -379,7 +387,7 @@ class DType(Object):
     @property
     def keys_sorted(self) -> Optional[bool]:
         """Whether the keys of each map are declared to be sorted, which nothing checks, or None for another type."""
-        return is_done(native.vlt_dtype_keys_sorted(self._slot)) if self.kind is Kind.MAP else None
+        return is_done_of_kind(native.vlt_dtype_keys_sorted(self._slot))
 
     @property
     def entries(self) -> Optional[DType]:
@@ -441,16 +449,14 @@ class DType(Object):
         Raises `LibraryError` (`WIDTH_OVERFLOW`, 19) if the type is of fixed width and its width, or the width of a part
         of it, is above 2**64 - 1.
         """
-        return number(ctypes.c_size_t, native.vlt_dtype_element_size, self._slot)
+        return number_or_told(ctypes.c_size_t, native.vlt_dtype_element_size, self._slot)
 
     # Fields of a struct.
 
     @property
     def nfields(self) -> Optional[int]:
         """The number of fields of a struct, or None for another type."""
-        if self.kind is not Kind.STRUCT:
-            return None
-        return number(ctypes.c_size_t, native.vlt_struct_nfields, self._slot)
+        return number_of_kind(ctypes.c_size_t, native.vlt_struct_nfields, self._slot)
 
     @property
     def names(self) -> Optional[list[str]]:
@@ -530,12 +536,12 @@ class DType(Object):
         DType('{c=i32, a=i8}')
 
         Raises `FieldNotFound` (16), which is a `KeyError` too, if one of the names isn't the name of any field. The
-        text of the error has the position of the first such name among the names, counted from 0, and the name. Raises
+        text of the error has the index of the first such name among the names, counted from 0, and the name. Raises
         `LibraryError` (`PRECONDITION`) if the type isn't a struct.
         """
-        given = items_given(names, "names", "str", text_given, (Object,))
+        given = texts_given(names, "names", (Object,))
         try:
-            return made(DType, native.vlt_struct_project, self._slot, *joined_names(given))
+            return made_or_told(DType, native.vlt_struct_project, self._slot, *joined_names(given))
         except FieldNotFound as error:
             missing = next(it for it in given if not self._has(it)).decode()
             raise FieldNotFound(error.kind, f"{error}: {missing}") from None
@@ -553,7 +559,7 @@ class DType(Object):
         >>> DType("{a=i8, b=i16}").without_field(0)
         DType('{b=i16}')
         """
-        return made(DType, native.vlt_struct_without_field, self._slot, position_given(index, "index"))
+        return made_or_told(DType, native.vlt_struct_without_field, self._slot, position_given(index, "index"))
 
     def disjoint_merge(self, other: DType) -> DType:
         """Returns the struct that has the fields of this struct followed by those of `other`. It has the outer
@@ -564,10 +570,10 @@ class DType(Object):
         DType('{a=i8, b=i16}')
         """
         it = instance_given(other, DType, "other")._other_than(self)
-        return made(DType, native.vlt_struct_disjoint_merge, self._slot, it._slot)
+        return made_or_told(DType, native.vlt_struct_disjoint_merge, self._slot, it._slot)
 
     def indented(self) -> str:
-        """Returns the fields as text over several lines. The first line is an opening brace, then each field has a line
+        """Returns the fields as `str` shows them, over several lines. The first line is an opening brace, then each field has a line
         that begins with two spaces, and the last line is a closing brace. A struct that is the type of a field, or the
         element type of a list, is written over several lines too, with two more spaces. Raises `LibraryError`
         (`PRECONDITION`) if the type isn't a struct."""
@@ -578,7 +584,7 @@ class DType(Object):
     @property
     def nvariants(self) -> Optional[int]:
         """The number of variants of a union, which is from 1 to 256, or None for another type."""
-        return number(ctypes.c_size_t, native.vlt_union_len, self._slot) if self.kind is Kind.UNION else None
+        return number_of_kind(ctypes.c_size_t, native.vlt_union_len, self._slot)
 
     @property
     def variants(self) -> Optional[list[tuple[str, DType]]]:
@@ -642,7 +648,7 @@ class DType(Object):
     @property
     def is_consecutive(self) -> Optional[bool]:
         """Whether the tags of a union are 0, 1, 2 and so on in the order of the variants, or None for another type."""
-        return is_done(native.vlt_union_is_consecutive(self._slot)) if self.kind is Kind.UNION else None
+        return is_done_of_kind(native.vlt_union_is_consecutive(self._slot))
 
     # Comparisons.
 
@@ -715,8 +721,10 @@ class DType(Object):
           that both have is merged by these rules. A field that only one of the two has is nullable.
         - Lists, fixed-size lists of the same size, maps with the same `keys_sorted`, and extensions with the same id
           and the same metadata are merged by their parts. Maps whose merged key type would be nullable can't be merged.
-        - All other types are merged as `merge_nullability` merges them. So are structs in which a name repeats, because
-          their columns can't be told apart by name.
+        - Unions with the same names and tags in the same order are merged variant by variant. Structs in which a name
+          repeats are merged field by field, if both have the same names in the same order, because their columns can't
+          be told apart by name.
+        - All other types are merged as `merge_nullability` merges them.
         - A type that isn't an extension is nullable if one of the two is, at every depth.
 
         >>> DType("{a=i32, b=utf8}").merge_columns(DType("{c=u8, a=i32?}"))
@@ -728,8 +736,8 @@ class DType(Object):
         """Returns the first place at which the two types can't be merged by `merge_columns`, or None if they can be
         merged. The conflict has the path to this place, and the types at this place in this type and in `other`. The
         first place is the first one in the order of the fields of this type. A path leads only into structs, lists and
-        fixed-size lists, so if the keys or values of two maps can't be merged, it is the path to the maps. The conflict
-        is returned, and not raised.
+        fixed-size lists, so if the keys or values of two maps can't be merged, it is the path to the maps. The same is
+        true of unions, extensions, and structs in which a name repeats. The conflict is returned, and not raised.
 
         >>> conflict = DType("{customer={id=u64}}").merge_conflict(DType("{customer={id=utf8, city=utf8}}"))
         >>> conflict.path, conflict.left, conflict.right
@@ -831,7 +839,8 @@ class DType(Object):
         - `EXTENSION_UNREGISTERED` (35) for an extension, if `allow_unknown` is false
         """
         given = instance_given(message, Message, "message")
-        return made(DType, native.vlt_message_to_dtype, given._slot, flag_given(allow_unknown, "allow_unknown"))
+        is_allowed = flag_given(allow_unknown, "allow_unknown")
+        return made_or_told(DType, native.vlt_message_to_dtype, given._slot, is_allowed)
 
     def to_proto(self) -> Message:
         """Returns the message that describes the type. `from_proto` returns the same type for it. If the type has an

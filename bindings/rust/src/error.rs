@@ -227,7 +227,8 @@ impl Error {
 
     /// Returns the position of the byte from which a text can't be read on. Positions are counted from 1, so it is the
     /// byte with the index `position - 1`. It is one more than the length of the text if the text ends too early.
-    /// Returns `None` if the error isn't about a text.
+    /// Returns `None` if the error isn't about a text, and if the text is spelled like a type that isn't valid, such as
+    /// `decimal(3,9)`.
     #[must_use]
     pub fn position(&self) -> Option<usize> {
         self.told()?.position

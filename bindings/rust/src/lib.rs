@@ -50,16 +50,18 @@
 //! | decimal, with its precision and scale | `decimal(10,-2)` |
 //! | list | `list(i32?)?` |
 //! | fixed-size list, with its size | `fixed_size_list(u8)[20]` |
-//! | map | `map(utf8, i32, keys_sorted=true)` |
+//! | map, with the flag whether its keys are sorted, which is always written | `map(utf8, i32, keys_sorted=true)` |
 //! | struct | `{a=i32, "b c"=utf8?}`, `{}` |
 //! | union with the tags 0, 1 and so on | `union(a=i32, b=utf8)` |
 //! | union with other tags | `union(a@5=i32, b@9=utf8)` |
 //! | extension, with its id, its metadata and its storage type | `x.tag[0x6162](utf8)` |
 //!
-//! Blanks, ends of lines and comments, which go from `#` to the end of the line, may stand between the parts of a type.
+//! Blanks, ends of lines and comments, which go from `#` to the end of the line, may stand between the parts of a type,
+//! but not before a `?`.
 //!
 //! A path is steps with a `.` between them, each a name or `[]` for the element of a list, such as `lines.[].sku`. The
-//! root is `.` alone.
+//! root is `.` alone. A `$` before a name has no meaning, because vortex-array displays paths with it, so a name that
+//! begins with `$` stands in double quotes.
 //!
 //! A name that consists of letters, digits, `_` and characters beyond ASCII is written without quotes, and any other in
 //! double quotes, such as `"a b"` or `""`. So is a name with a typographic quote, or with one of the characters beyond
@@ -175,8 +177,9 @@
 //!
 //! The parts of types and paths are shared, and the library counts the owners of a part without atomic instructions. So
 //! this package has one lock, and a call that makes, copies, changes or drops an object holds it while it is in the
-//! library. A call that only reads takes no lock and doesn't wait: it compares, hashes, looks up or counts. Neither
-//! does a call that is given no object, such as `parse`. Which calls these are follows from their contracts. On one
+//! library. So [`FieldPath::resolve`] takes it, because it returns a copy. A call that only reads takes no lock and
+//! doesn't wait: it compares, hashes, finds a name or counts, as [`FieldPath::exists_in`] does. Neither does a call that
+//! is given no object, such as `parse`. Which calls these are follows from their contracts. On one
 //! thread, taking and releasing the lock costs about 10 ns. On several threads, calls that take it wait for one
 //! another.
 //!

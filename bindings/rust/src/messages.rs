@@ -55,8 +55,8 @@ pub enum UnknownIds {
 }
 
 /// A message in the flat form: its nodes in pre-order, and the bytes of its texts, one text directly after the other.
-/// Both are plain data, so a flat message can be stored or sent to another process, and a program that has decoded the
-/// bytes of a message can write the nodes by itself. [`Node`] explains the fields of a node. This is the order of the
+/// Both are plain data in the byte order of the machine, so a flat message can be sent to another process on it, and a
+/// program that has decoded the bytes of a message can write the nodes by itself. [`Node`] explains the fields of a node. This is the order of the
 /// nodes:
 ///
 /// ```text

@@ -203,7 +203,7 @@ impl<'a> StructFields<'a> {
     ///
     /// # Errors
     /// - [`ErrorKind::FieldNotFound`] (16) if one of the names isn't the name of any field. The text of the error has
-    ///   the position of the first such name among the names, counted from 0, and the name.
+    ///   the index of the first such name among the names, counted from 0, and the name.
     /// - [`ErrorKind::OutOfMemory`] (0) if memory runs out
     pub fn project<N: AsRef<str>>(&self, names: impl IntoIterator<Item = N>) -> Result<DType, Error> {
         let names = names.into_iter();

@@ -445,8 +445,9 @@ impl FromStr for FieldPath {
     }
 }
 
-/// The text that the library displays, such as `$a.[].$b`. The text of the root is empty. This isn't the form that
-/// [`FromStr`] reads, which [`FieldPath::to_source`] returns.
+/// The text that the library displays, such as `$a.[].$b`. The text of the root is empty. Don't read it by [`FromStr`],
+/// for which [`FieldPath::to_source`] writes: a path of one step with the name `a.b` is displayed as `$a.b`, which is read
+/// as two steps.
 impl fmt::Display for FieldPath {
     fn fmt(&self, f: &mut fmt::Formatter<'_>) -> fmt::Result {
         f.pad(&calls::text(|buffer, length| ffi::path_display(self.slot(), buffer, length)).map_err(|_| fmt::Error)?)

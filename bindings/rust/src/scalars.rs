@@ -263,7 +263,8 @@ impl fmt::Display for DecimalDType {
     }
 }
 
-/// Which kind of type a [`DType`](crate::DType) is. The order is that of the numbers which the C interface has.
+/// Which kind of type a [`DType`](crate::DType) is. The order is that of the numbers which the C interface and the nodes
+/// of messages have, but these begin with 1 and `Kind as u32` with 0.
 ///
 /// ```
 /// use vortex_logical_types::{DType, Kind};

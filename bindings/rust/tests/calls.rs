@@ -304,6 +304,8 @@ fn columns_are_merged() {
         ),
         ("fixed_size_list(i8)[3]", "fixed_size_list(i8?)[3]", "fixed_size_list(i8?)[3]"),
         ("{a=i8, a=u8}", "{a=i8?, a=u8}", "{a=i8?, a=u8}"),
+        ("{a=i8, a={b=u8}}", "{a=i8, a={c=u8}}?", "{a=i8, a={b=u8?, c=u8?}}?"),
+        ("union(x@5={a=i8}, y@9=u8)", "union(x@5={b=i8}, y@9=u8?)", "union(x@5={a=i8?, b=i8?}, y@9=u8?)"),
     ] {
         assert_eq!(merged(one, other).as_deref(), Some(both));
         assert_eq!(dtype(one).merge_conflict(&dtype(other)), None);
@@ -321,6 +323,9 @@ fn columns_are_merged() {
         ),
         ("{a={b=i8, b=i8}}", "{a={b=i8, c=i8}}", "a", "{b=i8, b=i8}", "{b=i8, c=i8}"),
         ("{a=union(x=i8)}", "{a=union(x=i8, y=i8)}", "a", "union(x=i8)", "union(x=i8, y=i8)"),
+        ("union(x={a=i8})", "union(x@1={a=i8})", ".", "union(x={a=i8})", "union(x@1={a=i8})"),
+        ("{a=union(x={b=i8})}", "{a=union(x={b=u8})}", "a", "union(x={b=i8})", "union(x={b=u8})"),
+        ("{a=i8, a=u8}", "{a=u8, a=i8}", ".", "{a=i8, a=u8}", "{a=u8, a=i8}"),
         ("{a=x.y[0x](i8)}", "{a=x.y[0x00](i8)}", "a", "x.y[0x](i8)", "x.y[0x00](i8)"),
     ] {
         assert_eq!((merged(one, other), merged(other, one)), (None, None));

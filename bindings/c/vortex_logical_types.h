@@ -186,7 +186,8 @@ typedef enum {
     VLT_ERROR_EXACT_ROOT = 120,
     /* The field mask that selects all paths has no starting field. */
     VLT_ERROR_ALL_MASK = 121,
-    /* The plugin or vtable of an extension type doesn't accept the metadata or the storage type. */
+    /* The plugin or vtable of an extension type doesn't accept the metadata or the storage type, or the vtable can't
+     * write the metadata. */
     VLT_ERROR_METADATA_REFUSED = 122,
     /* An extension type can't be downcast with a vtable whose id isn't the id of the extension type. */
     VLT_ERROR_EXTENSION_ID_DIFFERS = 123,

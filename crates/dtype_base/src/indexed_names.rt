@@ -64,12 +64,9 @@ impl IndexedNames {
     ///
     /// The index distributes the names by their hashes among as many buckets as there are names. The lookup makes a
     /// binary search in the bucket of `name`. Its range is always extended to the length of the longest bucket, so the
-    /// number of compared names is the same for every `name`, whether it is in the list or not:
-    /// - 0 names if the list is empty
-    /// - 1 name if the longest bucket contains one name
-    /// - 2 names if the longest bucket contains two names
-    /// - 3 names if the longest bucket contains three or four names
-    /// - 4 names if the longest bucket contains five to eight names
+    /// number of compared names is the same for every `name`, whether it is in the list or not. It is 0 if the list is
+    /// empty. Otherwise it is 1 plus the logarithm to base 2 of the length of the longest bucket, rounded up. For
+    /// example, it is 3 if the longest bucket contains three or four names.
     ///
     /// The number is at most 1 plus the number of binary digits of the length of the list, even if all names are in one
     /// bucket. For example, it is at most 11 in a list of 1000 names, because 1000 has 10 binary digits.

@@ -84,7 +84,8 @@ pub enum VortexError {
     /// 21: the field mask that selects all paths has no starting field.
     #[error("Cannot get starting field from All mask")]
     AllMask,
-    /// 22: the plugin or vtable of an extension type doesn't accept the metadata or the storage type.
+    /// 22: the plugin or vtable of an extension type doesn't accept the metadata or the storage type, or the vtable can't
+    /// write the metadata.
     #[error("extension metadata or storage refused")]
     MetadataRefused,
     /// 23: an extension type can't be downcast with a vtable whose id isn't the id of the extension type.

@@ -16,7 +16,7 @@ pub enum BenchFault {
     OutOfMemory,
     /// A fixture lacks a part that a case needs.
     Missing,
-    /// The sum of a round's answers is the value that marks an empty round.
+    /// The sum of the answers of a round is `usize::MAX`. (The test for this makes the program compute the sum.)
     Answer,
 }
 

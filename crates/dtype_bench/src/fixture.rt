@@ -188,12 +188,14 @@ fn two_types(alloc: Global, shape: Shape, count: usize, flip: bool) -> BenchResu
     Ok(two)
 }
 
-/// Returns one of the two, alternating.
+/// Returns the first of the two if `i` is even, and the second if it is odd. The error is `Missing` if there aren't
+/// two.
 pub fn turn<T>(two: &Vec<T>, i: usize) -> BenchResult<&T> {
     two.get(i % 2).ok_or(BenchFault::Missing)
 }
 
-/// Returns the fields of one of the two, alternating.
+/// Returns the fields of the first of the two types if `i` is even, and those of the second if it is odd. The error
+/// is `Missing` if there aren't two types, or if the type isn't a struct.
 pub fn fields_of(two: &Vec<DType>, i: usize) -> BenchResult<&StructFields> {
     turn(two, i)?
         .as_struct_fields_opt()

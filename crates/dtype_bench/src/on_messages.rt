@@ -9,7 +9,7 @@ use dtype_types::DType;
 use std::alloc::Global;
 use vortex_dtype::{DTypeProto, DTypeSession, pb};
 
-/// The messages of types.
+/// Returns the message of each type, in order. The error is that of the library if one can't be written.
 pub fn messages(alloc: Global, types: &Vec<DType>) -> BenchResult<Vec<pb::DType>> {
     let mut messages = Vec::with_capacity(alloc, types.len())?;
     for dtype in types {

@@ -60,7 +60,7 @@ impl<'a> Operation for EqualIgnoring<'a> {
     }
 }
 
-/// Returns these types, nullable as a whole.
+/// Returns copies of these types that are nullable. What is within them stays as it is.
 pub fn nullables(alloc: Global, types: &Vec<DType>) -> BenchResult<Vec<DType>> {
     let mut nullables = Vec::with_capacity(alloc, types.len())?;
     for dtype in types {
@@ -69,7 +69,7 @@ pub fn nullables(alloc: Global, types: &Vec<DType>) -> BenchResult<Vec<DType>> {
     Ok(nullables)
 }
 
-/// `merge_nullability` of each type and another.
+/// Measures `merge_nullability` of a type of `types` and the type of `others` with the same index.
 #[derive(Drop)]
 pub struct Merged<'a> {
     pub types: &'a Vec<DType>,

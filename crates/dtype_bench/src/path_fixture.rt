@@ -198,8 +198,9 @@ pub struct Query {
     pub tables: Vec<DType>,
     /// The path to the struct that has the columns.
     pub parent: FieldPath,
-    /// The paths of the columns, shuffled, and the set of them.
+    /// The paths of the columns, shuffled.
     pub paths: Vec<FieldPath>,
+    /// The set of these paths.
     pub set: FieldPathSet,
 }
 

@@ -63,7 +63,8 @@ impl Options {
         }
     }
 
-    /// Returns whether lines of standard input are answered, where neither a command nor a file is given.
+    /// Returns whether the console answers the lines of standard input, which it does if neither a command nor a file
+    /// is given.
     pub fn reads_input(&self) -> bool {
         self.commands.is_empty() && self.files.is_empty()
     }

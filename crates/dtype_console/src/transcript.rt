@@ -16,7 +16,7 @@ pub struct Transcript {
     is_echoing: bool,
 }
 
-/// What a line came to.
+/// What became of a line of the input.
 #[derive(Clone, Copy, PartialEq, Eq)]
 pub enum Outcome {
     /// It was answered.

@@ -13,8 +13,8 @@ use dtype_base::PType;
 /// one of the three floating-point types.
 ///
 /// A caller implements the trait and passes a primitive type and a visitor to a `match_each_..` function. The function
-/// calls the method for that primitive type and returns what the method returns. In the Rust library, `match_each_..`
-/// are macros, and their body is generic over the native type.
+/// calls the method for that primitive type and returns what the method returns. In vortex-array, `match_each_..` are
+/// macros, and their body is generic over the native type.
 pub trait PTypeVisitor: Sized {
     /// The type of the value that each method returns.
     type Answer;

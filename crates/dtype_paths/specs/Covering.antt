@@ -3,7 +3,7 @@
 
 -- Which paths a set of paths covers, and the fewest of its paths that cover the same. A path covers every path of which
 -- it is a prefix. So if one path of a set is a prefix of another, a reader of the first needn't read the second. From
--- `FieldPathSet::into_iter` of the Rust library, which drops each path of which another path of the set is a prefix.
+-- `FieldPathSet::into_iter` of vortex-array, which drops each path of which another path of the set is a prefix.
 -- The law `what_covers_and_least_say` states both tests as relations.
 use Rattle.std.specs.Prelude.{◌≡◌, ◌↔◌, ◌⊎◌, ℕ, Bool, IsTrue, List, [], length, not, ◌&&◌}
 use Rattle.std.specs.FinSet as set

@@ -56,10 +56,11 @@ pub fn nothing_else_is_kept()
         → (ExistsIn u q ↔ (ExistsIn t q × ((p : List Field) × IsTrue (w p) × ExistsIn t p × Overlaps p q))) }
 {}
 
-/// The projection of a type `t` to the paths that satisfy `w` is the least part of `t` in which these paths resolve as
-/// in `t`. A part of `t` is `t` without some fields of structs, at any depth, and otherwise unchanged. If a part lacks
-/// a field, it also lacks the later fields of the same struct that have the same name (`IsPart`). A path resolves in a
-/// part as in `t` if it leads to the same type in both, or to no type in both. The two clauses are:
+/// Let `t` be a type, and let `w` be a predicate that says which paths are wanted. The projection of `t` to the paths
+/// that satisfy `w` is the least part of `t` in which these paths resolve as in `t`. A part of `t` is `t` without
+/// some fields of structs, at any depth, and otherwise unchanged. If a part lacks a field, it also lacks the later
+/// fields of the same struct that have the same name (`IsPart`). A path resolves in a part as in `t` if it leads to
+/// the same type in both, or to no type in both. The two clauses are:
 /// - `least`: if `u` is the projection, then `u` is a part of `t` in which the paths resolve as in `t`, and `u` is a
 ///   part of each other part of `t` in which they do.
 /// - `alone`: if one of the paths exists in `t`, then each type that is such a least part is the projection.
@@ -172,9 +173,10 @@ pub fn projections_are_valid()
     ensures { (t u : Tree) (w : PathPredicate) → projected t w ≡ Some u → Valid t → Valid u }
 {}
 
-/// Let `u` be the projection of `t` to the paths that satisfy `w`. For each value `v` of `t`, `restricted t w v` is `v`
-/// without the fields that the projection leaves out. For example, the value `{a=1, b="x"}` of `{a=i32, b=utf8}`,
-/// restricted to `a`, is `{a=1}`. The four clauses are:
+/// Let `w` be a predicate that says which paths are wanted, and let `u` be the projection of `t` to the paths that
+/// satisfy `w`. For each value `v` of `t`, `restricted t w v` is `v` without the fields that the projection leaves
+/// out. For example, the value `{a=1, b="x"}` of `{a=i32, b=utf8}`, restricted to `a`, is `{a=1}`. The four clauses
+/// are:
 /// - `of`: for each value `v` of `t`, `restricted t w v` is a value of `u`.
 /// - `onto`: if `t` is valid, then each value of `u` is `restricted t w v` for some value `v` of `t`.
 /// - `found`: let `p` be a path that satisfies `w` and exists in `t`, and let `q` be `p` or a path that begins with

@@ -47,7 +47,7 @@ use std::alloc::Global;
 /// - Paths don't lead into any other type. For example, a map, a union or an extension type is kept whole or not at
 ///   all.
 ///
-/// The Rust library has no such call.
+/// vortex-array has no such call.
 ///
 /// The call steps through the type and the set together (`FieldPathSet::cursor`). At each struct that it reaches, it
 /// looks up each name with which paths of the set continue, once. So its time grows with the number of these names and

@@ -134,7 +134,7 @@ pub fn tags_tell_positions()
 
 /// For each valid type `t`, the value `sample t` is a value of `t`. For example, `sample` of `list(i32)` is the empty
 /// list, and `sample` of `i32?` is null. So each valid type has a value, and a statement about all values of a valid
-/// type is never true merely because there is no value.
+/// type, such as `values_of_what_is_below_are_values`, is never true merely because there is no value.
 ///
 /// About [`DType::eq_with_nullability_subset`].
 pub fn samples_are_values()

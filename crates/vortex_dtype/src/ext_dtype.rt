@@ -28,8 +28,10 @@ pub struct ExtDType<V: ExtVTable> {
 }
 
 impl<V: ExtVTable + Default> ExtDType<V> {
-    /// Returns the extension type of the default vtable with this metadata and this storage type. If the storage type
-    /// isn't valid, the contract doesn't specify which metadata the vtable accepts.
+    /// Returns the extension type of the default vtable with this metadata and this storage type.
+    ///
+    /// The errors below are those for a valid storage type. For one that isn't valid, the contract leaves open which
+    /// metadata the vtable accepts.
     ///
     /// # Errors
     ///

@@ -34,11 +34,11 @@ pub use dtype_projection::laws as projections;
 pub use dtype_types::{laws as types, nullability_laws as merging};
 use std::hash::Hash;
 
-/// Let a plugin be registered under the id `id` in a session `s`, and let `r` be what the plugin does with metadata.
-/// Then:
-/// - `registered`: `r` is registered under `id`.
-/// - `others`: for every other id, what is registered under it is unchanged.
-/// - `unknown`: whether the session keeps unknown ids is unchanged.
+/// Registering a plugin under the id `id` changes what a session `s` does with the metadata of this id, and nothing
+/// else. `r` says what the plugin does with metadata. After the call:
+/// - `registered`: the session does with the metadata of `id` what `r` says.
+/// - `others`: for every other id, the session does what it did before.
+/// - `unknown`: the session keeps unknown ids exactly if it kept them before.
 ///
 /// For example, registering a plugin of `x.tag` doesn't change how metadata of `x.text` is read. With this law a caller
 /// knows that libraries can register plugins under different ids in one session without affecting each other.
@@ -63,10 +63,11 @@ pub fn allow_unknown_changes_the_flag()
     ensures registered { (s : Meaning) (id : List ℕ) → (allow_unknown_in s).registered id ≡ s.registered id }
 {}
 
-/// For each list of calls on a new session and each id `id`, if one of the calls registers a plugin under `id` and no
-/// later call registers a plugin under `id`, then after all calls that plugin is registered under `id`. For example, if
-/// two plugins of `x.tag` are registered one after the other, the session uses the second. With this law a caller knows
-/// which plugin a session uses if several libraries register plugins under the same id.
+/// If several plugins are registered under one id, the last one counts. In detail: for each list of calls on a new
+/// session and each id `id`, if one of the calls registers a plugin under `id` and no later call does, then the
+/// session uses that plugin for `id` after all calls. For example, if two plugins of `x.tag` are registered one after
+/// the other, the session uses the second. With this law a caller knows which plugin a session uses if several
+/// libraries register plugins under the same id.
 ///
 /// About [`DTypeSession::register`] and [`DTypeSession::registry`].
 #[tactic(auto, using(crate::proofs::lemmas::Sessions::sessions, crate::proofs::lemmas::Sessions::session_laws))]

@@ -14,10 +14,9 @@ use dtype_paths::FieldPath;
 use std::alloc::Global;
 use std::mem;
 
-/// Takes the path at the position `index`, which is counted from 0, out of the list, and stores it in `out`. The list
-/// has the root at this position afterwards. So a program that goes through a list can own each path without copying
-/// it. Returns 1 if the position isn't below the length of the list. If the call doesn't return 0, the list is
-/// unchanged.
+/// Takes the path with this index, which is counted from 0, out of the list, and stores it in `out`. The list has the
+/// root in its place afterwards. So a program that goes through a list can own each path without copying it. Returns
+/// 1 if the index isn't below the length of the list. If the call doesn't return 0, the list is unchanged.
 #[unsafe(no_mangle)]
 pub extern "C" fn vlt_core_paths_take(
     alloc: Global,

@@ -59,9 +59,9 @@ pub extern "C" fn vlt_core_path_len(path: &mut Slot, count: &mut usize) -> u32
     OK
 }
 
-/// Writes the step at the position `index`, which is counted from 0. For a step to a field, it writes the bytes of the
-/// name to `buffer` and their number to `length`. For the step to the element, it writes only a length, which is 2^64
-/// - 1 (`VLT_ELEMENT` in C). Returns 1 if the position isn't below the number of steps.
+/// Writes the step with this index, which is counted from 0. For a step to a field, it writes the bytes of the name
+/// to `buffer` and their number to `length`. For the step to the element, it writes only a length, which is 2^64 - 1
+/// (`VLT_ELEMENT` in C). Returns 1 if the index isn't below the number of steps.
 #[unsafe(no_mangle)]
 pub extern "C" fn vlt_core_path_step(
     path: &mut Slot,

@@ -215,8 +215,8 @@ pub extern "C" fn vlt_core_paths_len(paths: &mut Slot, count: &mut usize) -> u32
     OK
 }
 
-/// Stores in `out` a copy of the path at the position `index`, which is counted from 0, of the list. Returns 1 if the
-/// position isn't below the length of the list.
+/// Stores in `out` a copy of the path with this index in the list, counted from 0. Returns 1 if the index isn't below
+/// the length of the list.
 #[unsafe(no_mangle)]
 pub extern "C" fn vlt_core_paths_get(
     alloc: Global,

@@ -36,8 +36,8 @@ pub extern "C" fn vlt_core_struct_nfields(dtype: &mut Slot, count: &mut usize) -
     OK
 }
 
-/// Stores in `out` the type of the field at the position `index`, which is counted from 0. Returns 1 if the position
-/// isn't below the number of fields, and 5 if the type isn't a struct.
+/// Stores in `out` the type of the field with this index, which is counted from 0. Returns 1 if the index isn't below
+/// the number of fields, and 5 if the type isn't a struct.
 #[unsafe(no_mangle)]
 pub extern "C" fn vlt_core_struct_field_by_index(
     alloc: Global,
@@ -60,7 +60,7 @@ pub extern "C" fn vlt_core_struct_field_by_index(
     put_copy(alloc, out, fields.field_by_index(index))
 }
 
-/// Writes the position of the first field with this name, counted from 0, to `index`. Returns 1 if no field has the
+/// Writes the index of the first field with this name, counted from 0, to `index`. Returns 1 if no field has the
 /// name, 3 if the name isn't UTF-8, and 5 if the type isn't a struct.
 #[unsafe(no_mangle)]
 pub extern "C" fn vlt_core_struct_find(dtype: &mut Slot, name: &[u8], index: &mut usize) -> u32
@@ -109,8 +109,8 @@ pub extern "C" fn vlt_core_struct_field(
     put_copy(alloc, out, fields.field(name))
 }
 
-/// Writes the name of the field at the position `index`, which is counted from 0, to `buffer`. Returns 1 if the
-/// position isn't below the number of fields, and 5 if the type isn't a struct.
+/// Writes the name of the field with this index, which is counted from 0, to `buffer`. Returns 1 if the index isn't
+/// below the number of fields, and 5 if the type isn't a struct.
 #[unsafe(no_mangle)]
 pub extern "C" fn vlt_core_struct_field_name(
     dtype: &mut Slot,
@@ -142,7 +142,7 @@ pub fn write_name(name: Option<&FieldName>, buffer: &mut [u8], length: &mut usiz
     }
 }
 
-/// Writes the position to `index`, or returns 1 if there is no position.
+/// Writes this place to `index`, or returns 1 if there is none.
 pub fn write_place(place: Option<usize>, index: &mut usize) -> u32
     ensures { Writes (found place gives) result index.old index.new }
 {

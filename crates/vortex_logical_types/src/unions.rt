@@ -37,8 +37,8 @@ pub extern "C" fn vlt_core_union_len(dtype: &mut Slot, count: &mut usize) -> u32
     OK
 }
 
-/// Stores in `out` the type of the variant at the position `index`, which is counted from 0. Returns 1 if the position
-/// isn't below the number of variants, and 5 if the type isn't a union.
+/// Stores in `out` the type of the variant with this index, which is counted from 0. Returns 1 if the index isn't
+/// below the number of variants, and 5 if the type isn't a union.
 #[unsafe(no_mangle)]
 pub extern "C" fn vlt_core_union_variant_by_index(
     alloc: Global,
@@ -61,8 +61,8 @@ pub extern "C" fn vlt_core_union_variant_by_index(
     put_copy(alloc, out, variants.variant_by_index(index))
 }
 
-/// Writes the position of the variant with this name, counted from 0, to `index`. Returns 1 if no variant has the
-/// name, 3 if the name isn't UTF-8, and 5 if the type isn't a union.
+/// Writes the index of the variant with this name, counted from 0, to `index`. Returns 1 if no variant has the name,
+/// 3 if the name isn't UTF-8, and 5 if the type isn't a union.
 #[unsafe(no_mangle)]
 pub extern "C" fn vlt_core_union_find(dtype: &mut Slot, name: &[u8], index: &mut usize) -> u32
     ensures writes { Writes
@@ -110,7 +110,7 @@ pub extern "C" fn vlt_core_union_variant(
     put_copy(alloc, out, variants.variant(name))
 }
 
-/// Writes the position of the variant with this tag, counted from 0, to `index`. Returns 1 if no variant has the tag,
+/// Writes the index of the variant with this tag, counted from 0, to `index`. Returns 1 if no variant has the tag,
 /// and 5 if the type isn't a union.
 #[unsafe(no_mangle)]
 pub extern "C" fn vlt_core_union_tag_to_child_index(
@@ -132,8 +132,8 @@ pub extern "C" fn vlt_core_union_tag_to_child_index(
     write_place(variants.tag_to_child_index(tag), index)
 }
 
-/// Writes the tag of the variant at the position `index`, which is counted from 0, to `tag`. Returns 1 if the position
-/// isn't below the number of variants, and 5 if the type isn't a union.
+/// Writes the tag of the variant with this index, which is counted from 0, to `tag`. Returns 1 if the index isn't
+/// below the number of variants, and 5 if the type isn't a union.
 #[unsafe(no_mangle)]
 pub extern "C" fn vlt_core_union_child_index_to_tag(
     dtype: &mut Slot,
@@ -158,8 +158,8 @@ pub extern "C" fn vlt_core_union_child_index_to_tag(
     OK
 }
 
-/// Writes the name of the variant at the position `index`, which is counted from 0, to `buffer`. Returns 1 if the
-/// position isn't below the number of variants, and 5 if the type isn't a union.
+/// Writes the name of the variant with this index, which is counted from 0, to `buffer`. Returns 1 if the index isn't
+/// below the number of variants, and 5 if the type isn't a union.
 #[unsafe(no_mangle)]
 pub extern "C" fn vlt_core_union_variant_name(
     dtype: &mut Slot,

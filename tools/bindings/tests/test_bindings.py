@@ -201,7 +201,7 @@ WRITTEN = {
            "    /// The first.\n    pub one_of: u32,"],
     PYTHON: ['    "vlt_find": (U32, [SLOT_AT, TEXT, SIZE, SIZE_AT]),\n', '        ("other", ctypes.c_int8),',
              "class Pair(Numbers):", "    one_of: int\n    other: int\n", "        self._put(one_of=one_of, other=other)",
-             'WITH_ERRORS = (\n    "vlt_new",\n)\n', '    "vlt_free": (None, [SLOT_AT]),', "SLOT_AT = ctypes.POINTER(Slot)\n", "PAIR_AT = ctypes.POINTER(Pair)\n"],
+             '    "vlt_free": (None, [SLOT_AT]),', "SLOT_AT = ctypes.POINTER(Slot)\n", "PAIR_AT = ctypes.POINTER(Pair)\n"],
 }
 
 

@@ -13,6 +13,8 @@ SOURCE = "pub fn one() -> u8 {\n    1\n}\n\npub fn two() -> u8 {\n    2\n}\n"
 ONE, TWO = "file: src/two.rt\nold:     1\nnew:     3\n", "file: src/two.rt\nold:     2\nnew:     4\n"
 # What a check says of the function `one`, and after it of `two`.
 BY_SEARCH = "no proof: expected answers in ./proofs/two/one/Answers.antt; `search` did not prove `returns-clause-is`"
+# What it says of both, if they are of one cycle.
+BY_CYCLE = "no proof: expected answers in ./proofs/two/+both/Answers.antt; `search` did not prove `one-returns-clause-is`, `two-returns`"
 BY_HAND = "not proved; it stands on `Rattle.fixtures_values.proofs.two.two.Answers.returns`, which antt refuses"
 WRONG_GOAL = "./proofs/two/two/Answers.antt:7:1: error: `returns`: computed as far as they go, the two types differ"
 NO_FIELD = "./proofs/two/two/Answers.antt:7:1: error: `c.two` has no field `three`"
@@ -77,11 +79,38 @@ class Mutations(Planted):
         self.assertEqual(self.tried({"a": "file: src/two.rt\nold:         5\nnew:         6\n"}, said)[0], 0)
         self.assertIn("--only Three::three", self.read("checks"))
 
-    def test_mutations_of_one_cycle_are_tried_apart(self):
+    def test_goals_of_one_cycle_name_their_functions(self):
         self.write(f"{CRATE}/src/two.rt", SOURCE.replace("pub fn", "#[cycle(both)]\npub fn"))
-        said = [f"fn fixtures_values::two::one: {BY_SEARCH}", f"fn fixtures_values::two::two: {BY_SEARCH}"]
-        self.assertEqual(self.tried({"a": ONE, "b": TWO}, *said)[0], 0)
-        self.assertEqual(self.read("checks").count("\n"), 2)
+        told = [f"fn fixtures_values::two::{it}: {BY_CYCLE}" for it in ("one", "two")]
+        self.assertEqual(self.tried({"a": ONE, "b": TWO}, *told), (
+            0, "fixtures_values: a: refused by one-returns-clause-is\n"
+               "fixtures_values: b: refused by two-returns\n"
+               "2 of 2 mutations are refused: 2 by a clause\n2 passed, 0 failed\n"))
+        self.assertEqual(self.read("checks").count("\n"), 1)
+
+    def test_a_mutation_of_a_cycle_without_a_goal_of_its_own_is_tried_alone(self):
+        self.write(f"{CRATE}/src/two.rt", SOURCE.replace("pub fn", "#[cycle(both)]\npub fn"))
+        told = [f"fn fixtures_values::two::{it}: {BY_CYCLE.replace(', `two-returns`', '')}" for it in ("one", "two")]
+        self.assertEqual(self.tried({"a": ONE, "b": TWO}, *told)[1].splitlines()[0],
+                         "fixtures_values: a: refused by one-returns-clause-is")
+        checks = self.read("checks").splitlines()
+        self.assertEqual(len(checks), 2)
+        self.assertNotIn("--only fixtures_values::two::one", checks[1])
+
+    def test_a_goal_that_may_be_of_two_functions_of_a_cycle_is_tried_alone(self):
+        self.write(f"{CRATE}/src/two.rt", SOURCE.replace("pub fn", "#[cycle(both)]\npub fn"))
+        told = [f"fn fixtures_values::two::{it}: {BY_CYCLE}" for it in ("one", "two", "Type::one", "Type::two")]
+        self.assertEqual(self.tried({"a": ONE, "b": TWO}, *told)[0], 0)
+        self.assertEqual(self.read("checks").count("\n"), 3)
+
+    def test_errors_in_the_proof_of_a_cycle_name_their_functions(self):
+        self.write(f"{CRATE}/src/two.rt", SOURCE.replace("pub fn", "#[cycle(both)]\npub fn"))
+        by_hand = BY_HAND.replace("two.two", "two.+both")
+        errors = [WRONG_GOAL.replace("two/two", "two/+both").replace("`returns`", f"`{it}-returns`") for it in ("one", "two")]
+        told = [f"fn fixtures_values::two::{it}: {by_hand}" for it in ("one", "two")]
+        self.assertEqual(self.tried({"a": ONE, "b": TWO}, *told, *errors)[1].splitlines()[:2], [
+            "fixtures_values: a: refused at its proof of one-returns", "fixtures_values: b: refused at its proof of two-returns"])
+        self.assertEqual(self.read("checks").count("\n"), 1)
 
     def test_a_lemma_of_a_proof_that_fails_refuses_alone(self):
         said = ["fn fixtures_values::two::one: not proved; it stands on `Rattle.fixtures_values.proofs.Sides.pairs`, which "

@@ -21,6 +21,8 @@ FROM = os.getcwd()
 os.chdir(os.path.realpath(f"{__file__}/../../.."))
 RT = shutil.which("rt") or "/opt/rattle/bin/rt"
 CRATE = re.compile(r"(?m)^(\w+)(?: staticlib)?:([^#\n]*)")
+# The memory that a check of the largest crates takes, in KiB.
+OF_A_CHECK = 5 << 20
 
 # `kind` is requires, ensures or ghost, and `name` is empty where a clause has none.
 Clause = namedtuple("Clause", "kind name text")
@@ -133,6 +135,13 @@ def rattle_over_built(verb, crate, *flags):
         words += ["-L", f"dependency={os.path.dirname(library(it))}"]
     return [*words, "--links", f"{crate}=", "--antt-project", f"{kit}/rattle/logic/antt-project.json",
             "--logic-built", f"{kit}/logic_built", *flags]
+
+
+def checks_at_once():
+    """How many checks run side by side, each with one job: one for each processor, if memory holds them. A check with several
+    jobs ends a little sooner, and takes up to half as much processor time again."""
+    free = int(re.search(r"MemAvailable: +(\d+) kB", text_of("/proc/meminfo"))[1])
+    return max(1, min(len(os.sched_getaffinity(0)), free // OF_A_CHECK))
 
 
 def version(changes=None):

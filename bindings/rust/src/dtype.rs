@@ -149,6 +149,11 @@ impl DType {
         Ok(DType { whole: Shared::of(remembered(leaf, || make().map(Lasting::new))?) })
     }
 
+    /// The non-nullable struct with so many fields that a call puts into a slot.
+    pub(crate) fn of_struct(count: usize, call: impl FnOnce(&mut Slot) -> u32) -> Result<DType, Error> {
+        DType::of_kind(Kind::Struct, Detail::Count(count), Nullability::NonNullable, call)
+    }
+
     /// The type of this kind that a call puts into a slot.
     fn of_kind(
         kind: Kind,
@@ -602,7 +607,8 @@ impl DType {
 
     /// Returns what [`DType::merge_nullability`] returns, or [`ErrorKind::OutOfMemory`] (0) if memory runs out.
     pub fn try_merge_nullability(&self, other: &DType) -> Result<Option<DType>, Error> {
-        self.with_other(other, ffi::dtype_merge_nullability)
+        let union = self.nullability() | other.nullability();
+        self.with_nullability_of(other, union, ffi::dtype_merge_nullability)
     }
 
     /// Returns the greatest type that is a subset of both types, as [`DType::eq_with_nullability_subset`] defines it.
@@ -615,7 +621,22 @@ impl DType {
 
     /// Returns what [`DType::intersect_nullability`] returns, or [`ErrorKind::OutOfMemory`] (0) if memory runs out.
     pub fn try_intersect_nullability(&self, other: &DType) -> Result<Option<DType>, Error> {
-        self.with_other(other, ffi::dtype_intersect_nullability)
+        let both = Nullability::from(self.is_nullable() && other.is_nullable());
+        self.with_nullability_of(other, both, ffi::dtype_intersect_nullability)
+    }
+
+    /// What a call makes of two types that differ at most in nullabilities, with this outer nullability.
+    fn with_nullability_of(
+        &self,
+        other: &DType,
+        nullability: Nullability,
+        call: impl FnOnce(&Slot, &Slot, &mut Slot) -> u32,
+    ) -> Result<Option<DType>, Error> {
+        if self.is(other) {
+            return Ok(Some(self.clone()));
+        }
+        let known = Known { nullability, ..self.whole.known };
+        found(|out| call(self.slot(), other.slot(), out))?.map(|slot| DType::in_slot(slot, known)).transpose()
     }
 
     /// What a call makes of two types, which may be one.

@@ -199,6 +199,22 @@ impl ErrorKind {
         (number < OF_LIBRARY).then_some(number)
     }
 
+    /// The kind of a result that is none of success.
+    fn of(code: u32) -> Option<ErrorKind> {
+        match code {
+            ffi::UNREADABLE => Some(ErrorKind::Unreadable),
+            ffi::UTF8 => Some(ErrorKind::NotUtf8),
+            ffi::CONDITION => Some(ErrorKind::Precondition),
+            ffi::DEEP => Some(ErrorKind::TooDeep),
+            ffi::RANGE => Some(ErrorKind::OutOfRange),
+            ffi::ARROW => Some(ErrorKind::Arrow),
+            _ => {
+                let number = code.wrapping_sub(ffi::LIBRARY);
+                ErrorKind::ALL.get(number as usize).copied().filter(|_| number < u32::from(OF_LIBRARY))
+            }
+        }
+    }
+
     fn code(self) -> u32 {
         match self {
             ErrorKind::Unreadable => ffi::UNREADABLE,
@@ -248,8 +264,8 @@ impl Error {
 
     /// The error of a result that is none of success.
     pub(crate) fn of(code: u32) -> Error {
-        match ErrorKind::ALL.iter().find(|kind| kind.code() == code) {
-            Some(kind) => Error::from(*kind),
+        match ErrorKind::of(code) {
+            Some(kind) => Error::from(kind),
             None => unreachable!("the library returned {code}, though each slot has the object that it wants"),
         }
     }

@@ -252,7 +252,8 @@ impl FieldPath {
     /// - [`ErrorKind::PathPartMissing`] (36) if a part has no kind
     /// - [`ErrorKind::OutOfMemory`] (0) if memory runs out
     pub fn from_proto<N: AsRef<str>>(parts: impl IntoIterator<Item = Option<N>>) -> Result<FieldPath, Error> {
-        let mut names = Names::default();
+        let parts = parts.into_iter();
+        let mut names = Names::with_room(parts.size_hint().0)?;
         for part in parts {
             match part {
                 Some(name) => names.push(name.as_ref())?,
@@ -260,7 +261,7 @@ impl FieldPath {
             }
         }
         explained(|error| made(|out| ffi::path_from_message(&names.text, &names.lengths, out, error)))
-            .and_then(FieldPath::of)
+            .and_then(|slot| FieldPath::with(slot, names.lengths.len()))
     }
 }
 

@@ -485,7 +485,7 @@ impl<'a> MapDType<'a> {
     /// # Errors
     /// - [`ErrorKind::OutOfMemory`] (0) if memory runs out
     pub fn entries_dtype(&self) -> Result<DType, Error> {
-        made(|out| ffi::dtype_entries(self.dtype.slot(), out)).and_then(DType::of)
+        DType::of_struct(2, |out| ffi::dtype_entries(self.dtype.slot(), out))
     }
 
     /// Returns whether the keys of each map are declared to be sorted, which nothing checks.

@@ -131,7 +131,7 @@ impl FieldPath {
     }
 
     /// The path in a slot, of so many steps.
-    fn with(slot: Slot, length: usize) -> Result<FieldPath, Error> {
+    pub(crate) fn with(slot: Slot, length: usize) -> Result<FieldPath, Error> {
         Ok(FieldPath { whole: Shared::try_new(Whole::of(slot, length))? })
     }
 
@@ -178,13 +178,17 @@ impl FieldPath {
     /// Returns the path of this one step.
     #[must_use]
     pub fn from_field(field: impl Into<Field>) -> FieldPath {
-        or_abort(FieldPath::try_from_iter([field.into()]))
+        or_abort(match field.into() {
+            Field::Name(name) => FieldPath::try_from_name(&name),
+            Field::ElementType => FieldPath::of_steps(b"", &[ffi::ELEMENT]),
+        })
     }
 
     /// Returns the path of these steps, or [`ErrorKind::OutOfMemory`] (0) if memory runs out. All items are taken from
     /// the iterator before the library is called.
     pub fn try_from_iter(parts: impl IntoIterator<Item = impl Into<Field>>) -> Result<FieldPath, Error> {
-        let mut steps = Names::default();
+        let parts = parts.into_iter();
+        let mut steps = Names::with_room(parts.size_hint().0)?;
         for part in parts {
             match part.into() {
                 Field::Name(name) => steps.push(&name)?,
@@ -227,11 +231,6 @@ impl FieldPath {
             Ok(steps)
         })
         .map(Vec::as_slice)
-    }
-
-    /// The first step of a path that isn't used any more.
-    pub(crate) fn into_first_step(self) -> Result<Option<Field>, Error> {
-        calls::step_found(|buffer, length| ffi::path_step(self.slot(), 0, buffer, length))
     }
 
     /// Returns an iterator over the steps, from the root on, which [`FieldPath::parts`] returns as a slice.
@@ -368,7 +367,11 @@ impl FieldPath {
 
     /// Returns what [`FieldPath::step_into`] returns, or [`ErrorKind::OutOfMemory`] (0) if memory runs out.
     pub fn try_step_into(&self) -> Result<Option<FieldPath>, Error> {
-        found(|out| ffi::path_step_into(self.slot(), out))?.map(FieldPath::of).transpose()
+        if self.is_root() {
+            return Ok(None);
+        }
+        let slot = found(|out| ffi::path_step_into(self.slot(), out))?;
+        slot.map(|slot| FieldPath::with(slot, self.len() - 1)).transpose()
     }
 
     /// Returns the type at the path in the type `dtype`. The root leads to the whole type, a name to the first field
@@ -429,6 +432,11 @@ impl FieldPath {
     pub fn try_to_source(&self) -> Result<String, Error> {
         calls::text(|buffer, length| ffi::path_to_text(self.slot(), buffer, length))
     }
+}
+
+/// The first step of the path in a slot.
+pub(crate) fn first_step(path: &Slot) -> Result<Option<Field>, Error> {
+    calls::step_found(|buffer, length| ffi::path_step(path, 0, buffer, length))
 }
 
 /// Reads a path from its text in the form of the console, such as `a.[]."b c"`, or `.` for the root.

@@ -8,7 +8,7 @@ use crate::error::Error;
 #[cfg(doc)]
 use crate::error::ErrorKind;
 use crate::ffi::{self, AT_ONCE, Slot};
-use crate::paths::{Field, FieldPath};
+use crate::paths::{Field, FieldPath, first_step};
 use crate::shared::remembered;
 use std::array;
 use std::borrow::Borrow;
@@ -120,7 +120,8 @@ impl FieldPathSet {
     /// Inserts the paths, in order, after the iterator has yielded all of them. If memory runs out, the call returns
     /// [`ErrorKind::OutOfMemory`] (0), and the paths that it inserted before stay in the set.
     pub fn try_extend(&mut self, paths: impl IntoIterator<Item = impl Borrow<FieldPath>>) -> Result<(), Error> {
-        let mut given = Vec::new();
+        let paths = paths.into_iter();
+        let mut given = reserved(paths.size_hint().0)?;
         for path in paths {
             pushed(&mut given, path)?;
         }
@@ -351,12 +352,13 @@ impl FieldPathSet {
 
     /// Returns what [`FieldPathSet::names_below`] returns, or [`ErrorKind::OutOfMemory`] (0) if memory runs out.
     pub fn try_names_below(&self, path: &FieldPath) -> Result<Option<Vec<String>>, Error> {
-        let Some(paths) = found(|out| ffi::set_names_below(&self.slot, path.slot(), out))?.map(Paths::of) else {
+        let Some(mut paths) = found(|out| ffi::set_names_below(&self.slot, path.slot(), out))?.map(Paths::of) else {
             return Ok(None);
         };
         let mut names = reserved(paths.len())?;
         for index in paths.next..paths.end {
-            if let Some(Field::Name(name)) = paths.get(index)?.into_first_step()? {
+            let path = made(|out| ffi::paths_take(&mut paths.list, index, out))?;
+            if let Some(Field::Name(name)) = first_step(&path)? {
                 names.push(name);
             }
         }

@@ -1,0 +1,1213 @@
+// SPDX-License-Identifier: Apache-2.0
+// SPDX-FileCopyrightText: Copyright the Vortex contributors
+
+/* The public functions of vortex_logical_types.h. Each of them checks its arguments and then calls the proved function,
+ * whose name begins with vlt_core_. The contract of a proved function supposes two things that no type of C ensures, and
+ * that are checked here: no two slots of a call are the same slot or have the same object, and no pointer is null. This
+ * file isn't proved, but tested (bindings/c/tests). tools/bindings/bindings writes the functions at its end. */
+#include "vortex_logical_types.h"
+
+#include <string.h>
+
+/* What is passed for a null pointer with the length 0, since a proved function takes no null pointer. */
+static size_t no_items[2];
+
+/* Returns whether two slots are the same slot, or have the same object. (The pointers to the objects are compared first,
+ * because they mostly differ, and so a call with several slots loads each pointer once.) */
+static inline bool are_same(const vlt_slot *one, const vlt_slot *other) {
+    return one->at == other->at && (one->at || one == other);
+}
+
+/* Returns whether a slot is one of the `count` slots that begin at `slots`, or has the object of one of them. */
+static bool is_among(const vlt_slot *slot, const vlt_slot *slots, size_t count) {
+    bool has_object = false;
+    for (size_t at = 0; at < count; at++)
+        has_object |= slots[at].at == slot->at;
+    return (has_object && slot->at) || (uintptr_t)slot - (uintptr_t)slots < count * sizeof(vlt_slot);
+}
+
+/* How many pointers are looked for among those before them, how many are in one part, about, and the room of a table for
+ * them. */
+enum { FEW = 64, MANY = 1024, ROOM = 2 * MANY };
+
+/* A number that is different for most pointers. */
+static inline uint64_t mixed(const void *pointer) { return (uint64_t)(uintptr_t)pointer * 0x9e3779b97f4a7c15u; }
+
+/* Returns whether each pointer is greater than those before it, so that none is there twice. */
+static bool are_in_order(const vlt_slot *slots, size_t count) {
+    uintptr_t greatest = 0;
+    for (size_t at = 0; at < count; at++) {
+        uintptr_t pointer = (uintptr_t)slots[at].at;
+        if (pointer && pointer <= greatest)
+            return false;
+        greatest = pointer ? pointer : greatest;
+    }
+    return true;
+}
+
+/* Returns whether one of the slots before `at` has the object of the slot at `at`. */
+static bool is_earlier(const vlt_slot *slots, size_t at) {
+    bool found = false;
+    for (size_t before = 0; before < at; before++)
+        found |= slots[before].at == slots[at].at;
+    return found && slots[at].at;
+}
+
+/* Returns whether two of a few slots have the same object. Each pointer has one of 1,024 bits, and if no pointer before it
+ * has that bit, then none of them is this pointer. */
+static bool few_have_repeats(const vlt_slot *slots, size_t count) {
+    uint64_t seen[16] = {0};
+    for (size_t at = 0; at < count; at++) {
+        uint64_t number = mixed(slots[at].at), bit = (uint64_t)1 << (number >> 54 & 63);
+        uint64_t *word = &seen[number >> 60];
+        if (*word & bit && is_earlier(slots, at))
+            return true;
+        *word |= bit;
+    }
+    return false;
+}
+
+/* Returns whether two of the slots whose pointers are in one of the parts have the same object. The number of parts, and the
+ * room that is used of the table, are powers of two. The table is on the stack, so that the checks of a call can't lack
+ * memory. */
+static bool repeats_in_part(const vlt_slot *slots, size_t count, size_t part, size_t parts, size_t room) {
+    const void *table[ROOM];
+    size_t entered = 0;
+    memset(table, 0, room * sizeof(*table));
+    for (size_t at = 0; at < count; at++) {
+        uint64_t number = mixed(slots[at].at);
+        size_t place = (size_t)(number >> 40) & (room - 1);
+        if (!slots[at].at || ((size_t)(number >> 16) & (parts - 1)) != part)
+            continue;
+        while (table[place] && table[place] != slots[at].at)
+            place = (place + 1) & (room - 1);
+        /* (If more pointers fall into this part than the table has room for, the slow test is made.) */
+        if (table[place] || (entered == room - 1 && is_earlier(slots, at)))
+            return true;
+        if (entered < room - 1) {
+            table[place] = slots[at].at;
+            entered++;
+        }
+    }
+    return false;
+}
+
+/* Returns whether two of the slots have the same object. Objects that were made one after another are mostly in this order
+ * in memory, which is tested first. Many slots are divided into parts by their pointers, because looking for each among all
+ * before it takes too long. */
+static bool have_repeats(const vlt_slot *slots, size_t count) {
+    size_t parts = 1, room = 4 * FEW;
+    if (are_in_order(slots, count))
+        return false;
+    if (count <= FEW)
+        return few_have_repeats(slots, count);
+    while (parts * MANY < count)
+        parts *= 2;
+    while (room < ROOM && room < 2 * count)
+        room *= 2;
+    for (size_t part = 0; part < parts; part++)
+        if (repeats_in_part(slots, count, part, parts, room))
+            return true;
+    return false;
+}
+
+/* begin of what tools/bindings writes */
+uint32_t vlt_core_struct_names(
+        vlt_slot *dtype, uint8_t *buffer, size_t buffer_len, size_t *length, size_t *name_lengths,
+        size_t name_lengths_len, size_t *count);
+uint32_t vlt_core_union_names(
+        vlt_slot *dtype, uint8_t *buffer, size_t buffer_len, size_t *length, size_t *name_lengths,
+        size_t name_lengths_len, size_t *count);
+uint32_t vlt_core_struct_types(vlt_slot *dtype, vlt_slot *types, size_t types_len, size_t *count);
+uint32_t vlt_core_union_types(vlt_slot *dtype, vlt_slot *types, size_t types_len, size_t *count);
+uint32_t vlt_core_struct_without_field(vlt_slot *dtype, size_t index, vlt_slot *out, vlt_slot *error);
+uint32_t vlt_core_struct_disjoint_merge(vlt_slot *one, vlt_slot *other, vlt_slot *out, vlt_slot *error);
+uint32_t vlt_core_struct_project(
+        vlt_slot *dtype, const uint8_t *names, size_t names_len, const size_t *name_lengths, size_t name_lengths_len,
+        vlt_slot *out, vlt_slot *error);
+uint32_t vlt_core_dtype_null(vlt_slot *out);
+uint32_t vlt_core_dtype_bool(bool nullable, vlt_slot *out);
+uint32_t vlt_core_dtype_utf8(bool nullable, vlt_slot *out);
+uint32_t vlt_core_dtype_binary(bool nullable, vlt_slot *out);
+uint32_t vlt_core_dtype_variant(bool nullable, vlt_slot *out);
+uint32_t vlt_core_dtype_primitive(uint32_t number, bool nullable, vlt_slot *out);
+uint32_t vlt_core_dtype_decimal(uint8_t precision, int8_t scale, bool nullable, vlt_slot *out, vlt_slot *error);
+uint32_t vlt_core_dtype_list(vlt_slot *element, bool nullable, vlt_slot *out);
+uint32_t vlt_core_dtype_fixed_size_list(vlt_slot *element, uint32_t size, bool nullable, vlt_slot *out);
+uint32_t vlt_core_set_below(vlt_slot *paths, vlt_slot *path, bool *is_end, bool *has_element, size_t *name_count);
+uint32_t vlt_core_set_names_below(vlt_slot *paths, vlt_slot *path, vlt_slot *out);
+uint32_t vlt_core_error_text(uint32_t code, uint8_t *buffer, size_t buffer_len, size_t *length);
+uint32_t vlt_core_error_number(vlt_slot *error, uint32_t *number);
+uint32_t vlt_core_error_position(vlt_slot *error, size_t *position);
+uint32_t vlt_core_error_message(vlt_slot *error, uint8_t *buffer, size_t buffer_len, size_t *length);
+uint32_t vlt_core_fields_new(vlt_slot *out);
+uint32_t vlt_core_fields_push(vlt_slot *fields, const uint8_t *name, size_t name_len, vlt_slot *dtype);
+uint32_t vlt_core_abi_version(void);
+void vlt_core_free(vlt_slot *slot);
+uint32_t vlt_core_kind(vlt_slot *slot);
+uint32_t vlt_core_dtype_struct(vlt_slot *fields, bool nullable, vlt_slot *out);
+uint32_t vlt_core_dtype_union(
+        vlt_slot *fields, const uint8_t *tags, size_t tags_len, bool nullable, vlt_slot *out, vlt_slot *error);
+uint32_t vlt_core_dtype_union_consecutive(vlt_slot *fields, bool nullable, vlt_slot *out, vlt_slot *error);
+uint32_t vlt_core_mask_all(vlt_slot *out);
+uint32_t vlt_core_mask_prefix(vlt_slot *path, vlt_slot *out);
+uint32_t vlt_core_mask_exact(vlt_slot *path, vlt_slot *out);
+uint32_t vlt_core_mask_kind(vlt_slot *mask, uint32_t *kind);
+uint32_t vlt_core_mask_path(vlt_slot *mask, vlt_slot *out);
+uint32_t vlt_core_mask_copy(vlt_slot *mask, vlt_slot *out);
+uint32_t vlt_core_mask_step_into(vlt_slot *mask, vlt_slot *out, vlt_slot *error);
+uint32_t vlt_core_mask_starting_field(
+        vlt_slot *mask, uint8_t *buffer, size_t buffer_len, size_t *length, vlt_slot *error);
+uint32_t vlt_core_mask_matches_all(vlt_slot *mask);
+uint32_t vlt_core_mask_matches_root(vlt_slot *mask);
+uint32_t vlt_core_mask_eq(vlt_slot *one, vlt_slot *other);
+uint32_t vlt_core_dtype_merge_columns(vlt_slot *one, vlt_slot *other, vlt_slot *out);
+uint32_t vlt_core_dtype_merge_conflict(vlt_slot *one, vlt_slot *other, vlt_slot *path, vlt_slot *left, vlt_slot *right);
+uint32_t vlt_core_message_copy(vlt_slot *message, vlt_slot *out);
+uint32_t vlt_core_message_eq(vlt_slot *one, vlt_slot *other);
+uint32_t vlt_core_message_to_dtype(vlt_slot *message, bool allow_unknown, vlt_slot *out, vlt_slot *error);
+uint32_t vlt_core_message_normal(vlt_slot *message, bool allow_unknown, vlt_slot *out, vlt_slot *error);
+uint32_t vlt_core_dtype_to_message(vlt_slot *dtype, vlt_slot *out);
+uint32_t vlt_core_message_from_nodes(
+        const vlt_node *nodes, size_t nodes_len, const uint8_t *texts, size_t texts_len, vlt_slot *out);
+uint32_t vlt_core_message_to_nodes(
+        vlt_slot *message, vlt_node *nodes, size_t nodes_len, size_t *node_count, uint8_t *texts, size_t texts_len,
+        size_t *text_length);
+uint32_t vlt_core_dtype_with_nullability(vlt_slot *dtype, bool nullable, vlt_slot *out);
+uint32_t vlt_core_dtype_union_nullability(vlt_slot *dtype, bool nullable, vlt_slot *out);
+uint32_t vlt_core_dtype_hash(vlt_slot *dtype, uint64_t *hash);
+uint32_t vlt_core_dtype_hash_ignore_nullability(vlt_slot *dtype, uint64_t *hash);
+uint32_t vlt_core_dtype_element(vlt_slot *dtype, vlt_slot *out);
+uint32_t vlt_core_dtype_key(vlt_slot *dtype, vlt_slot *out);
+uint32_t vlt_core_dtype_value(vlt_slot *dtype, vlt_slot *out);
+uint32_t vlt_core_dtype_storage(vlt_slot *dtype, vlt_slot *out);
+uint32_t vlt_core_dtype_ptype(vlt_slot *dtype, uint32_t *number);
+uint32_t vlt_core_dtype_id(vlt_slot *dtype, uint8_t *buffer, size_t buffer_len, size_t *length);
+uint32_t vlt_core_dtype_metadata(vlt_slot *dtype, uint8_t *buffer, size_t buffer_len, size_t *length);
+uint32_t vlt_core_dtype_fixed_size(vlt_slot *dtype, uint32_t *size);
+uint32_t vlt_core_dtype_decimal_parts(vlt_slot *dtype, uint8_t *precision, int8_t *scale);
+uint32_t vlt_core_dtype_keys_sorted(vlt_slot *dtype);
+uint32_t vlt_core_paths_take(vlt_slot *paths, size_t index, vlt_slot *out);
+uint32_t vlt_core_path_from_message(
+        const uint8_t *names, size_t names_len, const size_t *name_lengths, size_t name_lengths_len, vlt_slot *out,
+        vlt_slot *error);
+uint32_t vlt_core_path_from_text(const uint8_t *text, size_t text_len, vlt_slot *out, vlt_slot *error);
+uint32_t vlt_core_path_to_text(vlt_slot *path, uint8_t *buffer, size_t buffer_len, size_t *length);
+uint32_t vlt_core_path_root(vlt_slot *out);
+uint32_t vlt_core_path_len(vlt_slot *path, size_t *count);
+uint32_t vlt_core_path_step(vlt_slot *path, size_t index, uint8_t *buffer, size_t buffer_len, size_t *length);
+uint32_t vlt_core_path_push_name(vlt_slot *path, const uint8_t *name, size_t name_len, vlt_slot *out);
+uint32_t vlt_core_path_push_element(vlt_slot *path, vlt_slot *out);
+uint32_t vlt_core_path_step_into(vlt_slot *path, vlt_slot *out);
+uint32_t vlt_core_path_copy(vlt_slot *path, vlt_slot *out);
+uint32_t vlt_core_path_eq(vlt_slot *one, vlt_slot *other);
+uint32_t vlt_core_path_overlap(vlt_slot *one, vlt_slot *other);
+uint32_t vlt_core_path_resolve(vlt_slot *dtype, vlt_slot *path, vlt_slot *out);
+uint32_t vlt_core_path_exists_in(vlt_slot *dtype, vlt_slot *path);
+uint32_t vlt_core_path_display(vlt_slot *path, uint8_t *buffer, size_t buffer_len, size_t *length);
+uint32_t vlt_core_path_starts_with_name(vlt_slot *path, const uint8_t *name, size_t name_len);
+uint32_t vlt_core_path_hash(vlt_slot *path, uint64_t *hash);
+uint32_t vlt_core_project_paths(vlt_slot *dtype, vlt_slot *set, vlt_slot *out);
+uint32_t vlt_core_set_eq(vlt_slot *one, vlt_slot *other);
+uint32_t vlt_core_set_is_subset(vlt_slot *one, vlt_slot *other);
+uint32_t vlt_core_set_is_disjoint(vlt_slot *one, vlt_slot *other);
+uint32_t vlt_core_set_union(vlt_slot *one, vlt_slot *other, vlt_slot *out);
+uint32_t vlt_core_set_new(vlt_slot *out);
+uint32_t vlt_core_set_insert(vlt_slot *paths, vlt_slot *path);
+uint32_t vlt_core_set_contains(vlt_slot *paths, vlt_slot *path);
+uint32_t vlt_core_set_copy(vlt_slot *paths, vlt_slot *out);
+uint32_t vlt_core_set_cover(vlt_slot *paths, vlt_slot *out);
+uint32_t vlt_core_set_members(vlt_slot *paths, vlt_slot *out);
+uint32_t vlt_core_set_unresolved(vlt_slot *paths, vlt_slot *dtype, vlt_slot *out);
+uint32_t vlt_core_set_len(vlt_slot *paths, size_t *count);
+uint32_t vlt_core_paths_len(vlt_slot *paths, size_t *count);
+uint32_t vlt_core_paths_get(vlt_slot *paths, size_t index, vlt_slot *out);
+uint32_t vlt_core_set_extend(vlt_slot *set, vlt_slot *paths, size_t paths_len, size_t *inserted);
+uint32_t vlt_core_set_extend_from_list(vlt_slot *paths, vlt_slot *list);
+uint32_t vlt_core_dtype_from_text(const uint8_t *text, size_t text_len, vlt_slot *out, vlt_slot *error);
+uint32_t vlt_core_dtype_to_text(vlt_slot *dtype, uint8_t *buffer, size_t buffer_len, size_t *length);
+uint32_t vlt_core_path_from_steps(
+        const uint8_t *names, size_t names_len, const size_t *name_lengths, size_t name_lengths_len, vlt_slot *out);
+uint32_t vlt_core_struct_nfields(vlt_slot *dtype, size_t *count);
+uint32_t vlt_core_struct_field_by_index(vlt_slot *dtype, size_t index, vlt_slot *out);
+uint32_t vlt_core_struct_find(vlt_slot *dtype, const uint8_t *name, size_t name_len, size_t *index);
+uint32_t vlt_core_struct_field(vlt_slot *dtype, const uint8_t *name, size_t name_len, vlt_slot *out);
+uint32_t vlt_core_struct_field_name(vlt_slot *dtype, size_t index, uint8_t *buffer, size_t buffer_len, size_t *length);
+uint32_t vlt_core_dtype_display(vlt_slot *dtype, uint8_t *buffer, size_t buffer_len, size_t *length);
+uint32_t vlt_core_struct_indented(vlt_slot *dtype, uint8_t *buffer, size_t buffer_len, size_t *length);
+uint32_t vlt_core_dtype_copy(vlt_slot *dtype, vlt_slot *out);
+uint32_t vlt_core_dtype_eq(vlt_slot *one, vlt_slot *other);
+uint32_t vlt_core_dtype_eq_ignore_nullability(vlt_slot *one, vlt_slot *other);
+uint32_t vlt_core_dtype_nullability_subset(vlt_slot *one, vlt_slot *other);
+uint32_t vlt_core_dtype_nullability_superset(vlt_slot *one, vlt_slot *other);
+uint32_t vlt_core_dtype_merge_nullability(vlt_slot *one, vlt_slot *other, vlt_slot *out);
+uint32_t vlt_core_dtype_intersect_nullability(vlt_slot *one, vlt_slot *other, vlt_slot *out);
+uint32_t vlt_core_dtype_kind(vlt_slot *dtype, uint32_t *number);
+uint32_t vlt_core_dtype_is_nullable(vlt_slot *dtype);
+uint32_t vlt_core_dtype_can_be_nonnullable(vlt_slot *dtype);
+uint32_t vlt_core_union_len(vlt_slot *dtype, size_t *count);
+uint32_t vlt_core_union_variant_by_index(vlt_slot *dtype, size_t index, vlt_slot *out);
+uint32_t vlt_core_union_find(vlt_slot *dtype, const uint8_t *name, size_t name_len, size_t *index);
+uint32_t vlt_core_union_variant(vlt_slot *dtype, const uint8_t *name, size_t name_len, vlt_slot *out);
+uint32_t vlt_core_union_tag_to_child_index(vlt_slot *dtype, uint8_t tag, size_t *index);
+uint32_t vlt_core_union_child_index_to_tag(vlt_slot *dtype, size_t index, uint8_t *tag);
+uint32_t vlt_core_union_variant_name(vlt_slot *dtype, size_t index, uint8_t *buffer, size_t buffer_len, size_t *length);
+uint32_t vlt_core_union_is_consecutive(vlt_slot *dtype);
+uint32_t vlt_core_dtype_element_size(vlt_slot *dtype, size_t *size, vlt_slot *error);
+uint32_t vlt_core_dtype_entries(vlt_slot *dtype, vlt_slot *out);
+uint32_t vlt_core_dtype_map(
+        vlt_slot *one, vlt_slot *other, bool keys_sorted, bool nullable, vlt_slot *out, vlt_slot *error);
+uint32_t vlt_core_dtype_extension(
+        const uint8_t *id, size_t id_len, const uint8_t *metadata, size_t metadata_len, vlt_slot *storage,
+        vlt_slot *out);
+
+void vlt_dtype_free(vlt_dtype *dtype) {
+    if (dtype)
+        vlt_core_free(&dtype->slot);
+}
+
+void vlt_path_free(vlt_path *path) {
+    if (path)
+        vlt_core_free(&path->slot);
+}
+
+void vlt_path_set_free(vlt_path_set *path_set) {
+    if (path_set)
+        vlt_core_free(&path_set->slot);
+}
+
+void vlt_path_list_free(vlt_path_list *path_list) {
+    if (path_list)
+        vlt_core_free(&path_list->slot);
+}
+
+void vlt_mask_free(vlt_mask *mask) {
+    if (mask)
+        vlt_core_free(&mask->slot);
+}
+
+void vlt_message_free(vlt_message *message) {
+    if (message)
+        vlt_core_free(&message->slot);
+}
+
+void vlt_fields_free(vlt_fields *fields) {
+    if (fields)
+        vlt_core_free(&fields->slot);
+}
+
+void vlt_error_free(vlt_error *error) {
+    if (error)
+        vlt_core_free(&error->slot);
+}
+
+uint32_t vlt_abi_version(void) {
+    return vlt_core_abi_version();
+}
+
+void vlt_free(vlt_slot *slot) {
+    vlt_core_free(slot);
+}
+
+uint32_t vlt_kind(const vlt_slot *slot) {
+    return vlt_core_kind((vlt_slot *)slot);
+}
+
+vlt_result vlt_dtype_null(vlt_dtype *out) {
+    return (vlt_result)vlt_core_dtype_null(&out->slot);
+}
+
+vlt_result vlt_dtype_bool(bool nullable, vlt_dtype *out) {
+    return (vlt_result)vlt_core_dtype_bool(nullable, &out->slot);
+}
+
+vlt_result vlt_dtype_utf8(bool nullable, vlt_dtype *out) {
+    return (vlt_result)vlt_core_dtype_utf8(nullable, &out->slot);
+}
+
+vlt_result vlt_dtype_binary(bool nullable, vlt_dtype *out) {
+    return (vlt_result)vlt_core_dtype_binary(nullable, &out->slot);
+}
+
+vlt_result vlt_dtype_variant(bool nullable, vlt_dtype *out) {
+    return (vlt_result)vlt_core_dtype_variant(nullable, &out->slot);
+}
+
+vlt_result vlt_dtype_primitive(uint32_t number, bool nullable, vlt_dtype *out) {
+    return (vlt_result)vlt_core_dtype_primitive(number, nullable, &out->slot);
+}
+
+vlt_result vlt_dtype_decimal(uint8_t precision, int8_t scale, bool nullable, vlt_dtype *out, vlt_error *error) {
+    vlt_slot unwanted = {0};
+    vlt_slot *told = error ? &error->slot : &unwanted;
+    if (are_same(&out->slot, told))
+        return VLT_SAME_SLOT;
+    vlt_result result = (vlt_result)vlt_core_dtype_decimal(precision, scale, nullable, &out->slot, told);
+    if (unwanted.at)
+        vlt_core_free(&unwanted);
+    return result;
+}
+
+vlt_result vlt_dtype_list(const vlt_dtype *element, bool nullable, vlt_dtype *out) {
+    if (are_same(&element->slot, &out->slot))
+        return VLT_SAME_SLOT;
+    return (vlt_result)vlt_core_dtype_list((vlt_slot *)&element->slot, nullable, &out->slot);
+}
+
+vlt_result vlt_dtype_fixed_size_list(const vlt_dtype *element, uint32_t size, bool nullable, vlt_dtype *out) {
+    if (are_same(&element->slot, &out->slot))
+        return VLT_SAME_SLOT;
+    return (vlt_result)vlt_core_dtype_fixed_size_list((vlt_slot *)&element->slot, size, nullable, &out->slot);
+}
+
+vlt_result vlt_dtype_struct(const vlt_fields *fields, bool nullable, vlt_dtype *out) {
+    if (are_same(&fields->slot, &out->slot))
+        return VLT_SAME_SLOT;
+    return (vlt_result)vlt_core_dtype_struct((vlt_slot *)&fields->slot, nullable, &out->slot);
+}
+
+vlt_result vlt_dtype_union(
+        const vlt_fields *fields, const uint8_t *tags, size_t tags_len, bool nullable, vlt_dtype *out,
+        vlt_error *error) {
+    if (!tags && tags_len)
+        return VLT_RANGE;
+    vlt_slot unwanted = {0};
+    vlt_slot *told = error ? &error->slot : &unwanted;
+    if (are_same(&fields->slot, &out->slot) || are_same(&fields->slot, told) || are_same(&out->slot, told))
+        return VLT_SAME_SLOT;
+    vlt_result result = (vlt_result)vlt_core_dtype_union(
+            (vlt_slot *)&fields->slot, tags ? tags : (const uint8_t *)no_items, tags_len, nullable, &out->slot, told);
+    if (unwanted.at)
+        vlt_core_free(&unwanted);
+    return result;
+}
+
+vlt_result vlt_dtype_union_consecutive(const vlt_fields *fields, bool nullable, vlt_dtype *out, vlt_error *error) {
+    vlt_slot unwanted = {0};
+    vlt_slot *told = error ? &error->slot : &unwanted;
+    if (are_same(&fields->slot, &out->slot) || are_same(&fields->slot, told) || are_same(&out->slot, told))
+        return VLT_SAME_SLOT;
+    vlt_result result = (vlt_result)vlt_core_dtype_union_consecutive(
+            (vlt_slot *)&fields->slot, nullable, &out->slot, told);
+    if (unwanted.at)
+        vlt_core_free(&unwanted);
+    return result;
+}
+
+vlt_result vlt_dtype_merge_columns(const vlt_dtype *one, const vlt_dtype *other, vlt_dtype *out) {
+    if (are_same(&one->slot, &other->slot) || are_same(&one->slot, &out->slot) || are_same(&other->slot, &out->slot))
+        return VLT_SAME_SLOT;
+    return (vlt_result)vlt_core_dtype_merge_columns((vlt_slot *)&one->slot, (vlt_slot *)&other->slot, &out->slot);
+}
+
+vlt_result vlt_dtype_merge_conflict(
+        const vlt_dtype *one, const vlt_dtype *other, vlt_path *path, vlt_dtype *left, vlt_dtype *right) {
+    if (are_same(&one->slot, &other->slot)
+        || are_same(&one->slot, &path->slot)
+        || are_same(&one->slot, &left->slot)
+        || are_same(&one->slot, &right->slot)
+        || are_same(&other->slot, &path->slot)
+        || are_same(&other->slot, &left->slot)
+        || are_same(&other->slot, &right->slot)
+        || are_same(&path->slot, &left->slot)
+        || are_same(&path->slot, &right->slot)
+        || are_same(&left->slot, &right->slot))
+        return VLT_SAME_SLOT;
+    return (vlt_result)vlt_core_dtype_merge_conflict(
+            (vlt_slot *)&one->slot, (vlt_slot *)&other->slot, &path->slot, &left->slot, &right->slot);
+}
+
+vlt_result vlt_dtype_to_message(const vlt_dtype *dtype, vlt_message *out) {
+    if (are_same(&dtype->slot, &out->slot))
+        return VLT_SAME_SLOT;
+    return (vlt_result)vlt_core_dtype_to_message((vlt_slot *)&dtype->slot, &out->slot);
+}
+
+vlt_result vlt_dtype_with_nullability(const vlt_dtype *dtype, bool nullable, vlt_dtype *out) {
+    if (are_same(&dtype->slot, &out->slot))
+        return VLT_SAME_SLOT;
+    return (vlt_result)vlt_core_dtype_with_nullability((vlt_slot *)&dtype->slot, nullable, &out->slot);
+}
+
+vlt_result vlt_dtype_union_nullability(const vlt_dtype *dtype, bool nullable, vlt_dtype *out) {
+    if (are_same(&dtype->slot, &out->slot))
+        return VLT_SAME_SLOT;
+    return (vlt_result)vlt_core_dtype_union_nullability((vlt_slot *)&dtype->slot, nullable, &out->slot);
+}
+
+vlt_result vlt_dtype_hash(const vlt_dtype *dtype, uint64_t *hash) {
+    return (vlt_result)vlt_core_dtype_hash((vlt_slot *)&dtype->slot, hash);
+}
+
+vlt_result vlt_dtype_hash_ignore_nullability(const vlt_dtype *dtype, uint64_t *hash) {
+    return (vlt_result)vlt_core_dtype_hash_ignore_nullability((vlt_slot *)&dtype->slot, hash);
+}
+
+vlt_result vlt_dtype_element(const vlt_dtype *dtype, vlt_dtype *out) {
+    if (are_same(&dtype->slot, &out->slot))
+        return VLT_SAME_SLOT;
+    return (vlt_result)vlt_core_dtype_element((vlt_slot *)&dtype->slot, &out->slot);
+}
+
+vlt_result vlt_dtype_key(const vlt_dtype *dtype, vlt_dtype *out) {
+    if (are_same(&dtype->slot, &out->slot))
+        return VLT_SAME_SLOT;
+    return (vlt_result)vlt_core_dtype_key((vlt_slot *)&dtype->slot, &out->slot);
+}
+
+vlt_result vlt_dtype_value(const vlt_dtype *dtype, vlt_dtype *out) {
+    if (are_same(&dtype->slot, &out->slot))
+        return VLT_SAME_SLOT;
+    return (vlt_result)vlt_core_dtype_value((vlt_slot *)&dtype->slot, &out->slot);
+}
+
+vlt_result vlt_dtype_storage(const vlt_dtype *dtype, vlt_dtype *out) {
+    if (are_same(&dtype->slot, &out->slot))
+        return VLT_SAME_SLOT;
+    return (vlt_result)vlt_core_dtype_storage((vlt_slot *)&dtype->slot, &out->slot);
+}
+
+vlt_result vlt_dtype_ptype(const vlt_dtype *dtype, uint32_t *number) {
+    return (vlt_result)vlt_core_dtype_ptype((vlt_slot *)&dtype->slot, number);
+}
+
+vlt_result vlt_dtype_id(const vlt_dtype *dtype, uint8_t *buffer, size_t buffer_len, size_t *length) {
+    if (!buffer && buffer_len)
+        return VLT_RANGE;
+    return (vlt_result)vlt_core_dtype_id(
+            (vlt_slot *)&dtype->slot, buffer ? buffer : (uint8_t *)no_items, buffer_len, length);
+}
+
+vlt_result vlt_dtype_metadata(const vlt_dtype *dtype, uint8_t *buffer, size_t buffer_len, size_t *length) {
+    if (!buffer && buffer_len)
+        return VLT_RANGE;
+    return (vlt_result)vlt_core_dtype_metadata(
+            (vlt_slot *)&dtype->slot, buffer ? buffer : (uint8_t *)no_items, buffer_len, length);
+}
+
+vlt_result vlt_dtype_fixed_size(const vlt_dtype *dtype, uint32_t *size) {
+    return (vlt_result)vlt_core_dtype_fixed_size((vlt_slot *)&dtype->slot, size);
+}
+
+vlt_result vlt_dtype_decimal_parts(const vlt_dtype *dtype, uint8_t *precision, int8_t *scale) {
+    return (vlt_result)vlt_core_dtype_decimal_parts((vlt_slot *)&dtype->slot, precision, scale);
+}
+
+vlt_result vlt_dtype_keys_sorted(const vlt_dtype *dtype) {
+    return (vlt_result)vlt_core_dtype_keys_sorted((vlt_slot *)&dtype->slot);
+}
+
+vlt_result vlt_dtype_from_text(const uint8_t *text, size_t text_len, vlt_dtype *out, vlt_error *error) {
+    if (!text && text_len)
+        return VLT_RANGE;
+    vlt_slot unwanted = {0};
+    vlt_slot *told = error ? &error->slot : &unwanted;
+    if (are_same(&out->slot, told))
+        return VLT_SAME_SLOT;
+    vlt_result result = (vlt_result)vlt_core_dtype_from_text(
+            text ? text : (const uint8_t *)no_items, text_len, &out->slot, told);
+    if (unwanted.at)
+        vlt_core_free(&unwanted);
+    return result;
+}
+
+vlt_result vlt_dtype_to_text(const vlt_dtype *dtype, uint8_t *buffer, size_t buffer_len, size_t *length) {
+    if (!buffer && buffer_len)
+        return VLT_RANGE;
+    return (vlt_result)vlt_core_dtype_to_text(
+            (vlt_slot *)&dtype->slot, buffer ? buffer : (uint8_t *)no_items, buffer_len, length);
+}
+
+vlt_result vlt_dtype_display(const vlt_dtype *dtype, uint8_t *buffer, size_t buffer_len, size_t *length) {
+    if (!buffer && buffer_len)
+        return VLT_RANGE;
+    return (vlt_result)vlt_core_dtype_display(
+            (vlt_slot *)&dtype->slot, buffer ? buffer : (uint8_t *)no_items, buffer_len, length);
+}
+
+vlt_result vlt_dtype_copy(const vlt_dtype *dtype, vlt_dtype *out) {
+    if (are_same(&dtype->slot, &out->slot))
+        return VLT_SAME_SLOT;
+    return (vlt_result)vlt_core_dtype_copy((vlt_slot *)&dtype->slot, &out->slot);
+}
+
+vlt_result vlt_dtype_eq(const vlt_dtype *one, const vlt_dtype *other) {
+    if (are_same(&one->slot, &other->slot))
+        return VLT_SAME_SLOT;
+    return (vlt_result)vlt_core_dtype_eq((vlt_slot *)&one->slot, (vlt_slot *)&other->slot);
+}
+
+vlt_result vlt_dtype_eq_ignore_nullability(const vlt_dtype *one, const vlt_dtype *other) {
+    if (are_same(&one->slot, &other->slot))
+        return VLT_SAME_SLOT;
+    return (vlt_result)vlt_core_dtype_eq_ignore_nullability((vlt_slot *)&one->slot, (vlt_slot *)&other->slot);
+}
+
+vlt_result vlt_dtype_nullability_subset(const vlt_dtype *one, const vlt_dtype *other) {
+    if (are_same(&one->slot, &other->slot))
+        return VLT_SAME_SLOT;
+    return (vlt_result)vlt_core_dtype_nullability_subset((vlt_slot *)&one->slot, (vlt_slot *)&other->slot);
+}
+
+vlt_result vlt_dtype_nullability_superset(const vlt_dtype *one, const vlt_dtype *other) {
+    if (are_same(&one->slot, &other->slot))
+        return VLT_SAME_SLOT;
+    return (vlt_result)vlt_core_dtype_nullability_superset((vlt_slot *)&one->slot, (vlt_slot *)&other->slot);
+}
+
+vlt_result vlt_dtype_merge_nullability(const vlt_dtype *one, const vlt_dtype *other, vlt_dtype *out) {
+    if (are_same(&one->slot, &other->slot) || are_same(&one->slot, &out->slot) || are_same(&other->slot, &out->slot))
+        return VLT_SAME_SLOT;
+    return (vlt_result)vlt_core_dtype_merge_nullability((vlt_slot *)&one->slot, (vlt_slot *)&other->slot, &out->slot);
+}
+
+vlt_result vlt_dtype_intersect_nullability(const vlt_dtype *one, const vlt_dtype *other, vlt_dtype *out) {
+    if (are_same(&one->slot, &other->slot) || are_same(&one->slot, &out->slot) || are_same(&other->slot, &out->slot))
+        return VLT_SAME_SLOT;
+    return (vlt_result)vlt_core_dtype_intersect_nullability(
+            (vlt_slot *)&one->slot, (vlt_slot *)&other->slot, &out->slot);
+}
+
+vlt_result vlt_dtype_kind(const vlt_dtype *dtype, uint32_t *number) {
+    return (vlt_result)vlt_core_dtype_kind((vlt_slot *)&dtype->slot, number);
+}
+
+vlt_result vlt_dtype_is_nullable(const vlt_dtype *dtype) {
+    return (vlt_result)vlt_core_dtype_is_nullable((vlt_slot *)&dtype->slot);
+}
+
+vlt_result vlt_dtype_can_be_nonnullable(const vlt_dtype *dtype) {
+    return (vlt_result)vlt_core_dtype_can_be_nonnullable((vlt_slot *)&dtype->slot);
+}
+
+vlt_result vlt_dtype_element_size(const vlt_dtype *dtype, size_t *size, vlt_error *error) {
+    vlt_slot unwanted = {0};
+    vlt_slot *told = error ? &error->slot : &unwanted;
+    if (are_same(&dtype->slot, told))
+        return VLT_SAME_SLOT;
+    vlt_result result = (vlt_result)vlt_core_dtype_element_size((vlt_slot *)&dtype->slot, size, told);
+    if (unwanted.at)
+        vlt_core_free(&unwanted);
+    return result;
+}
+
+vlt_result vlt_dtype_entries(const vlt_dtype *dtype, vlt_dtype *out) {
+    if (are_same(&dtype->slot, &out->slot))
+        return VLT_SAME_SLOT;
+    return (vlt_result)vlt_core_dtype_entries((vlt_slot *)&dtype->slot, &out->slot);
+}
+
+vlt_result vlt_dtype_map(
+        const vlt_dtype *one, const vlt_dtype *other, bool keys_sorted, bool nullable, vlt_dtype *out,
+        vlt_error *error) {
+    vlt_slot unwanted = {0};
+    vlt_slot *told = error ? &error->slot : &unwanted;
+    if (are_same(&one->slot, &other->slot)
+        || are_same(&one->slot, &out->slot)
+        || are_same(&one->slot, told)
+        || are_same(&other->slot, &out->slot)
+        || are_same(&other->slot, told)
+        || are_same(&out->slot, told))
+        return VLT_SAME_SLOT;
+    vlt_result result = (vlt_result)vlt_core_dtype_map(
+            (vlt_slot *)&one->slot, (vlt_slot *)&other->slot, keys_sorted, nullable, &out->slot, told);
+    if (unwanted.at)
+        vlt_core_free(&unwanted);
+    return result;
+}
+
+vlt_result vlt_dtype_extension(
+        const uint8_t *id, size_t id_len, const uint8_t *metadata, size_t metadata_len, const vlt_dtype *storage,
+        vlt_dtype *out) {
+    if ((!id && id_len) || (!metadata && metadata_len))
+        return VLT_RANGE;
+    if (are_same(&storage->slot, &out->slot))
+        return VLT_SAME_SLOT;
+    return (vlt_result)vlt_core_dtype_extension(
+            id ? id : (const uint8_t *)no_items, id_len, metadata ? metadata : (const uint8_t *)no_items, metadata_len,
+            (vlt_slot *)&storage->slot, &out->slot);
+}
+
+vlt_result vlt_struct_names(
+        const vlt_dtype *dtype, uint8_t *buffer, size_t buffer_len, size_t *length, size_t *name_lengths,
+        size_t name_lengths_len, size_t *count) {
+    if ((!buffer && buffer_len) || (!name_lengths && name_lengths_len))
+        return VLT_RANGE;
+    return (vlt_result)vlt_core_struct_names(
+            (vlt_slot *)&dtype->slot, buffer ? buffer : (uint8_t *)no_items, buffer_len, length,
+            name_lengths ? name_lengths : (size_t *)no_items, name_lengths_len, count);
+}
+
+vlt_result vlt_struct_types(const vlt_dtype *dtype, vlt_dtype *types, size_t types_len, size_t *count) {
+    if (!types && types_len)
+        return VLT_RANGE;
+    if (is_among(&dtype->slot, (const vlt_slot *)types, types_len) || have_repeats((const vlt_slot *)types, types_len))
+        return VLT_SAME_SLOT;
+    return (vlt_result)vlt_core_struct_types(
+            (vlt_slot *)&dtype->slot, types ? (vlt_slot *)types : (vlt_slot *)no_items, types_len, count);
+}
+
+vlt_result vlt_struct_without_field(const vlt_dtype *dtype, size_t index, vlt_dtype *out, vlt_error *error) {
+    vlt_slot unwanted = {0};
+    vlt_slot *told = error ? &error->slot : &unwanted;
+    if (are_same(&dtype->slot, &out->slot) || are_same(&dtype->slot, told) || are_same(&out->slot, told))
+        return VLT_SAME_SLOT;
+    vlt_result result = (vlt_result)vlt_core_struct_without_field((vlt_slot *)&dtype->slot, index, &out->slot, told);
+    if (unwanted.at)
+        vlt_core_free(&unwanted);
+    return result;
+}
+
+vlt_result vlt_struct_disjoint_merge(const vlt_dtype *one, const vlt_dtype *other, vlt_dtype *out, vlt_error *error) {
+    vlt_slot unwanted = {0};
+    vlt_slot *told = error ? &error->slot : &unwanted;
+    if (are_same(&one->slot, &other->slot)
+        || are_same(&one->slot, &out->slot)
+        || are_same(&one->slot, told)
+        || are_same(&other->slot, &out->slot)
+        || are_same(&other->slot, told)
+        || are_same(&out->slot, told))
+        return VLT_SAME_SLOT;
+    vlt_result result = (vlt_result)vlt_core_struct_disjoint_merge(
+            (vlt_slot *)&one->slot, (vlt_slot *)&other->slot, &out->slot, told);
+    if (unwanted.at)
+        vlt_core_free(&unwanted);
+    return result;
+}
+
+vlt_result vlt_struct_project(
+        const vlt_dtype *dtype, const uint8_t *names, size_t names_len, const size_t *name_lengths,
+        size_t name_lengths_len, vlt_dtype *out, vlt_error *error) {
+    if ((!names && names_len) || (!name_lengths && name_lengths_len))
+        return VLT_RANGE;
+    vlt_slot unwanted = {0};
+    vlt_slot *told = error ? &error->slot : &unwanted;
+    if (are_same(&dtype->slot, &out->slot) || are_same(&dtype->slot, told) || are_same(&out->slot, told))
+        return VLT_SAME_SLOT;
+    vlt_result result = (vlt_result)vlt_core_struct_project(
+            (vlt_slot *)&dtype->slot, names ? names : (const uint8_t *)no_items, names_len,
+            name_lengths ? name_lengths : (const size_t *)no_items, name_lengths_len, &out->slot, told);
+    if (unwanted.at)
+        vlt_core_free(&unwanted);
+    return result;
+}
+
+vlt_result vlt_struct_nfields(const vlt_dtype *dtype, size_t *count) {
+    return (vlt_result)vlt_core_struct_nfields((vlt_slot *)&dtype->slot, count);
+}
+
+vlt_result vlt_struct_field_by_index(const vlt_dtype *dtype, size_t index, vlt_dtype *out) {
+    if (are_same(&dtype->slot, &out->slot))
+        return VLT_SAME_SLOT;
+    return (vlt_result)vlt_core_struct_field_by_index((vlt_slot *)&dtype->slot, index, &out->slot);
+}
+
+vlt_result vlt_struct_find(const vlt_dtype *dtype, const uint8_t *name, size_t name_len, size_t *index) {
+    if (!name && name_len)
+        return VLT_RANGE;
+    return (vlt_result)vlt_core_struct_find(
+            (vlt_slot *)&dtype->slot, name ? name : (const uint8_t *)no_items, name_len, index);
+}
+
+vlt_result vlt_struct_field(const vlt_dtype *dtype, const uint8_t *name, size_t name_len, vlt_dtype *out) {
+    if (!name && name_len)
+        return VLT_RANGE;
+    if (are_same(&dtype->slot, &out->slot))
+        return VLT_SAME_SLOT;
+    return (vlt_result)vlt_core_struct_field(
+            (vlt_slot *)&dtype->slot, name ? name : (const uint8_t *)no_items, name_len, &out->slot);
+}
+
+vlt_result vlt_struct_field_name(
+        const vlt_dtype *dtype, size_t index, uint8_t *buffer, size_t buffer_len, size_t *length) {
+    if (!buffer && buffer_len)
+        return VLT_RANGE;
+    return (vlt_result)vlt_core_struct_field_name(
+            (vlt_slot *)&dtype->slot, index, buffer ? buffer : (uint8_t *)no_items, buffer_len, length);
+}
+
+vlt_result vlt_struct_indented(const vlt_dtype *dtype, uint8_t *buffer, size_t buffer_len, size_t *length) {
+    if (!buffer && buffer_len)
+        return VLT_RANGE;
+    return (vlt_result)vlt_core_struct_indented(
+            (vlt_slot *)&dtype->slot, buffer ? buffer : (uint8_t *)no_items, buffer_len, length);
+}
+
+vlt_result vlt_union_names(
+        const vlt_dtype *dtype, uint8_t *buffer, size_t buffer_len, size_t *length, size_t *name_lengths,
+        size_t name_lengths_len, size_t *count) {
+    if ((!buffer && buffer_len) || (!name_lengths && name_lengths_len))
+        return VLT_RANGE;
+    return (vlt_result)vlt_core_union_names(
+            (vlt_slot *)&dtype->slot, buffer ? buffer : (uint8_t *)no_items, buffer_len, length,
+            name_lengths ? name_lengths : (size_t *)no_items, name_lengths_len, count);
+}
+
+vlt_result vlt_union_types(const vlt_dtype *dtype, vlt_dtype *types, size_t types_len, size_t *count) {
+    if (!types && types_len)
+        return VLT_RANGE;
+    if (is_among(&dtype->slot, (const vlt_slot *)types, types_len) || have_repeats((const vlt_slot *)types, types_len))
+        return VLT_SAME_SLOT;
+    return (vlt_result)vlt_core_union_types(
+            (vlt_slot *)&dtype->slot, types ? (vlt_slot *)types : (vlt_slot *)no_items, types_len, count);
+}
+
+vlt_result vlt_union_len(const vlt_dtype *dtype, size_t *count) {
+    return (vlt_result)vlt_core_union_len((vlt_slot *)&dtype->slot, count);
+}
+
+vlt_result vlt_union_variant_by_index(const vlt_dtype *dtype, size_t index, vlt_dtype *out) {
+    if (are_same(&dtype->slot, &out->slot))
+        return VLT_SAME_SLOT;
+    return (vlt_result)vlt_core_union_variant_by_index((vlt_slot *)&dtype->slot, index, &out->slot);
+}
+
+vlt_result vlt_union_find(const vlt_dtype *dtype, const uint8_t *name, size_t name_len, size_t *index) {
+    if (!name && name_len)
+        return VLT_RANGE;
+    return (vlt_result)vlt_core_union_find(
+            (vlt_slot *)&dtype->slot, name ? name : (const uint8_t *)no_items, name_len, index);
+}
+
+vlt_result vlt_union_variant(const vlt_dtype *dtype, const uint8_t *name, size_t name_len, vlt_dtype *out) {
+    if (!name && name_len)
+        return VLT_RANGE;
+    if (are_same(&dtype->slot, &out->slot))
+        return VLT_SAME_SLOT;
+    return (vlt_result)vlt_core_union_variant(
+            (vlt_slot *)&dtype->slot, name ? name : (const uint8_t *)no_items, name_len, &out->slot);
+}
+
+vlt_result vlt_union_tag_to_child_index(const vlt_dtype *dtype, uint8_t tag, size_t *index) {
+    return (vlt_result)vlt_core_union_tag_to_child_index((vlt_slot *)&dtype->slot, tag, index);
+}
+
+vlt_result vlt_union_child_index_to_tag(const vlt_dtype *dtype, size_t index, uint8_t *tag) {
+    return (vlt_result)vlt_core_union_child_index_to_tag((vlt_slot *)&dtype->slot, index, tag);
+}
+
+vlt_result vlt_union_variant_name(
+        const vlt_dtype *dtype, size_t index, uint8_t *buffer, size_t buffer_len, size_t *length) {
+    if (!buffer && buffer_len)
+        return VLT_RANGE;
+    return (vlt_result)vlt_core_union_variant_name(
+            (vlt_slot *)&dtype->slot, index, buffer ? buffer : (uint8_t *)no_items, buffer_len, length);
+}
+
+vlt_result vlt_union_is_consecutive(const vlt_dtype *dtype) {
+    return (vlt_result)vlt_core_union_is_consecutive((vlt_slot *)&dtype->slot);
+}
+
+vlt_result vlt_fields_new(vlt_fields *out) {
+    return (vlt_result)vlt_core_fields_new(&out->slot);
+}
+
+vlt_result vlt_fields_push(vlt_fields *fields, const uint8_t *name, size_t name_len, const vlt_dtype *dtype) {
+    if (!name && name_len)
+        return VLT_RANGE;
+    if (are_same(&fields->slot, &dtype->slot))
+        return VLT_SAME_SLOT;
+    return (vlt_result)vlt_core_fields_push(
+            &fields->slot, name ? name : (const uint8_t *)no_items, name_len, (vlt_slot *)&dtype->slot);
+}
+
+vlt_result vlt_path_from_message(
+        const uint8_t *names, size_t names_len, const size_t *name_lengths, size_t name_lengths_len, vlt_path *out,
+        vlt_error *error) {
+    if ((!names && names_len) || (!name_lengths && name_lengths_len))
+        return VLT_RANGE;
+    vlt_slot unwanted = {0};
+    vlt_slot *told = error ? &error->slot : &unwanted;
+    if (are_same(&out->slot, told))
+        return VLT_SAME_SLOT;
+    vlt_result result = (vlt_result)vlt_core_path_from_message(
+            names ? names : (const uint8_t *)no_items, names_len,
+            name_lengths ? name_lengths : (const size_t *)no_items, name_lengths_len, &out->slot, told);
+    if (unwanted.at)
+        vlt_core_free(&unwanted);
+    return result;
+}
+
+vlt_result vlt_path_from_text(const uint8_t *text, size_t text_len, vlt_path *out, vlt_error *error) {
+    if (!text && text_len)
+        return VLT_RANGE;
+    vlt_slot unwanted = {0};
+    vlt_slot *told = error ? &error->slot : &unwanted;
+    if (are_same(&out->slot, told))
+        return VLT_SAME_SLOT;
+    vlt_result result = (vlt_result)vlt_core_path_from_text(
+            text ? text : (const uint8_t *)no_items, text_len, &out->slot, told);
+    if (unwanted.at)
+        vlt_core_free(&unwanted);
+    return result;
+}
+
+vlt_result vlt_path_to_text(const vlt_path *path, uint8_t *buffer, size_t buffer_len, size_t *length) {
+    if (!buffer && buffer_len)
+        return VLT_RANGE;
+    return (vlt_result)vlt_core_path_to_text(
+            (vlt_slot *)&path->slot, buffer ? buffer : (uint8_t *)no_items, buffer_len, length);
+}
+
+vlt_result vlt_path_root(vlt_path *out) {
+    return (vlt_result)vlt_core_path_root(&out->slot);
+}
+
+vlt_result vlt_path_len(const vlt_path *path, size_t *count) {
+    return (vlt_result)vlt_core_path_len((vlt_slot *)&path->slot, count);
+}
+
+vlt_result vlt_path_step(const vlt_path *path, size_t index, uint8_t *buffer, size_t buffer_len, size_t *length) {
+    if (!buffer && buffer_len)
+        return VLT_RANGE;
+    return (vlt_result)vlt_core_path_step(
+            (vlt_slot *)&path->slot, index, buffer ? buffer : (uint8_t *)no_items, buffer_len, length);
+}
+
+vlt_result vlt_path_push_name(const vlt_path *path, const uint8_t *name, size_t name_len, vlt_path *out) {
+    if (!name && name_len)
+        return VLT_RANGE;
+    if (are_same(&path->slot, &out->slot))
+        return VLT_SAME_SLOT;
+    return (vlt_result)vlt_core_path_push_name(
+            (vlt_slot *)&path->slot, name ? name : (const uint8_t *)no_items, name_len, &out->slot);
+}
+
+vlt_result vlt_path_push_element(const vlt_path *path, vlt_path *out) {
+    if (are_same(&path->slot, &out->slot))
+        return VLT_SAME_SLOT;
+    return (vlt_result)vlt_core_path_push_element((vlt_slot *)&path->slot, &out->slot);
+}
+
+vlt_result vlt_path_step_into(const vlt_path *path, vlt_path *out) {
+    if (are_same(&path->slot, &out->slot))
+        return VLT_SAME_SLOT;
+    return (vlt_result)vlt_core_path_step_into((vlt_slot *)&path->slot, &out->slot);
+}
+
+vlt_result vlt_path_copy(const vlt_path *path, vlt_path *out) {
+    if (are_same(&path->slot, &out->slot))
+        return VLT_SAME_SLOT;
+    return (vlt_result)vlt_core_path_copy((vlt_slot *)&path->slot, &out->slot);
+}
+
+vlt_result vlt_path_eq(const vlt_path *one, const vlt_path *other) {
+    if (are_same(&one->slot, &other->slot))
+        return VLT_SAME_SLOT;
+    return (vlt_result)vlt_core_path_eq((vlt_slot *)&one->slot, (vlt_slot *)&other->slot);
+}
+
+vlt_result vlt_path_overlap(const vlt_path *one, const vlt_path *other) {
+    if (are_same(&one->slot, &other->slot))
+        return VLT_SAME_SLOT;
+    return (vlt_result)vlt_core_path_overlap((vlt_slot *)&one->slot, (vlt_slot *)&other->slot);
+}
+
+vlt_result vlt_path_resolve(const vlt_dtype *dtype, const vlt_path *path, vlt_dtype *out) {
+    if (are_same(&dtype->slot, &path->slot) || are_same(&dtype->slot, &out->slot) || are_same(&path->slot, &out->slot))
+        return VLT_SAME_SLOT;
+    return (vlt_result)vlt_core_path_resolve((vlt_slot *)&dtype->slot, (vlt_slot *)&path->slot, &out->slot);
+}
+
+vlt_result vlt_path_exists_in(const vlt_dtype *dtype, const vlt_path *path) {
+    if (are_same(&dtype->slot, &path->slot))
+        return VLT_SAME_SLOT;
+    return (vlt_result)vlt_core_path_exists_in((vlt_slot *)&dtype->slot, (vlt_slot *)&path->slot);
+}
+
+vlt_result vlt_path_display(const vlt_path *path, uint8_t *buffer, size_t buffer_len, size_t *length) {
+    if (!buffer && buffer_len)
+        return VLT_RANGE;
+    return (vlt_result)vlt_core_path_display(
+            (vlt_slot *)&path->slot, buffer ? buffer : (uint8_t *)no_items, buffer_len, length);
+}
+
+vlt_result vlt_path_starts_with_name(const vlt_path *path, const uint8_t *name, size_t name_len) {
+    if (!name && name_len)
+        return VLT_RANGE;
+    return (vlt_result)vlt_core_path_starts_with_name(
+            (vlt_slot *)&path->slot, name ? name : (const uint8_t *)no_items, name_len);
+}
+
+vlt_result vlt_path_hash(const vlt_path *path, uint64_t *hash) {
+    return (vlt_result)vlt_core_path_hash((vlt_slot *)&path->slot, hash);
+}
+
+vlt_result vlt_path_from_steps(
+        const uint8_t *names, size_t names_len, const size_t *name_lengths, size_t name_lengths_len, vlt_path *out) {
+    if ((!names && names_len) || (!name_lengths && name_lengths_len))
+        return VLT_RANGE;
+    return (vlt_result)vlt_core_path_from_steps(
+            names ? names : (const uint8_t *)no_items, names_len,
+            name_lengths ? name_lengths : (const size_t *)no_items, name_lengths_len, &out->slot);
+}
+
+vlt_result vlt_set_below(
+        const vlt_path_set *paths, const vlt_path *path, bool *is_end, bool *has_element, size_t *name_count) {
+    if (are_same(&paths->slot, &path->slot))
+        return VLT_SAME_SLOT;
+    return (vlt_result)vlt_core_set_below(
+            (vlt_slot *)&paths->slot, (vlt_slot *)&path->slot, is_end, has_element, name_count);
+}
+
+vlt_result vlt_set_names_below(const vlt_path_set *paths, const vlt_path *path, vlt_path_list *out) {
+    if (are_same(&paths->slot, &path->slot) || are_same(&paths->slot, &out->slot) || are_same(&path->slot, &out->slot))
+        return VLT_SAME_SLOT;
+    return (vlt_result)vlt_core_set_names_below((vlt_slot *)&paths->slot, (vlt_slot *)&path->slot, &out->slot);
+}
+
+vlt_result vlt_set_eq(const vlt_path_set *one, const vlt_path_set *other) {
+    if (are_same(&one->slot, &other->slot))
+        return VLT_SAME_SLOT;
+    return (vlt_result)vlt_core_set_eq((vlt_slot *)&one->slot, (vlt_slot *)&other->slot);
+}
+
+vlt_result vlt_set_is_subset(const vlt_path_set *one, const vlt_path_set *other) {
+    if (are_same(&one->slot, &other->slot))
+        return VLT_SAME_SLOT;
+    return (vlt_result)vlt_core_set_is_subset((vlt_slot *)&one->slot, (vlt_slot *)&other->slot);
+}
+
+vlt_result vlt_set_is_disjoint(const vlt_path_set *one, const vlt_path_set *other) {
+    if (are_same(&one->slot, &other->slot))
+        return VLT_SAME_SLOT;
+    return (vlt_result)vlt_core_set_is_disjoint((vlt_slot *)&one->slot, (vlt_slot *)&other->slot);
+}
+
+vlt_result vlt_set_union(const vlt_path_set *one, const vlt_path_set *other, vlt_path_set *out) {
+    if (are_same(&one->slot, &other->slot) || are_same(&one->slot, &out->slot) || are_same(&other->slot, &out->slot))
+        return VLT_SAME_SLOT;
+    return (vlt_result)vlt_core_set_union((vlt_slot *)&one->slot, (vlt_slot *)&other->slot, &out->slot);
+}
+
+vlt_result vlt_set_new(vlt_path_set *out) {
+    return (vlt_result)vlt_core_set_new(&out->slot);
+}
+
+vlt_result vlt_set_insert(vlt_path_set *paths, const vlt_path *path) {
+    if (are_same(&paths->slot, &path->slot))
+        return VLT_SAME_SLOT;
+    return (vlt_result)vlt_core_set_insert(&paths->slot, (vlt_slot *)&path->slot);
+}
+
+vlt_result vlt_set_contains(const vlt_path_set *paths, const vlt_path *path) {
+    if (are_same(&paths->slot, &path->slot))
+        return VLT_SAME_SLOT;
+    return (vlt_result)vlt_core_set_contains((vlt_slot *)&paths->slot, (vlt_slot *)&path->slot);
+}
+
+vlt_result vlt_set_copy(const vlt_path_set *paths, vlt_path_set *out) {
+    if (are_same(&paths->slot, &out->slot))
+        return VLT_SAME_SLOT;
+    return (vlt_result)vlt_core_set_copy((vlt_slot *)&paths->slot, &out->slot);
+}
+
+vlt_result vlt_set_cover(const vlt_path_set *paths, vlt_path_list *out) {
+    if (are_same(&paths->slot, &out->slot))
+        return VLT_SAME_SLOT;
+    return (vlt_result)vlt_core_set_cover((vlt_slot *)&paths->slot, &out->slot);
+}
+
+vlt_result vlt_set_members(const vlt_path_set *paths, vlt_path_list *out) {
+    if (are_same(&paths->slot, &out->slot))
+        return VLT_SAME_SLOT;
+    return (vlt_result)vlt_core_set_members((vlt_slot *)&paths->slot, &out->slot);
+}
+
+vlt_result vlt_set_unresolved(const vlt_path_set *paths, const vlt_dtype *dtype, vlt_path_list *out) {
+    if (are_same(&paths->slot, &dtype->slot)
+        || are_same(&paths->slot, &out->slot)
+        || are_same(&dtype->slot, &out->slot))
+        return VLT_SAME_SLOT;
+    return (vlt_result)vlt_core_set_unresolved((vlt_slot *)&paths->slot, (vlt_slot *)&dtype->slot, &out->slot);
+}
+
+vlt_result vlt_set_len(const vlt_path_set *paths, size_t *count) {
+    return (vlt_result)vlt_core_set_len((vlt_slot *)&paths->slot, count);
+}
+
+vlt_result vlt_set_extend(vlt_path_set *set, const vlt_path *paths, size_t paths_len, size_t *inserted) {
+    if (!paths && paths_len)
+        return VLT_RANGE;
+    if (is_among(&set->slot, (const vlt_slot *)paths, paths_len) || have_repeats((const vlt_slot *)paths, paths_len))
+        return VLT_SAME_SLOT;
+    return (vlt_result)vlt_core_set_extend(
+            &set->slot, paths ? (vlt_slot *)paths : (vlt_slot *)no_items, paths_len, inserted);
+}
+
+vlt_result vlt_set_extend_from_list(vlt_path_set *paths, const vlt_path_list *list) {
+    if (are_same(&paths->slot, &list->slot))
+        return VLT_SAME_SLOT;
+    return (vlt_result)vlt_core_set_extend_from_list(&paths->slot, (vlt_slot *)&list->slot);
+}
+
+vlt_result vlt_paths_take(vlt_path_list *paths, size_t index, vlt_path *out) {
+    if (are_same(&paths->slot, &out->slot))
+        return VLT_SAME_SLOT;
+    return (vlt_result)vlt_core_paths_take(&paths->slot, index, &out->slot);
+}
+
+vlt_result vlt_paths_len(const vlt_path_list *paths, size_t *count) {
+    return (vlt_result)vlt_core_paths_len((vlt_slot *)&paths->slot, count);
+}
+
+vlt_result vlt_paths_get(const vlt_path_list *paths, size_t index, vlt_path *out) {
+    if (are_same(&paths->slot, &out->slot))
+        return VLT_SAME_SLOT;
+    return (vlt_result)vlt_core_paths_get((vlt_slot *)&paths->slot, index, &out->slot);
+}
+
+vlt_result vlt_project_paths(const vlt_dtype *dtype, const vlt_path_set *set, vlt_dtype *out) {
+    if (are_same(&dtype->slot, &set->slot) || are_same(&dtype->slot, &out->slot) || are_same(&set->slot, &out->slot))
+        return VLT_SAME_SLOT;
+    return (vlt_result)vlt_core_project_paths((vlt_slot *)&dtype->slot, (vlt_slot *)&set->slot, &out->slot);
+}
+
+vlt_result vlt_mask_all(vlt_mask *out) {
+    return (vlt_result)vlt_core_mask_all(&out->slot);
+}
+
+vlt_result vlt_mask_prefix(const vlt_path *path, vlt_mask *out) {
+    if (are_same(&path->slot, &out->slot))
+        return VLT_SAME_SLOT;
+    return (vlt_result)vlt_core_mask_prefix((vlt_slot *)&path->slot, &out->slot);
+}
+
+vlt_result vlt_mask_exact(const vlt_path *path, vlt_mask *out) {
+    if (are_same(&path->slot, &out->slot))
+        return VLT_SAME_SLOT;
+    return (vlt_result)vlt_core_mask_exact((vlt_slot *)&path->slot, &out->slot);
+}
+
+vlt_result vlt_mask_kind(const vlt_mask *mask, uint32_t *kind) {
+    return (vlt_result)vlt_core_mask_kind((vlt_slot *)&mask->slot, kind);
+}
+
+vlt_result vlt_mask_path(const vlt_mask *mask, vlt_path *out) {
+    if (are_same(&mask->slot, &out->slot))
+        return VLT_SAME_SLOT;
+    return (vlt_result)vlt_core_mask_path((vlt_slot *)&mask->slot, &out->slot);
+}
+
+vlt_result vlt_mask_copy(const vlt_mask *mask, vlt_mask *out) {
+    if (are_same(&mask->slot, &out->slot))
+        return VLT_SAME_SLOT;
+    return (vlt_result)vlt_core_mask_copy((vlt_slot *)&mask->slot, &out->slot);
+}
+
+vlt_result vlt_mask_step_into(const vlt_mask *mask, vlt_mask *out, vlt_error *error) {
+    vlt_slot unwanted = {0};
+    vlt_slot *told = error ? &error->slot : &unwanted;
+    if (are_same(&mask->slot, &out->slot) || are_same(&mask->slot, told) || are_same(&out->slot, told))
+        return VLT_SAME_SLOT;
+    vlt_result result = (vlt_result)vlt_core_mask_step_into((vlt_slot *)&mask->slot, &out->slot, told);
+    if (unwanted.at)
+        vlt_core_free(&unwanted);
+    return result;
+}
+
+vlt_result vlt_mask_starting_field(
+        const vlt_mask *mask, uint8_t *buffer, size_t buffer_len, size_t *length, vlt_error *error) {
+    if (!buffer && buffer_len)
+        return VLT_RANGE;
+    vlt_slot unwanted = {0};
+    vlt_slot *told = error ? &error->slot : &unwanted;
+    if (are_same(&mask->slot, told))
+        return VLT_SAME_SLOT;
+    vlt_result result = (vlt_result)vlt_core_mask_starting_field(
+            (vlt_slot *)&mask->slot, buffer ? buffer : (uint8_t *)no_items, buffer_len, length, told);
+    if (unwanted.at)
+        vlt_core_free(&unwanted);
+    return result;
+}
+
+vlt_result vlt_mask_matches_all(const vlt_mask *mask) {
+    return (vlt_result)vlt_core_mask_matches_all((vlt_slot *)&mask->slot);
+}
+
+vlt_result vlt_mask_matches_root(const vlt_mask *mask) {
+    return (vlt_result)vlt_core_mask_matches_root((vlt_slot *)&mask->slot);
+}
+
+vlt_result vlt_mask_eq(const vlt_mask *one, const vlt_mask *other) {
+    if (are_same(&one->slot, &other->slot))
+        return VLT_SAME_SLOT;
+    return (vlt_result)vlt_core_mask_eq((vlt_slot *)&one->slot, (vlt_slot *)&other->slot);
+}
+
+vlt_result vlt_message_copy(const vlt_message *message, vlt_message *out) {
+    if (are_same(&message->slot, &out->slot))
+        return VLT_SAME_SLOT;
+    return (vlt_result)vlt_core_message_copy((vlt_slot *)&message->slot, &out->slot);
+}
+
+vlt_result vlt_message_eq(const vlt_message *one, const vlt_message *other) {
+    if (are_same(&one->slot, &other->slot))
+        return VLT_SAME_SLOT;
+    return (vlt_result)vlt_core_message_eq((vlt_slot *)&one->slot, (vlt_slot *)&other->slot);
+}
+
+vlt_result vlt_message_to_dtype(const vlt_message *message, bool allow_unknown, vlt_dtype *out, vlt_error *error) {
+    vlt_slot unwanted = {0};
+    vlt_slot *told = error ? &error->slot : &unwanted;
+    if (are_same(&message->slot, &out->slot) || are_same(&message->slot, told) || are_same(&out->slot, told))
+        return VLT_SAME_SLOT;
+    vlt_result result = (vlt_result)vlt_core_message_to_dtype(
+            (vlt_slot *)&message->slot, allow_unknown, &out->slot, told);
+    if (unwanted.at)
+        vlt_core_free(&unwanted);
+    return result;
+}
+
+vlt_result vlt_message_normal(const vlt_message *message, bool allow_unknown, vlt_message *out, vlt_error *error) {
+    vlt_slot unwanted = {0};
+    vlt_slot *told = error ? &error->slot : &unwanted;
+    if (are_same(&message->slot, &out->slot) || are_same(&message->slot, told) || are_same(&out->slot, told))
+        return VLT_SAME_SLOT;
+    vlt_result result = (vlt_result)vlt_core_message_normal(
+            (vlt_slot *)&message->slot, allow_unknown, &out->slot, told);
+    if (unwanted.at)
+        vlt_core_free(&unwanted);
+    return result;
+}
+
+vlt_result vlt_message_from_nodes(
+        const vlt_node *nodes, size_t nodes_len, const uint8_t *texts, size_t texts_len, vlt_message *out) {
+    if ((!nodes && nodes_len) || (!texts && texts_len))
+        return VLT_RANGE;
+    return (vlt_result)vlt_core_message_from_nodes(
+            nodes ? nodes : (const vlt_node *)no_items, nodes_len, texts ? texts : (const uint8_t *)no_items, texts_len,
+            &out->slot);
+}
+
+vlt_result vlt_message_to_nodes(
+        const vlt_message *message, vlt_node *nodes, size_t nodes_len, size_t *node_count, uint8_t *texts,
+        size_t texts_len, size_t *text_length) {
+    if ((!nodes && nodes_len) || (!texts && texts_len))
+        return VLT_RANGE;
+    return (vlt_result)vlt_core_message_to_nodes(
+            (vlt_slot *)&message->slot, nodes ? nodes : (vlt_node *)no_items, nodes_len, node_count,
+            texts ? texts : (uint8_t *)no_items, texts_len, text_length);
+}
+
+vlt_result vlt_error_text(uint32_t code, uint8_t *buffer, size_t buffer_len, size_t *length) {
+    if (!buffer && buffer_len)
+        return VLT_RANGE;
+    return (vlt_result)vlt_core_error_text(code, buffer ? buffer : (uint8_t *)no_items, buffer_len, length);
+}
+
+vlt_result vlt_error_number(const vlt_error *error, uint32_t *number) {
+    return (vlt_result)vlt_core_error_number((vlt_slot *)&error->slot, number);
+}
+
+vlt_result vlt_error_position(const vlt_error *error, size_t *position) {
+    return (vlt_result)vlt_core_error_position((vlt_slot *)&error->slot, position);
+}
+
+vlt_result vlt_error_message(const vlt_error *error, uint8_t *buffer, size_t buffer_len, size_t *length) {
+    if (!buffer && buffer_len)
+        return VLT_RANGE;
+    return (vlt_result)vlt_core_error_message(
+            (vlt_slot *)&error->slot, buffer ? buffer : (uint8_t *)no_items, buffer_len, length);
+}
+/* end of what tools/bindings writes */

@@ -121,6 +121,8 @@ impl DType {
 
     /// The type in a slot, of which this is known.
     fn in_slot(slot: Slot, known: Known) -> Result<DType, Error> {
+        // (A type without parts may be remembered already, and then this slot isn't used.)
+        debug_assert_eq!(known, Known::of(&slot));
         match known.leaf() {
             Some(leaf) => DType::of_leaf(leaf, || Ok(Whole::of(slot, known))),
             None => DType::of_whole(Whole::of(slot, known)),

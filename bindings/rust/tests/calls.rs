@@ -288,6 +288,53 @@ fn nullability() {
     assert_eq!((NonNullable | Nullable, bool::from(Nullable), Nullability::from(false)), (Nullable, true, NonNullable));
 }
 
+/// Texts of two types, of their union and of their intersection.
+const MERGED: [[&str; 4]; 14] = [
+    ["null", "null", "null", "null"],
+    ["i32", "i32?", "i32?", "i32"],
+    ["bool?", "bool?", "bool?", "bool?"],
+    ["utf8", "utf8", "utf8", "utf8"],
+    ["decimal(10,2)?", "decimal(10,2)", "decimal(10,2)?", "decimal(10,2)"],
+    ["decimal(10,2)?", "decimal(10,2)?", "decimal(10,2)?", "decimal(10,2)?"],
+    ["list(i8?)", "list(i8)?", "list(i8?)?", "list(i8)"],
+    ["fixed_size_list(i8)[3]", "fixed_size_list(i8)[3]?", "fixed_size_list(i8)[3]?", "fixed_size_list(i8)[3]"],
+    ["{a=i8, b=i8}?", "{a=i8?, b=i8}", "{a=i8?, b=i8}?", "{a=i8, b=i8}"],
+    ["{a=i8}?", "{a=i8}?", "{a=i8}?", "{a=i8}?"],
+    ["union(a=i8)?", "union(a=i8?)", "union(a=i8?)?", "union(a=i8)"],
+    [
+        "map(i8, i8, keys_sorted=true)",
+        "map(i8, i8?, keys_sorted=true)?",
+        "map(i8, i8?, keys_sorted=true)?",
+        "map(i8, i8, keys_sorted=true)",
+    ],
+    ["x.t[0x00](i8?)", "x.t[0x00](i8)", "x.t[0x00](i8?)", "x.t[0x00](i8)"],
+    ["x.t[0x](i8?)", "x.t[0x](i8?)", "x.t[0x](i8?)", "x.t[0x](i8?)"],
+];
+
+/// What the package knows of a type without asking the library, and the text of the library's object.
+fn known_and_text(dtype: &DType) -> (Kind, bool, [Option<usize>; 3], String) {
+    let fields = dtype.as_struct_fields_opt().map(|it| it.nfields());
+    let variants = dtype.as_union_variants_opt().map(|it| it.len());
+    let size = dtype.as_fixed_size_opt().map(|size| size as usize);
+    (dtype.kind(), dtype.is_nullable(), [fields, variants, size], dtype.to_source())
+}
+
+#[test]
+fn what_is_merged_is_known_as_if_it_were_read() {
+    for [one, other, union, intersection] in MERGED {
+        let wanted = [union, intersection].map(|text| Some(known_and_text(&dtype(text))));
+        for (one, other) in [(one, other), (other, one)] {
+            let (one, other) = (dtype(one), dtype(other));
+            let merged = [one.merge_nullability(&other), one.intersect_nullability(&other)];
+            assert_eq!(merged.each_ref().map(|it| it.as_ref().map(known_and_text)), wanted);
+            assert_eq!(merged, [union, intersection].map(|text| Some(dtype(text))));
+        }
+    }
+    let map = dtype("map(utf8, {a=i8}?, keys_sorted=true)?");
+    let entries = map.as_map_opt().unwrap().entries_dtype().unwrap();
+    assert_eq!(known_and_text(&entries), known_and_text(&dtype("{key=utf8, value={a=i8}?}")));
+}
+
 #[test]
 fn columns_are_merged() {
     let merged = |one: &str, other: &str| dtype(one).merge_columns(&dtype(other)).map(|it| it.to_source());
@@ -390,6 +437,11 @@ fn paths() {
     );
     assert!(FieldPath::root().is_root() && FieldPath::root().step_into().is_none());
     assert_eq!(it.step_into(), Some(path("[].\"b c\"")));
+    assert_eq!((it.len(), it.step_into().map(|it| it.len()), path("a").step_into()), (3, Some(2), Some(path("."))));
+    assert_eq!(
+        (FieldPath::from_field("b c"), FieldPath::from_field(Field::ElementType)),
+        (path("\"b c\""), path("[]"))
+    );
     assert!(it.overlap(&path("a.[]")) && !it.overlap(&path("b")) && it.overlap(&it));
     assert_eq!(it.starts_with_name("a"), Ok(true));
     assert_eq!(refusal(path("[]").starts_with_name("a")), ErrorKind::Precondition);

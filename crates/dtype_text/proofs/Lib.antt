@@ -5,6 +5,7 @@ pub mod LeafFacts
 pub mod Loops
 pub mod TypeFacts
 pub mod Words
+pub mod Plain
 pub mod LeavesSound
 pub mod Sequences
 pub mod UnionFacts

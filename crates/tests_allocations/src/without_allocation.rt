@@ -42,11 +42,11 @@ fn steps(rt: &impl Eprint, alloc: Global) -> VortexResult<bool> {
     begin(rt);
     let step = Field::from(name);
     let is_right = step.is_named()
-        && step.as_name() == Some("a")
-        && step == other
-        && step > Field::ElementType
-        && hash_of(&step) == hash_of(&other)
-        && Field::ElementType.as_name().is_none();
+        & (step.as_name() == Some("a"))
+        & (step == other)
+        & (step > Field::ElementType)
+        & (hash_of(&step) == hash_of(&other))
+        & Field::ElementType.as_name().is_none();
     end(rt);
     Ok(is_right)
 }
@@ -59,13 +59,13 @@ fn paths(rt: &impl Eprint, alloc: Global) -> VortexResult<bool> {
     let short = FieldPath::from_vec(steps);
     let root = FieldPath::root(alloc);
     let is_right = root.is_root()
-        && short.parts().len() == 1
-        && root.overlap(&short)
-        && short != longer
-        && hash_of(&short) != hash_of(&longer)
-        && longer.parts().first() == Some(&step)
-        && longer.step_into().is_some()
-        && root.step_into().is_none();
+        & (short.parts().len() == 1)
+        & root.overlap(&short)
+        & (short != longer)
+        & (hash_of(&short) != hash_of(&longer))
+        & (longer.parts().first() == Some(&step))
+        & longer.step_into().is_some()
+        & root.step_into().is_none();
     end(rt);
     Ok(is_right)
 }
@@ -84,7 +84,7 @@ fn resolution(rt: &impl Eprint, alloc: Global) -> VortexResult<bool> {
     let dtype = DType::list(alloc, element, NonNullable)?;
     let path = FieldPath::from_field(alloc, Field::ElementType)?;
     begin(rt);
-    let is_right = path.resolve(&dtype).is_some() && path.exists_in(&dtype);
+    let is_right = path.resolve(&dtype).is_some() & path.exists_in(&dtype);
     end(rt);
     Ok(is_right)
 }
@@ -93,7 +93,7 @@ fn path_sets(rt: &impl Eprint, alloc: Global) -> VortexResult<bool> {
     let set = set(alloc, "a.b x")?;
     let path = path(alloc, "a.b")?;
     begin(rt);
-    let is_right = set.contains(&path) && !FieldPathSet::new(alloc).contains(&path);
+    let is_right = set.contains(&path) & !FieldPathSet::new(alloc).contains(&path);
     end(rt);
     Ok(is_right)
 }
@@ -105,11 +105,11 @@ fn cursors(rt: &impl Eprint, alloc: Global) -> VortexResult<bool> {
     let root = set.cursor();
     let below = root.step(&step);
     let is_right = !root.is_end()
-        && !root.is_empty()
-        && root.element().is_none()
-        && root.names().len() == 2
-        && root.names().next().is_some()
-        && below.is_some_and(|it| it.element().is_none());
+        & !root.is_empty()
+        & root.element().is_none()
+        & (root.names().len() == 2)
+        & root.names().next().is_some()
+        & below.is_some_and(|it| it.element().is_none());
     end(rt);
     Ok(is_right)
 }
@@ -119,13 +119,13 @@ fn masks(rt: &impl Eprint, alloc: Global) -> VortexResult<bool> {
     let exact = FieldMask::Exact(path(alloc, "a.b")?);
     begin(rt);
     let is_right = FieldMask::All.matches_all()
-        && FieldMask::All.starting_field().is_err()
-        && !exact.matches_root()
-        && exact != prefix
-        && exact.starting_field().is_ok()
-        && FieldMask::All.step_into().is_ok()
-        && prefix.step_into().is_ok()
-        && exact.step_into().is_ok();
+        & FieldMask::All.starting_field().is_err()
+        & !exact.matches_root()
+        & (exact != prefix)
+        & exact.starting_field().is_ok()
+        & FieldMask::All.step_into().is_ok()
+        & prefix.step_into().is_ok()
+        & exact.step_into().is_ok();
     end(rt);
     Ok(is_right)
 }

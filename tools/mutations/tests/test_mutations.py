@@ -4,6 +4,8 @@
 """tools/mutations/mutations, over a `rattle` that says of a check what it is told."""
 import os
 import re
+import shutil
+from glob import glob
 
 from planted import Planted
 
@@ -58,6 +60,27 @@ class Mutations(Planted):
                "1 of 1 mutations are refused: 1 by a clause\n1 passed, 0 failed\n"))
         self.write(f"{CRATE}/src/two.rt", f"{SOURCE}\n")
         self.assertEqual(self.tried({"a": ONE}, "fn fixtures_values::two::one: proved")[0], 1)
+
+    def test_what_is_recorded_is_not_tried_again(self):
+        said = f"fn fixtures_values::two::one: {BY_SEARCH}"
+        for crate in set(glob(f"{self.top}/crates/*/wrong")) - {f"{self.top}/{CRATE}/wrong"}:
+            shutil.rmtree(crate)
+        self.write("tools/mutations/refused.txt", "tests_types z 0 refused by returns\n")
+        self.tried({"a": ONE}, said)
+        self.assertEqual(self.run_tool("mutations", "--record")[0], 0)
+        self.assertRegex(self.read("tools/mutations/refused.txt"),
+                         r"\Afixtures_values a [0-9a-f]{64} refused by returns-clause-is\ntests_types z 0 refused by returns\n\Z")
+        shutil.rmtree(f"{self.top}/cache")
+        self.write("said", "fn fixtures_values::two::one: proved\nonly=1 holes=0\n")
+        self.assertEqual(self.run_tool("mutations"), (
+            0, "fixtures_values: a: refused by returns-clause-is (recorded)\n"
+               "1 of 1 mutations are refused: 1 by a clause\n1 passed, 0 failed\n"))
+        before = self.read("tools/mutations/refused.txt")
+        for arguments, source in ((["--anew"], SOURCE), (["--sample", "3"], SOURCE), ([], f"{SOURCE}\n"), (["--record"], f"{SOURCE}\n")):
+            self.write(f"{CRATE}/src/two.rt", source)
+            status, said = self.run_tool("mutations", *arguments)
+            self.assertEqual((status, "a: NOT REFUSED" in said), (1, True), said)
+        self.assertEqual(self.read("tools/mutations/refused.txt"), before)
 
     def test_what_is_still_proved_fails(self):
         self.assertEqual(self.tried({"a": ONE}, "fn fixtures_values::two::one: proved"), (

@@ -65,11 +65,16 @@ class Mutations(Planted):
         said = f"fn fixtures_values::two::one: {BY_SEARCH}"
         for crate in set(glob(f"{self.top}/crates/*/wrong")) - {f"{self.top}/{CRATE}/wrong"}:
             shutil.rmtree(crate)
-        self.write("tools/mutations/refused.txt", "tests_types z 0 refused by returns\n")
+        of_another, of_none = ("fixtures_plugins z 0 refused by returns\n", "gone z 1 refused by returns\n")
+        self.write("crates/fixtures_plugins/wrong/z.edit", "")
+        self.write("tools/mutations/refused.txt", of_another + of_none)
         self.tried({"a": ONE}, said)
+        self.assertEqual(self.run_tool("mutations", "--record", "fixtures_values")[0], 0)
+        line = r"fixtures_values a [0-9a-f]{64} refused by returns-clause-is\n"
+        self.assertRegex(self.read("tools/mutations/refused.txt"), rf"\A{of_another}{line}\Z")
+        shutil.rmtree(f"{self.top}/crates/fixtures_plugins/wrong")
         self.assertEqual(self.run_tool("mutations", "--record")[0], 0)
-        self.assertRegex(self.read("tools/mutations/refused.txt"),
-                         r"\Afixtures_values a [0-9a-f]{64} refused by returns-clause-is\ntests_types z 0 refused by returns\n\Z")
+        self.assertRegex(self.read("tools/mutations/refused.txt"), rf"\A{line}\Z")
         shutil.rmtree(f"{self.top}/cache")
         self.write("said", "fn fixtures_values::two::one: proved\nonly=1 holes=0\n")
         self.assertEqual(self.run_tool("mutations"), (

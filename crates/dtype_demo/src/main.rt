@@ -38,8 +38,6 @@ mod dtype;
 mod fault;
 mod input;
 mod lines;
-#[cfg(test)]
-mod tests;
 
 pub use fault::DemoFault;
 

@@ -27,7 +27,7 @@ FUZZ = "fuzz bin/driver bin/console"
 RUNS = [
     ("bin/rt", "", "repository.py", 0, "/bin/rt\n"),
     ("bin/rt", 'case "$*" in *--test*) echo "test result: ok. 2 passed; 0 failed";; *) echo right;; esac',
-     "tries tests_types dtype_demo", 0, "\n5 passed, 0 failed\n"),
+     "tries tests_types dtype_demo", 0, "\n3 passed, 0 failed\n"),
     ("bin/rt", 'echo "test two ... FAILED"; echo "test result: FAILED. 1 passed; 1 failed"', "tries tests_types", 1,
      "tries: tests_types: test two ... FAILED"),
     ("bin/rt", "echo no such thing", "tries tests_types", 1, "tests_types: the tests have no result"),
@@ -92,7 +92,7 @@ class Runs(Planted):
             self.write(f"crates/dtype_demo/{file}", text)
         self.write("crates/dtype_demo/out/dtype_demo", "#!/bin/sh\n", 0o755)
         self.assert_told("faults", "the stored run: status 0", "standard input is closed: status 0",
-                         "an input of 7 bytes: status 0", "no allocation fails: it made none", "names, on a stack of ",
+                         "b'a', 3 bytes a call: status 0", "4096 bytes, 2 bytes a call: 0 reads", "an input of 7 bytes: status 0", "no allocation fails: it made none", "names, on a stack of ",
                          "equal ends, in 2 seconds: status 0", "memory of 4194304 KB: status 0")
 
     def test_writes_the_lines_of_the_transcript(self):

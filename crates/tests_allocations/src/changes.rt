@@ -2,11 +2,15 @@
 // SPDX-FileCopyrightText: Copyright the Vortex contributors
 
 // Calls that change a set: after an error it holds what it held before and a beginning of what was to be put in.
+//
+// What must be left is computed after a call, from a set that is made again, so that few allocations come before the call.
+// Each `?` may end a function early, and then everything that the function owns is dropped, which has to be proved at each
+// of them. So the functions that use a set borrow it.
 use crate::marks::{begin, end};
 use crate::sets::{Shown, numbered, path, paths, set};
 use anyhow::Result;
 use dtype_base::{VortexError, VortexResult};
-use dtype_paths::{FieldPath, FieldPathSet};
+use dtype_paths::FieldPathSet;
 use std::alloc::Global;
 
 // A path, and the set that it is inserted into.
@@ -39,11 +43,11 @@ const COLLIDING: (&str, &str) = ("adversariaaexrxazgxs6xz4", "_of_the_columns_")
 
 pub fn tell(rt: &(impl Print + Eprint), alloc: Global) -> Result<()> {
     for (inserted, old) in INSERTED.iter() {
-        let told = insert(rt, alloc, set(alloc, old)?, path(alloc, inserted)?)?;
+        let told = insert(rt, alloc, inserted, old)?;
         println!(rt; "insert {inserted} into {{{old}}}: {told}")?;
     }
     for (known, old) in KNOWN.iter() {
-        let told = insert(rt, alloc, set(alloc, old)?, path(alloc, known)?)?;
+        let told = insert(rt, alloc, known, old)?;
         println!(rt; "no allocation: insert {known} into {{{old}}}: {told}")?;
     }
     for count in CHILDREN.iter() {
@@ -53,27 +57,22 @@ pub fn tell(rt: &(impl Print + Eprint), alloc: Global) -> Result<()> {
     tell_beside(rt, alloc, 10_000_000, 1025, COLLIDING)?;
     for (added, old) in EXTENDED.iter() {
         tell_extend(rt, alloc, added, old)?;
-        for item in 0..paths(alloc, added)?.len() {
+        for item in 0..added.split_whitespace().count() {
             tell_item(rt, alloc, added, old, item)?;
         }
     }
     Ok(())
 }
 
-// (what must be left is computed after the call, so that few allocations come before it)
 pub fn tell_extend(
     rt: &(impl Print + Eprint),
     alloc: Global,
     added: &str,
     old: &str,
 ) -> Result<()> {
-    let mut extended = set(alloc, old)?;
-    let given = paths(alloc, added)?;
-    begin(rt);
-    let made = extended.extend(given);
-    end(rt);
-    let steps = steps_of(alloc, &set(alloc, old)?, &paths(alloc, added)?)?;
-    let told = told(alloc, made, &Shown::of(alloc, &extended)?, &steps)?;
+    let outcome = extend(rt, alloc, &mut set(alloc, old)?, added)?;
+    let steps = steps_of(alloc, &mut set(alloc, old)?, added)?;
+    let told = told(alloc, outcome, &steps)?;
     println!(rt; "extend {{{old}}} by {added}: {told}")?;
     Ok(())
 }
@@ -87,39 +86,32 @@ pub fn tell_item(
     old: &str,
     item: usize,
 ) -> Result<()> {
-    let (mut set, given) = before_item(alloc, added, old, item)?;
-    if let Some(path) = given {
-        begin(rt);
-        let made = set.insert(path);
-        end(rt);
-        let (before, again) = before_item(alloc, added, old, item)?;
-        let mut one = Vec::new(alloc);
-        if let Some(path) = again {
-            one.push(path)?;
-        }
-        let steps = steps_of(alloc, &before, &one)?;
-        let told = told(alloc, made, &Shown::of(alloc, &set)?, &steps)?;
+    if let Some(inserted) = added.split_whitespace().nth(item) {
+        let outcome = insert_into(rt, alloc, &mut before(alloc, added, old, item)?, inserted)?;
+        let steps = steps_of(alloc, &mut before(alloc, added, old, item)?, inserted)?;
+        let told = told(alloc, outcome, &steps)?;
         println!(rt; "item {item} of extend {{{old}}} by {added}: {told}")?;
     }
     Ok(())
 }
 
-// The set with the paths before this one, and this one, if there are so many.
-fn before_item(
-    alloc: Global,
-    added: &str,
-    old: &str,
-    item: usize,
-) -> VortexResult<(FieldPathSet, Option<FieldPath>)> {
+// The set with the paths before this one, inserted one by one.
+fn before(alloc: Global, added: &str, old: &str, item: usize) -> VortexResult<FieldPathSet> {
     let mut set = set(alloc, old)?;
-    let mut given = paths(alloc, added)?.into_iter();
-    for _ in 0..item {
-        if let Some(path) = given.next() {
-            set.insert(path)?;
-        }
+    insert_first(alloc, &mut set, added, item)?;
+    Ok(set)
+}
+
+fn insert_first(
+    alloc: Global,
+    set: &mut FieldPathSet,
+    added: &str,
+    count: usize,
+) -> VortexResult<()> {
+    for text in added.split_whitespace().take(count) {
+        set.insert(path(alloc, text)?)?;
     }
-    let path = given.next();
-    Ok((set, path))
+    Ok(())
 }
 
 fn tell_beside(
@@ -131,51 +123,74 @@ fn tell_beside(
 ) -> Result<()> {
     let (beginning, ending) = around;
     let text = format!(in alloc; "a.{beginning}x{ending}.y")?;
-    let told = insert(
+    let inserted = text.as_str();
+    let outcome = insert_into(
         rt,
         alloc,
-        numbered(alloc, first, count, around)?,
-        path(alloc, text.as_str())?,
+        &mut numbered(alloc, first, count, around)?,
+        inserted,
     )?;
-    println!(rt; "insert {text} beside {count}: {told}")?;
+    let steps = steps_of(alloc, &mut numbered(alloc, first, count, around)?, inserted)?;
+    let told = told(alloc, outcome, &steps)?;
+    println!(rt; "insert {inserted} beside {count}: {told}")?;
     Ok(())
 }
 
-fn insert(
+fn insert(rt: &impl Eprint, alloc: Global, inserted: &str, old: &str) -> VortexResult<String> {
+    let outcome = insert_into(rt, alloc, &mut set(alloc, old)?, inserted)?;
+    let steps = steps_of(alloc, &mut set(alloc, old)?, inserted)?;
+    told(alloc, outcome, &steps)
+}
+
+// What came of a call, and what the set shows then.
+#[derive(Drop)]
+struct Outcome {
+    made: VortexResult<()>,
+    left: Shown,
+}
+
+fn insert_into(
     rt: &impl Eprint,
     alloc: Global,
-    mut set: FieldPathSet,
-    path: FieldPath,
-) -> VortexResult<String> {
-    let one = vec![in alloc; path.try_clone()?]?;
-    let steps = steps_of(alloc, &set, &one)?;
+    set: &mut FieldPathSet,
+    inserted: &str,
+) -> VortexResult<Outcome> {
+    let path = path(alloc, inserted)?;
     begin(rt);
     let made = set.insert(path);
     end(rt);
-    told(alloc, made, &Shown::of(alloc, &set)?, &steps)
+    let left = Shown::of(alloc, set)?;
+    Ok(Outcome { made, left })
+}
+
+fn extend(
+    rt: &impl Eprint,
+    alloc: Global,
+    set: &mut FieldPathSet,
+    added: &str,
+) -> VortexResult<Outcome> {
+    let paths = paths(alloc, added)?;
+    begin(rt);
+    let made = set.extend(paths);
+    end(rt);
+    let left = Shown::of(alloc, set)?;
+    Ok(Outcome { made, left })
 }
 
 // What the set shows after none, one and more of these paths.
-fn steps_of(alloc: Global, set: &FieldPathSet, paths: &[FieldPath]) -> VortexResult<Vec<Shown>> {
-    let mut set = set.try_clone()?;
-    let mut steps = Vec::new(alloc);
-    steps.push(Shown::of(alloc, &set)?)?;
-    for path in paths {
-        set.insert(path.try_clone()?)?;
-        steps.push(Shown::of(alloc, &set)?)?;
+fn steps_of(alloc: Global, set: &mut FieldPathSet, added: &str) -> VortexResult<Vec<Shown>> {
+    let mut steps = vec![in alloc; Shown::of(alloc, set)?]?;
+    for path in paths(alloc, added)? {
+        set.insert(path)?;
+        steps.push(Shown::of(alloc, set)?)?;
     }
     Ok(steps)
 }
 
-// What came of a call, and how many of the paths the set holds then: not all of them after an error.
-fn told(
-    alloc: Global,
-    made: VortexResult<()>,
-    left: &Shown,
-    steps: &[Shown],
-) -> VortexResult<String> {
-    let held = steps.iter().position(|step| step.is_same(left));
-    Ok(match (made, held) {
+// The outcome in words: how many of the paths the set holds. After an error it doesn't hold all of them.
+fn told(alloc: Global, outcome: Outcome, steps: &[Shown]) -> VortexResult<String> {
+    let held = steps.iter().position(|step| step.is_same(&outcome.left));
+    Ok(match (outcome.made, held) {
         (Ok(()), Some(held)) => format!(in alloc; "ok, holds the first {held}")?,
         (Err(VortexError::OutOfMemory), Some(held)) if held.wrapping_add(1) < steps.len() => {
             format!(in alloc; "out of memory, holds the first {held}")?

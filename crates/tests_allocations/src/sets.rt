@@ -31,7 +31,8 @@ pub fn set(alloc: Global, text: &str) -> VortexResult<FieldPathSet> {
     FieldPathSet::from_iter(alloc, paths(alloc, text)?)
 }
 
-/// The set of so many names below `a`, the numbers from `first` on with a common prefix and a common suffix.
+/// The set of so many names below `a`, the numbers from `first` on with a common prefix and a common suffix, inserted one by
+/// one.
 pub fn numbered(
     alloc: Global,
     first: u32,
@@ -39,13 +40,21 @@ pub fn numbered(
     around: (&str, &str),
 ) -> VortexResult<FieldPathSet> {
     let mut set = FieldPathSet::new(alloc);
-    let (beginning, ending) = around;
     for i in 0..count {
-        let number = first.wrapping_add(i);
-        let text = format!(in alloc; "a.{beginning}{number}{ending}")?;
-        set.insert(path(alloc, text.as_str())?)?;
+        insert_number(alloc, &mut set, first.wrapping_add(i), around)?;
     }
     Ok(set)
+}
+
+fn insert_number(
+    alloc: Global,
+    set: &mut FieldPathSet,
+    number: u32,
+    around: (&str, &str),
+) -> VortexResult<()> {
+    let (beginning, ending) = around;
+    let text = format!(in alloc; "a.{beginning}{number}{ending}")?;
+    set.insert(path(alloc, text.as_str())?)
 }
 
 /// The texts of a set's paths in order, and the visits of its cover. A node that a failed insertion left, and that a step

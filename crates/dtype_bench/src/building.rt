@@ -3,7 +3,7 @@
 
 // How types are made.
 use crate::fault::{BenchFault, BenchResult};
-use crate::fixture::{Shape, leaf, leaves, names};
+use crate::fixture::{Shape, leaves, names, wide_type};
 use crate::meter::Operation;
 use dtype_base::{FieldName, FieldNames, Nullability};
 use dtype_types::{DType, FieldDType, StructFields};
@@ -35,14 +35,10 @@ impl<'a> Operation for BuildOfNames<'a> {
         Ok(())
     }
 
-    fn repeat(&mut self, alloc: Global, times: usize) -> BenchResult<usize> {
-        let mut sum = 0usize;
-        for _ in 0..times {
-            let (names, types) = self.inputs.pop().ok_or(BenchFault::Missing)?;
-            let dtype = of_names(alloc, names, types)?;
-            sum = sum.wrapping_add(usize::from(dtype.is_struct()));
-        }
-        Ok(sum)
+    fn once(&mut self, alloc: Global, _i: usize, _sum: usize) -> BenchResult<usize> {
+        let (names, types) = self.inputs.pop().ok_or(BenchFault::Missing)?;
+        let dtype = of_names(alloc, names, types)?;
+        Ok(usize::from(dtype.is_struct()))
     }
 }
 
@@ -71,16 +67,12 @@ impl<'a> Operation for BuildAndFind<'a> {
         self.0.prepare(alloc, times)
     }
 
-    fn repeat(&mut self, alloc: Global, times: usize) -> BenchResult<usize> {
+    fn once(&mut self, alloc: Global, _i: usize, _sum: usize) -> BenchResult<usize> {
         let last = self.0.texts.last().ok_or(BenchFault::Missing)?;
-        let mut sum = 0usize;
-        for _ in 0..times {
-            let (names, types) = self.0.inputs.pop().ok_or(BenchFault::Missing)?;
-            let dtype = of_names(alloc, names, types)?;
-            let fields = dtype.as_struct_fields_opt().ok_or(BenchFault::Missing)?;
-            sum = sum.wrapping_add(fields.find(last.as_str()).unwrap_or(7));
-        }
-        Ok(sum)
+        let (names, types) = self.0.inputs.pop().ok_or(BenchFault::Missing)?;
+        let dtype = of_names(alloc, names, types)?;
+        let fields = dtype.as_struct_fields_opt().ok_or(BenchFault::Missing)?;
+        Ok(fields.find(last.as_str()).unwrap_or(7))
     }
 }
 
@@ -108,14 +100,10 @@ impl<'a> Operation for BuildOfTexts<'a> {
         Ok(())
     }
 
-    fn repeat(&mut self, alloc: Global, times: usize) -> BenchResult<usize> {
-        let mut sum = 0usize;
-        for _ in 0..times {
-            let types = self.inputs.pop().ok_or(BenchFault::Missing)?;
-            let dtype = of_texts(alloc, self.texts, types)?;
-            sum = sum.wrapping_add(usize::from(dtype.is_struct()));
-        }
-        Ok(sum)
+    fn once(&mut self, alloc: Global, _i: usize, _sum: usize) -> BenchResult<usize> {
+        let types = self.inputs.pop().ok_or(BenchFault::Missing)?;
+        let dtype = of_texts(alloc, self.texts, types)?;
+        Ok(usize::from(dtype.is_struct()))
     }
 }
 
@@ -125,8 +113,7 @@ fn of_texts(alloc: Global, texts: &Vec<String>, types: Vec<DType>) -> BenchResul
         let name = FieldName::new(alloc, text.as_str())?;
         fields.push((name, FieldDType::from(dtype)))?;
     }
-    let fields = StructFields::from_iter(alloc, fields)?;
-    Ok(DType::Struct(fields, Nullability::NonNullable))
+    Ok(DType::struct_(alloc, fields, Nullability::NonNullable)?)
 }
 
 /// Building and dropping a whole type. Only the texts of a wide struct's names are made before the clock starts.
@@ -138,25 +125,11 @@ pub struct BuildAndDrop<'a> {
 }
 
 impl<'a> Operation for BuildAndDrop<'a> {
-    fn repeat(&mut self, alloc: Global, times: usize) -> BenchResult<usize> {
-        let mut sum = 0usize;
-        for _ in 0..times {
-            let dtype = match self.shape {
-                Shape::Wide => of_columns(alloc, self.texts)?,
-                shape => shape.make(alloc, self.depth, false)?,
-            };
-            sum = sum.wrapping_add(usize::from(dtype.is_struct()));
-        }
-        Ok(sum)
+    fn once(&mut self, alloc: Global, _i: usize, _sum: usize) -> BenchResult<usize> {
+        let dtype = match self.shape {
+            Shape::Wide => wide_type(alloc, self.texts, false)?,
+            shape => shape.make(alloc, self.depth, false)?,
+        };
+        Ok(usize::from(dtype.is_struct()))
     }
-}
-
-fn of_columns(alloc: Global, texts: &Vec<String>) -> BenchResult<DType> {
-    let mut fields = Vec::with_capacity(alloc, texts.len())?;
-    for (i, text) in texts.iter().enumerate() {
-        let name = FieldName::new(alloc, text.as_str())?;
-        fields.push((name, FieldDType::from(leaf(i, false))))?;
-    }
-    let fields = StructFields::from_iter(alloc, fields)?;
-    Ok(DType::Struct(fields, Nullability::NonNullable))
 }

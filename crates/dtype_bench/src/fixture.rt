@@ -173,19 +173,15 @@ pub fn make_types(alloc: Global, shape: Shape, count: usize) -> BenchResult<Type
 
 /// Returns two structs of fields with these names, built separately.
 pub fn two_structs(alloc: Global, texts: &Vec<String>) -> BenchResult<Vec<DType>> {
-    let mut two = Vec::with_capacity(alloc, 2)?;
-    for _ in 0..2 {
-        two.push(wide_type(alloc, texts, false)?)?;
-    }
-    Ok(two)
+    let one = wide_type(alloc, texts, false)?;
+    let other = wide_type(alloc, texts, false)?;
+    Ok(vec![in alloc; one, other]?)
 }
 
 fn two_types(alloc: Global, shape: Shape, count: usize, flip: bool) -> BenchResult<Vec<DType>> {
-    let mut two = Vec::with_capacity(alloc, 2)?;
-    for _ in 0..2 {
-        two.push(shape.make(alloc, count, flip)?)?;
-    }
-    Ok(two)
+    let one = shape.make(alloc, count, flip)?;
+    let other = shape.make(alloc, count, flip)?;
+    Ok(vec![in alloc; one, other]?)
 }
 
 /// Returns the first of the two if `i` is even, and the second if it is odd. The error is `Missing` if there aren't
@@ -213,11 +209,9 @@ pub fn leaves(alloc: Global, count: usize) -> BenchResult<Vec<DType>> {
 
 /// Returns the name of a column, twice.
 pub fn two_texts(alloc: Global, i: usize) -> BenchResult<Vec<String>> {
-    let mut two = Vec::with_capacity(alloc, 2)?;
-    for _ in 0..2 {
-        two.push(column(alloc, i)?)?;
-    }
-    Ok(two)
+    let one = column(alloc, i)?;
+    let other = column(alloc, i)?;
+    Ok(vec![in alloc; one, other]?)
 }
 
 /// Returns names made from these texts.
@@ -296,39 +290,35 @@ pub fn numbered(alloc: Global, beginning: &str, i: usize) -> BenchResult<String>
     Ok(format!(in alloc; "{beginning}_{i}")?)
 }
 
-fn wide_type(alloc: Global, texts: &Vec<String>, flip: bool) -> BenchResult<DType> {
+/// Returns a struct of columns with these names, their nullabilities flipped if asked.
+pub fn wide_type(alloc: Global, texts: &Vec<String>, flip: bool) -> BenchResult<DType> {
+    let fields = columns(alloc, texts, flip)?;
+    Ok(DType::struct_(alloc, fields, Nullability::NonNullable)?)
+}
+
+type Fields = Vec<(FieldName, FieldDType)>;
+
+fn columns(alloc: Global, texts: &Vec<String>, flip: bool) -> BenchResult<Fields> {
     let mut fields = Vec::with_capacity(alloc, texts.len())?;
     for (i, text) in texts.iter().enumerate() {
         let name = FieldName::new(alloc, text.as_str())?;
         fields.push((name, FieldDType::from(leaf(i, flip))))?;
     }
-    let fields = StructFields::from_iter(alloc, fields)?;
-    Ok(DType::Struct(fields, Nullability::NonNullable))
+    Ok(fields)
 }
 
 /// Returns a struct of one field `a`.
 pub fn one_field(alloc: Global, dtype: DType, nullability: Nullability) -> BenchResult<DType> {
-    let mut fields = Vec::with_capacity(alloc, 1)?;
-    fields.push((FieldName::new(alloc, "a")?, FieldDType::from(dtype)))?;
-    let fields = StructFields::from_iter(alloc, fields)?;
-    Ok(DType::Struct(fields, nullability))
+    let field = (FieldName::new(alloc, "a")?, FieldDType::from(dtype));
+    let fields = vec![in alloc; field]?;
+    Ok(DType::struct_(alloc, fields, nullability)?)
 }
 
-/// Returns a struct of the columns of a wide one, and in their midst a field `a`, which is the wide one itself.
-pub fn with_one_field(alloc: Global, wide: &DType) -> BenchResult<DType> {
-    let columns = wide.as_struct_fields_opt().ok_or(BenchFault::Missing)?;
-    let middle = columns.nfields() / 2;
-    let mut fields = Vec::with_capacity(alloc, columns.nfields().saturating_add(1))?;
-    for (i, (name, dtype)) in columns.pairs().enumerate() {
-        if i == middle {
-            let whole = FieldDType::from(wide.try_clone(alloc)?);
-            fields.push((FieldName::new(alloc, "a")?, whole))?;
-        }
-        fields.push((
-            name.try_clone(alloc)?,
-            FieldDType::from(dtype.try_clone(alloc)?),
-        ))?;
-    }
-    let fields = StructFields::from_iter(alloc, fields)?;
-    Ok(DType::Struct(fields, Nullability::NonNullable))
+/// Returns a struct of so many columns, and in their midst a field `a`, which is of this type.
+pub fn with_one_field(alloc: Global, count: usize, dtype: DType) -> BenchResult<DType> {
+    let texts = Naming::Columns.texts(alloc, count)?;
+    let mut fields = columns(alloc, &texts, false)?;
+    let field = (FieldName::new(alloc, "a")?, FieldDType::from(dtype));
+    fields.insert(fields.len() / 2, field)?;
+    Ok(DType::struct_(alloc, fields, Nullability::NonNullable)?)
 }

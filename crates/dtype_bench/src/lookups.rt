@@ -6,7 +6,7 @@ use crate::fault::{BenchFault, BenchResult};
 use crate::fixture::{Types, fields_of, two_texts};
 use crate::meter::Operation;
 use dtype_base::FieldName;
-use dtype_types::DType;
+use dtype_types::{DType, StructFields};
 use std::alloc::Global;
 
 /// The position of the name that is looked for.
@@ -57,39 +57,31 @@ impl<'a> Find<'a> {
 }
 
 impl<'a> Operation for Find<'a> {
-    fn repeat(&mut self, _alloc: Global, times: usize) -> BenchResult<usize> {
-        let mut sum = 0usize;
-        for i in 0..times {
-            let fields = fields_of(&self.types.types, i)?;
-            let name = self.names.get(i / 2 % 2).ok_or(BenchFault::Missing)?;
-            sum = sum.wrapping_add(fields.find(name.as_str()).unwrap_or(7));
-        }
-        Ok(sum)
+    fn once(&mut self, _alloc: Global, i: usize, _sum: usize) -> BenchResult<usize> {
+        let fields = fields_of(&self.types.types, i)?;
+        let name = self.names.get(i / 2 % 2).ok_or(BenchFault::Missing)?;
+        Ok(fields.find(name.as_str()).unwrap_or(7))
     }
 }
 
-/// `find` of all names, shuffled, so that no branch can be predicted.
+/// `find` of all names, in an order that is computed from a seed, so that no branch can be predicted.
 #[derive(Drop)]
 pub struct FindMixed<'a> {
-    pub types: &'a Vec<DType>,
+    pub fields: &'a StructFields,
     pub texts: &'a Vec<String>,
+    pub seed: u64,
 }
 
 impl<'a> Operation for FindMixed<'a> {
-    fn repeat(&mut self, _alloc: Global, times: usize) -> BenchResult<usize> {
-        let fields = fields_of(self.types, 0)?;
+    fn once(&mut self, _alloc: Global, _i: usize, _sum: usize) -> BenchResult<usize> {
+        self.seed = self
+            .seed
+            .wrapping_mul(6364136223846793005)
+            .wrapping_add(1442695040888963407);
         let count = self.texts.len() as u64;
-        let mut sum = 0usize;
-        let mut seed = 1u64;
-        for _ in 0..times {
-            seed = seed
-                .wrapping_mul(6364136223846793005)
-                .wrapping_add(1442695040888963407);
-            let at = (seed >> 33).checked_rem(count).unwrap_or(0);
-            let name = self.texts.get(at as usize).ok_or(BenchFault::Missing)?;
-            sum = sum.wrapping_add(fields.find(name.as_str()).unwrap_or(7));
-        }
-        Ok(sum)
+        let at = (self.seed >> 33).checked_rem(count).unwrap_or(0);
+        let name = self.texts.get(at as usize).ok_or(BenchFault::Missing)?;
+        Ok(self.fields.find(name.as_str()).unwrap_or(7))
     }
 }
 
@@ -101,13 +93,9 @@ pub struct Project<'a> {
 }
 
 impl<'a> Operation for Project<'a> {
-    fn repeat(&mut self, alloc: Global, times: usize) -> BenchResult<usize> {
-        let mut sum = 0usize;
-        for i in 0..times {
-            let fields = fields_of(self.types, i)?;
-            let fewer = fields.project(alloc, self.names.as_slice())?;
-            sum = sum.wrapping_add(fewer.nfields());
-        }
-        Ok(sum)
+    fn once(&mut self, alloc: Global, i: usize, _sum: usize) -> BenchResult<usize> {
+        let fields = fields_of(self.types, i)?;
+        let fewer = fields.project(alloc, self.names.as_slice())?;
+        Ok(fewer.nfields())
     }
 }

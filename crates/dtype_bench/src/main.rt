@@ -5,8 +5,8 @@
 //! `find/mixed/wide/1000 54.2 57.0`: the nanoseconds of processor time of one operation, the least and the median of
 //! fifteen rounds. An empty line selects every case. Without input nothing is measured and nothing is printed.
 //!
-//! A case is named by its operation, and then by its input. A round is a loop of about 3 ms within one call, and each
-//! result is dropped in the loop. What an operation consumes is built before the clock starts, except in the cases
+//! A case is named by its operation, and then by its input. A round is a loop of about 3 ms, in which each result is
+//! dropped. What an operation consumes is built before the clock starts, except in the cases
 //! `build/and_drop`.
 //!
 //! Begin with `meter`: what an operation is, and how it is measured.
@@ -15,7 +15,7 @@
 use building::{BuildAndDrop, BuildAndFind, BuildOfNames, BuildOfTexts};
 use dtype_types::DType;
 use fault::BenchResult;
-use fixture::{Naming, Shape, Types, all_names, make_types, some_names, two_structs};
+use fixture::{Naming, Shape, Types, all_names, fields_of, make_types, some_names, two_structs};
 use lookups::{Find, FindMixed, Place, Project};
 use meter::Meter;
 use on_messages::{ReadMessage, WriteAndRead, WriteMessage, messages};
@@ -120,7 +120,12 @@ fn measure_find<C: CpuClock, W: Write>(
     types: &Vec<DType>,
     texts: &Vec<String>,
 ) -> BenchResult<()> {
-    meter.measure("find/mixed", of, FindMixed { types, texts })
+    let find = FindMixed {
+        fields: fields_of(types, 0)?,
+        texts,
+        seed: 1,
+    };
+    meter.measure("find/mixed", of, find)
 }
 
 // What makes a struct with an index of these names.

@@ -22,9 +22,9 @@ pub trait Operation {
         Ok(())
     }
 
-    /// Does the operation `times` times and drops its results. Returns a number that depends on each result, so that none can
-    /// be optimized away.
-    fn repeat(&mut self, alloc: Global, times: usize) -> BenchResult<usize>;
+    /// Does the operation for the `i`th time of a round and drops its result. Returns a number that depends on the result,
+    /// so that it can't be optimized away. `sum` is the sum of the numbers that were returned before in the round.
+    fn once(&mut self, alloc: Global, i: usize, sum: usize) -> BenchResult<usize>;
 }
 
 /// Measures the operations that were asked for.
@@ -103,7 +103,7 @@ impl<'a, C: CpuClock, W: Write> Meter<'a, C, W> {
     fn round(&self, operation: &mut impl Operation, times: usize) -> BenchResult<u64> {
         operation.prepare(self.alloc, times)?;
         let start = self.clock.thread_cpu_time()?;
-        let answer = operation.repeat(self.alloc, times)?;
+        let answer = repeat(operation, self.alloc, times)?;
         let end = self.clock.thread_cpu_time()?;
         // asked for, so that the answer has to be worked out
         if answer == usize::MAX {
@@ -111,6 +111,15 @@ impl<'a, C: CpuClock, W: Write> Meter<'a, C, W> {
         }
         Ok(nanoseconds(end.saturating_sub(start)))
     }
+}
+
+// Does the operation this many times. Returns the sum of the numbers that it returned.
+fn repeat(operation: &mut impl Operation, alloc: Global, times: usize) -> BenchResult<usize> {
+    let mut sum = 0usize;
+    for i in 0..times {
+        sum = sum.wrapping_add(operation.once(alloc, i, sum)?);
+    }
+    Ok(sum)
 }
 
 // The name of the case of an operation and a fixture.

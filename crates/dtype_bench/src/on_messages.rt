@@ -26,13 +26,9 @@ pub struct ReadMessage<'a> {
 }
 
 impl<'a> Operation for ReadMessage<'a> {
-    fn repeat(&mut self, alloc: Global, times: usize) -> BenchResult<usize> {
-        let mut sum = 0usize;
-        for i in 0..times {
-            let dtype = DType::from_proto(alloc, turn(self.messages, i)?, self.session)?;
-            sum = sum.wrapping_add(usize::from(dtype.is_struct()));
-        }
-        Ok(sum)
+    fn once(&mut self, alloc: Global, i: usize, _sum: usize) -> BenchResult<usize> {
+        let dtype = DType::from_proto(alloc, turn(self.messages, i)?, self.session)?;
+        Ok(usize::from(dtype.is_struct()))
     }
 }
 
@@ -41,13 +37,9 @@ impl<'a> Operation for ReadMessage<'a> {
 pub struct WriteMessage<'a>(pub &'a Types);
 
 impl<'a> Operation for WriteMessage<'a> {
-    fn repeat(&mut self, alloc: Global, times: usize) -> BenchResult<usize> {
-        let mut sum = 0usize;
-        for i in 0..times {
-            let message = turn(&self.0.types, i)?.to_proto(alloc)?;
-            sum = sum.wrapping_add(usize::from(message.dtype_type.is_some()));
-        }
-        Ok(sum)
+    fn once(&mut self, alloc: Global, i: usize, _sum: usize) -> BenchResult<usize> {
+        let message = turn(&self.0.types, i)?.to_proto(alloc)?;
+        Ok(usize::from(message.dtype_type.is_some()))
     }
 }
 
@@ -59,14 +51,10 @@ pub struct WriteAndRead<'a> {
 }
 
 impl<'a> Operation for WriteAndRead<'a> {
-    fn repeat(&mut self, alloc: Global, times: usize) -> BenchResult<usize> {
-        let mut sum = 0usize;
-        for i in 0..times {
-            let message = turn(&self.types.types, i)?.to_proto(alloc)?;
-            let dtype = DType::from_proto(alloc, &message, self.session)?;
-            drop(message);
-            sum = sum.wrapping_add(usize::from(dtype.is_struct()));
-        }
-        Ok(sum)
+    fn once(&mut self, alloc: Global, i: usize, _sum: usize) -> BenchResult<usize> {
+        let message = turn(&self.types.types, i)?.to_proto(alloc)?;
+        let dtype = DType::from_proto(alloc, &message, self.session)?;
+        drop(message);
+        Ok(usize::from(dtype.is_struct()))
     }
 }

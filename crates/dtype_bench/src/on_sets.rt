@@ -32,15 +32,11 @@ impl<'a> Operation for FromPaths<'a> {
         Ok(())
     }
 
-    fn repeat(&mut self, alloc: Global, times: usize) -> BenchResult<usize> {
-        let mut sum = 0usize;
-        for _ in 0..times {
-            let paths = self.inputs.pop().ok_or(BenchFault::Missing)?;
-            let count = paths.len();
-            drop(FieldPathSet::from_iter(alloc, paths)?);
-            sum = sum.wrapping_add(count);
-        }
-        Ok(sum)
+    fn once(&mut self, alloc: Global, _i: usize, _sum: usize) -> BenchResult<usize> {
+        let paths = self.inputs.pop().ok_or(BenchFault::Missing)?;
+        let count = paths.len();
+        drop(FieldPathSet::from_iter(alloc, paths)?);
+        Ok(count)
     }
 }
 
@@ -68,13 +64,9 @@ impl<'a> Operation for Cover<'a> {
         Ok(())
     }
 
-    fn repeat(&mut self, _alloc: Global, times: usize) -> BenchResult<usize> {
-        let mut sum = 0usize;
-        for _ in 0..times {
-            let set = self.inputs.pop().ok_or(BenchFault::Missing)?;
-            sum = sum.wrapping_add(set.into_iter()?.len());
-        }
-        Ok(sum)
+    fn once(&mut self, _alloc: Global, _i: usize, _sum: usize) -> BenchResult<usize> {
+        let set = self.inputs.pop().ok_or(BenchFault::Missing)?;
+        Ok(set.into_iter()?.len())
     }
 }
 
@@ -83,22 +75,13 @@ impl<'a> Operation for Cover<'a> {
 pub struct Contains<'a>(pub &'a PathSet);
 
 impl<'a> Operation for Contains<'a> {
-    fn repeat(&mut self, _alloc: Global, times: usize) -> BenchResult<usize> {
-        let mut sum = 0usize;
-        for _ in 0..times {
-            sum = count_held(self.0, sum);
+    fn once(&mut self, _alloc: Global, _i: usize, _sum: usize) -> BenchResult<usize> {
+        let mut count = 0usize;
+        for path in &self.0.paths {
+            count = count.wrapping_add(usize::from(self.0.set.contains(path)));
         }
-        Ok(sum)
+        Ok(count)
     }
-}
-
-// So many, and the paths that the set holds.
-fn count_held(of: &PathSet, so_many: usize) -> usize {
-    let mut count = so_many;
-    for path in &of.paths {
-        count = count.wrapping_add(usize::from(of.set.contains(path)));
-    }
-    count
 }
 
 /// `try_clone`.
@@ -106,10 +89,8 @@ fn count_held(of: &PathSet, so_many: usize) -> usize {
 pub struct CopiedSet<'a>(pub &'a PathSet);
 
 impl<'a> Operation for CopiedSet<'a> {
-    fn repeat(&mut self, _alloc: Global, times: usize) -> BenchResult<usize> {
-        for _ in 0..times {
-            drop(self.0.set.try_clone()?);
-        }
-        Ok(times)
+    fn once(&mut self, _alloc: Global, _i: usize, _sum: usize) -> BenchResult<usize> {
+        drop(self.0.set.try_clone()?);
+        Ok(1)
     }
 }

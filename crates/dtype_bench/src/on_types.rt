@@ -18,13 +18,9 @@ use vortex_dtype::merge_columns;
 pub struct Empty<'a>(pub &'a Types);
 
 impl<'a> Operation for Empty<'a> {
-    fn repeat(&mut self, _alloc: Global, times: usize) -> BenchResult<usize> {
-        let mut sum = 0usize;
-        for i in 0..times {
-            let dtype = turn(&self.0.types, i)?;
-            sum = sum.wrapping_add(usize::from(dtype.is_nullable()));
-        }
-        Ok(sum)
+    fn once(&mut self, _alloc: Global, i: usize, _sum: usize) -> BenchResult<usize> {
+        let dtype = turn(&self.0.types, i)?;
+        Ok(usize::from(dtype.is_nullable()))
     }
 }
 
@@ -33,14 +29,10 @@ impl<'a> Operation for Empty<'a> {
 pub struct Equal<'a>(pub &'a Types);
 
 impl<'a> Operation for Equal<'a> {
-    fn repeat(&mut self, _alloc: Global, times: usize) -> BenchResult<usize> {
-        let mut sum = 0usize;
-        for i in 0..times {
-            let dtype = turn(&self.0.types, sum)?;
-            let same = dtype == turn(&self.0.sames, i)?;
-            sum = sum.wrapping_add(usize::from(same));
-        }
-        Ok(sum)
+    fn once(&mut self, _alloc: Global, i: usize, sum: usize) -> BenchResult<usize> {
+        let dtype = turn(&self.0.types, sum)?;
+        let same = dtype == turn(&self.0.sames, i)?;
+        Ok(usize::from(same))
     }
 }
 
@@ -49,14 +41,10 @@ impl<'a> Operation for Equal<'a> {
 pub struct EqualIgnoring<'a>(pub &'a Types);
 
 impl<'a> Operation for EqualIgnoring<'a> {
-    fn repeat(&mut self, _alloc: Global, times: usize) -> BenchResult<usize> {
-        let mut sum = 0usize;
-        for i in 0..times {
-            let dtype = turn(&self.0.types, sum)?;
-            let same = dtype.eq_ignore_nullability(turn(&self.0.others, i)?);
-            sum = sum.wrapping_add(usize::from(same));
-        }
-        Ok(sum)
+    fn once(&mut self, _alloc: Global, i: usize, sum: usize) -> BenchResult<usize> {
+        let dtype = turn(&self.0.types, sum)?;
+        let same = dtype.eq_ignore_nullability(turn(&self.0.others, i)?);
+        Ok(usize::from(same))
     }
 }
 
@@ -77,14 +65,10 @@ pub struct Merged<'a> {
 }
 
 impl<'a> Operation for Merged<'a> {
-    fn repeat(&mut self, alloc: Global, times: usize) -> BenchResult<usize> {
-        let mut sum = 0usize;
-        for i in 0..times {
-            let dtype = turn(self.types, i)?;
-            let merged = merge_nullability(alloc, dtype, turn(self.others, i)?)?;
-            sum = sum.wrapping_add(usize::from(merged.is_some()));
-        }
-        Ok(sum)
+    fn once(&mut self, alloc: Global, i: usize, _sum: usize) -> BenchResult<usize> {
+        let dtype = turn(self.types, i)?;
+        let merged = merge_nullability(alloc, dtype, turn(self.others, i)?)?;
+        Ok(usize::from(merged.is_some()))
     }
 }
 
@@ -110,14 +94,10 @@ pub struct MergedColumns<'a> {
 }
 
 impl<'a> Operation for MergedColumns<'a> {
-    fn repeat(&mut self, alloc: Global, times: usize) -> BenchResult<usize> {
-        let mut sum = 0usize;
-        for i in 0..times {
-            let dtype = turn(self.types, i)?;
-            let merged = merge_columns(alloc, dtype, turn(self.others, i)?)?;
-            sum = sum.wrapping_add(usize::from(merged.is_some()));
-        }
-        Ok(sum)
+    fn once(&mut self, alloc: Global, i: usize, _sum: usize) -> BenchResult<usize> {
+        let dtype = turn(self.types, i)?;
+        let merged = merge_columns(alloc, dtype, turn(self.others, i)?)?;
+        Ok(usize::from(merged.is_some()))
     }
 }
 
@@ -126,13 +106,9 @@ impl<'a> Operation for MergedColumns<'a> {
 pub struct ElementSize<'a>(pub &'a Types);
 
 impl<'a> Operation for ElementSize<'a> {
-    fn repeat(&mut self, _alloc: Global, times: usize) -> BenchResult<usize> {
-        let mut sum = 0usize;
-        for i in 0..times {
-            let size = turn(&self.0.types, i)?.element_size()?;
-            sum = sum.wrapping_add(size.unwrap_or(7));
-        }
-        Ok(sum)
+    fn once(&mut self, _alloc: Global, i: usize, _sum: usize) -> BenchResult<usize> {
+        let size = turn(&self.0.types, i)?.element_size()?;
+        Ok(size.unwrap_or(7))
     }
 }
 
@@ -141,13 +117,9 @@ impl<'a> Operation for ElementSize<'a> {
 pub struct Copied<'a>(pub &'a Types);
 
 impl<'a> Operation for Copied<'a> {
-    fn repeat(&mut self, alloc: Global, times: usize) -> BenchResult<usize> {
-        let mut sum = 0usize;
-        for i in 0..times {
-            let copy = turn(&self.0.types, i)?.try_clone(alloc)?;
-            sum = sum.wrapping_add(usize::from(copy.is_struct()));
-        }
-        Ok(sum)
+    fn once(&mut self, alloc: Global, i: usize, _sum: usize) -> BenchResult<usize> {
+        let copy = turn(&self.0.types, i)?.try_clone(alloc)?;
+        Ok(usize::from(copy.is_struct()))
     }
 }
 
@@ -156,14 +128,10 @@ impl<'a> Operation for Copied<'a> {
 pub struct WithNullability<'a>(pub &'a Types);
 
 impl<'a> Operation for WithNullability<'a> {
-    fn repeat(&mut self, alloc: Global, times: usize) -> BenchResult<usize> {
-        let mut sum = 0usize;
-        for i in 0..times {
-            let dtype = turn(&self.0.types, i)?;
-            let copy = dtype.with_nullability(alloc, Nullability::Nullable)?;
-            sum = sum.wrapping_add(usize::from(copy.is_struct()));
-        }
-        Ok(sum)
+    fn once(&mut self, alloc: Global, i: usize, _sum: usize) -> BenchResult<usize> {
+        let dtype = turn(&self.0.types, i)?;
+        let copy = dtype.with_nullability(alloc, Nullability::Nullable)?;
+        Ok(usize::from(copy.is_struct()))
     }
 }
 
@@ -172,14 +140,10 @@ impl<'a> Operation for WithNullability<'a> {
 pub struct Hashed<'a, T>(pub &'a Vec<T>);
 
 impl<'a, T: Hash> Operation for Hashed<'a, T> {
-    fn repeat(&mut self, _alloc: Global, times: usize) -> BenchResult<usize> {
-        let mut sum = 0usize;
-        for i in 0..times {
-            let mut state = DefaultHasher::new();
-            turn(self.0, i)?.hash(&mut state);
-            sum = sum.wrapping_add(state.finish() as usize);
-        }
-        Ok(sum)
+    fn once(&mut self, _alloc: Global, i: usize, _sum: usize) -> BenchResult<usize> {
+        let mut state = DefaultHasher::new();
+        turn(self.0, i)?.hash(&mut state);
+        Ok(state.finish() as usize)
     }
 }
 
@@ -188,13 +152,9 @@ impl<'a, T: Hash> Operation for Hashed<'a, T> {
 pub struct Text<'a, T>(pub &'a Vec<T>);
 
 impl<'a, T: Display> Operation for Text<'a, T> {
-    fn repeat(&mut self, alloc: Global, times: usize) -> BenchResult<usize> {
-        let mut sum = 0usize;
-        for i in 0..times {
-            let text = turn(self.0, i)?.to_string(alloc)?;
-            sum = sum.wrapping_add(text.len());
-        }
-        Ok(sum)
+    fn once(&mut self, alloc: Global, i: usize, _sum: usize) -> BenchResult<usize> {
+        let text = turn(self.0, i)?.to_string(alloc)?;
+        Ok(text.len())
     }
 }
 
@@ -206,13 +166,9 @@ pub struct Resolve<'a> {
 }
 
 impl<'a> Operation for Resolve<'a> {
-    fn repeat(&mut self, _alloc: Global, times: usize) -> BenchResult<usize> {
-        let mut sum = 0usize;
-        for i in 0..times {
-            let path = turn(self.paths, i / 2)?;
-            let found = path.resolve(turn(self.types, i)?);
-            sum = sum.wrapping_add(usize::from(found.is_some()));
-        }
-        Ok(sum)
+    fn once(&mut self, _alloc: Global, i: usize, _sum: usize) -> BenchResult<usize> {
+        let path = turn(self.paths, i / 2)?;
+        let found = path.resolve(turn(self.types, i)?);
+        Ok(usize::from(found.is_some()))
     }
 }

@@ -92,12 +92,9 @@ pub fn copies(alloc: Global, paths: &Vec<FieldPath>) -> BenchResult<Vec<FieldPat
 
 /// Returns the path of `depth` fields `a`, twice.
 pub fn two_deep_paths(alloc: Global, depth: usize) -> BenchResult<Vec<FieldPath>> {
-    let mut two = Vec::with_capacity(alloc, 2)?;
-    for _ in 0..2 {
-        let steps = fields_named(alloc, depth)?;
-        two.push(FieldPath::from_vec(steps))?;
-    }
-    Ok(two)
+    let one = fields_named(alloc, depth)?;
+    let other = fields_named(alloc, depth)?;
+    Ok(vec![in alloc; FieldPath::from_vec(one), FieldPath::from_vec(other)]?)
 }
 
 fn fields_named(alloc: Global, depth: usize) -> BenchResult<Vec<Field>> {
@@ -110,12 +107,9 @@ fn fields_named(alloc: Global, depth: usize) -> BenchResult<Vec<Field>> {
 
 /// Returns the path of `depth` elements, twice.
 pub fn two_element_paths(alloc: Global, depth: usize) -> BenchResult<Vec<FieldPath>> {
-    let mut two = Vec::with_capacity(alloc, 2)?;
-    for _ in 0..2 {
-        let steps = elements(alloc, depth)?;
-        two.push(FieldPath::from_vec(steps))?;
-    }
-    Ok(two)
+    let one = elements(alloc, depth)?;
+    let other = elements(alloc, depth)?;
+    Ok(vec![in alloc; FieldPath::from_vec(one), FieldPath::from_vec(other)]?)
 }
 
 fn elements(alloc: Global, depth: usize) -> BenchResult<Vec<Field>> {
@@ -128,12 +122,9 @@ fn elements(alloc: Global, depth: usize) -> BenchResult<Vec<Field>> {
 
 /// Returns a path of `depth` names of columns, twice.
 pub fn two_column_paths(alloc: Global, depth: usize) -> BenchResult<Vec<FieldPath>> {
-    let mut two = Vec::with_capacity(alloc, 2)?;
-    for _ in 0..2 {
-        let steps = columns(alloc, depth)?;
-        two.push(FieldPath::from_vec(steps))?;
-    }
-    Ok(two)
+    let one = columns(alloc, depth)?;
+    let other = columns(alloc, depth)?;
+    Ok(vec![in alloc; FieldPath::from_vec(one), FieldPath::from_vec(other)]?)
 }
 
 fn columns(alloc: Global, depth: usize) -> BenchResult<Vec<Field>> {
@@ -174,7 +165,7 @@ impl Level {
         match self {
             Level::Top => Ok(wide),
             Level::Nested => one_field(alloc, wide, Nullability::NonNullable),
-            Level::Below => with_one_field(alloc, &wide),
+            Level::Below => with_one_field(alloc, count, wide),
         }
     }
 
@@ -218,11 +209,9 @@ pub fn make_query(alloc: Global, level: Level, asked: usize, count: usize) -> Be
 }
 
 fn two_tables(alloc: Global, level: Level, count: usize) -> BenchResult<Vec<DType>> {
-    let mut two = Vec::with_capacity(alloc, 2)?;
-    for _ in 0..2 {
-        two.push(level.table(alloc, count)?)?;
-    }
-    Ok(two)
+    let one = level.table(alloc, count)?;
+    let other = level.table(alloc, count)?;
+    Ok(vec![in alloc; one, other]?)
 }
 
 fn column_paths(

@@ -17,14 +17,10 @@ use vortex_dtype::project_paths;
 pub struct ProjectPaths<'a>(pub &'a Query);
 
 impl<'a> Operation for ProjectPaths<'a> {
-    fn repeat(&mut self, alloc: Global, times: usize) -> BenchResult<usize> {
-        let mut sum = 0usize;
-        for i in 0..times {
-            let table = turn(&self.0.tables, i)?;
-            let kept = project_paths(alloc, table, &self.0.set)?;
-            sum = sum.wrapping_add(usize::from(kept.is_some()));
-        }
-        Ok(sum)
+    fn once(&mut self, alloc: Global, i: usize, _sum: usize) -> BenchResult<usize> {
+        let table = turn(&self.0.tables, i)?;
+        let kept = project_paths(alloc, table, &self.0.set)?;
+        Ok(usize::from(kept.is_some()))
     }
 }
 
@@ -33,14 +29,10 @@ impl<'a> Operation for ProjectPaths<'a> {
 pub struct ProjectByHand<'a>(pub &'a Query);
 
 impl<'a> Operation for ProjectByHand<'a> {
-    fn repeat(&mut self, alloc: Global, times: usize) -> BenchResult<usize> {
-        let mut sum = 0usize;
-        for i in 0..times {
-            let table = turn(&self.0.tables, i)?;
-            let kept = project_by_hand(alloc, table, self.0)?;
-            sum = sum.wrapping_add(usize::from(kept.is_struct()));
-        }
-        Ok(sum)
+    fn once(&mut self, alloc: Global, i: usize, _sum: usize) -> BenchResult<usize> {
+        let table = turn(&self.0.tables, i)?;
+        let kept = project_by_hand(alloc, table, self.0)?;
+        Ok(usize::from(kept.is_struct()))
     }
 }
 

@@ -3,9 +3,10 @@
 
 // Makes the reads of standard input and the writes to standard output short, makes one of them fail, and counts them.
 //
-// Loaded before the C library (LD_PRELOAD), it lets each of these calls take at most MOST bytes. READ=N makes the Nth
-// read fail, and WRITE=N the Nth write, in both cases with the error number ERROR. Where ONWARD is set, all later ones
-// fail too. When the program has ended, the file that COUNTS names has the number of reads and that of writes.
+// It is loaded before the C library (LD_PRELOAD). Then each of these calls takes at most MOST bytes. READ=N makes the Nth
+// read fail, and WRITE=N makes the Nth write fail, with the error number ERROR. If ONWARD is set, all reads or writes
+// after that one fail too. When the program ends, the number of reads and the number of writes are written to the file
+// COUNTS.
 #include <errno.h>
 #include <fcntl.h>
 #include <stdio.h>
@@ -15,13 +16,13 @@
 
 static long reads, writes;
 
-// What the environment asks for: a number, or 0.
+// Returns the number in an environment variable, or 0 if there is none.
 static long setting(const char *name) {
     const char *text = getenv(name);
     return text ? atol(text) : 0;
 }
 
-// Whether this call, of so many, is one that fails.
+// Returns whether the call with this number, counted from 1, is to fail. `name` is READ or WRITE.
 static int fails(long count, const char *name) {
     long first = setting(name);
     return first > 0 && (setting("ONWARD") ? count >= first : count == first);

@@ -92,7 +92,8 @@ class Runs(Planted):
             self.write(f"crates/dtype_demo/{file}", text)
         self.write("crates/dtype_demo/out/dtype_demo", "#!/bin/sh\n", 0o755)
         self.assert_told("faults", "the stored run: status 0", "standard input is closed: status 0",
-                         "b'a', 3 bytes a call: status 0", "4096 bytes, 2 bytes a call: 0 reads", "an input of 7 bytes: status 0", "no allocation fails: it made none", "names, on a stack of ",
+                         "b'a', 3 bytes a call: status 0", "4096 bytes, 2 bytes a call: 0 reads", "two bytes a call: 0 reads, 0 writes",
+                         "an input of 7 bytes: status 0", "no allocation fails: it made none", "names, on a stack of ",
                          "equal ends, in 2 seconds: status 0", "memory of 4194304 KB: status 0")
 
     def test_writes_the_lines_of_the_transcript(self):

@@ -3,7 +3,7 @@
 
 -- What an iterator has left at its end.
 use Rattle.std.proofs.Common.{◌≡◌, List, [], subst}
-use Rattle.std.specs.Prelude.{Option, Some, None}
+use Rattle.std.specs.Prelude.{Option, None}
 use Rattle.std.specs.Iterator.{YieldsFirstBy}
 
 module _ {Item X : Type 0} (lent : Item → X) where

@@ -2,29 +2,29 @@
 -- SPDX-FileCopyrightText: Copyright the Vortex contributors
 
 -- What is spelled of leaves is read, whatever follows that doesn't go on with it.
-use Rattle.std.proofs.Common.{◌≡◌, ℕ, zero, suc, ◌+◌, ◌-◌, ◌*◌, ◌^◌, ◌<◌, ◌≤◌, Bool, true, false, cond, not, ◌&&◌, ◌||◌, ◌==◌, List, [], ◌∷◌, ◌++◌, length, Option, Some, None, refl, sym, ap, subst, ◌∙◌, append_assoc, arith, inl, inr}
-use Rattle.std.specs.Prelude.{nat_lt, nat_le, codes, ◌⊎◌, ℤ, pos, neg_ℤ, is_some}
-use Rattle.std.specs.List.{prefix_len, list_all}
+use Rattle.std.proofs.Common.{◌≡◌, ℕ, zero, suc, ◌+◌, ◌-◌, ◌*◌, ◌^◌, ◌<◌, ◌≤◌, Bool, true, false, not, ◌&&◌, ◌||◌, ◌==◌, List, [], ◌∷◌, ◌++◌, length, Option, Some, None, refl, sym, ap, ◌∙◌, append_assoc, arith, inl, inr}
+use Rattle.std.specs.Prelude.{nat_lt, nat_le, codes, ℤ, pos, neg_ℤ, is_some}
+use Rattle.std.specs.List.{list_all}
 use Rattle.std.specs.Char.{is_ascii_digit, digit_value}
 use Rattle.std.specs.Str.{is_utf8, bytes_eq}
 use Rattle.std.proofs.lemmas.Slice.Eq.{bytes_eq-Decides}
 use Rattle.dtype_types.specs.texts.Text.{bool_text}
-use Rattle.std.specs.Str.Parse.{digits_value, digits_value_after}
+use Rattle.std.specs.Str.Parse.{digits_value_after}
 use Rattle.std.proofs.lemmas.Bool.Decides.{nat_tests}
-use Rattle.std.proofs.lemmas.Bool.{eqb-true, eq-eqb}
+use Rattle.std.proofs.lemmas.Bool.{eqb-true}
 use Rattle.std.proofs.lemmas.List.{length-append}
 use Rattle.dtype_base.specs.declared.nullability.Nullability.{Nullability}
 use Rattle.dtype_base.specs.declared.nullability.Nullability.TheVariants.{Nullable, NonNullable}
-use Rattle.dtype_base.specs.Nullability.{nullability_text}
 use Rattle.dtype_types.specs.tree.Tree.{Tree}
-use Rattle.dtype_text.specs.Read.{◌>>=◌, byte_at, closed_or, with_first, until}
-use Rattle.dtype_text.specs.Bare.{is_id_byte, is_bare_byte, is_bare_name, is_some_text, has_special}
-use Rattle.dtype_text.specs.Leaves.{front, past, is_number_byte, nullability_at, digit_after, number_after, number_of, number_at, hex_at, hex_byte_at, meaning, escape_at, unit_at, quoted_at, bare_at, name_at, skipped, equals_at, is_blank, opens_gap, comma_at, tag_at, tag_in, signed_at, word_is, bool_at, no_hex, metadata_at}
+use Rattle.dtype_text.specs.Read.{◌>>=◌, byte_at, until}
+use Rattle.dtype_text.specs.Bare.{is_id_byte, is_bare_byte, is_bare_name, has_special}
+use Rattle.dtype_text.specs.Leaves.{is_number_byte, digit_after, number_after, number_of, number_at, hex_at, hex_byte_at, meaning, escape_at, unit_at, quoted_at, bare_at, name_at, skipped, equals_at, is_blank, opens_gap, comma_at, tag_at, signed_at, word_is, bool_at, no_hex, metadata_at}
 use Rattle.dtype_text.specs.Types.{marked}
 use Rattle.dtype_text.specs.Outcome.{got}
-use Rattle.dtype_text.specs.Grammar.{Lang, lit, ◌<>◌, blanks, spaced, numeral, number, is_gap, mark, units, in_quotes, named, signed, hexes, metadata}
-use Rattle.dtype_text.proofs.Words.{bind_some, some_is, test_some, both, begins, word_front, word_past, byte_again, skipped_again}
-use Rattle.dtype_text.proofs.LeavesSound.{digit_is, tag_text}
+use Rattle.dtype_text.specs.Grammar.{lit, ◌<>◌, blanks, spaced, numeral, number, is_gap, mark, units, in_quotes, named, signed, hexes, metadata}
+use Rattle.dtype_text.proofs.Words.{bind_some, some_is, both, begins, word_front, word_past, byte_again, skipped_again}
+use Rattle.dtype_text.proofs.LeavesSound.{digit_is}
+use Rattle.dtype_text.specs.Within.{tag_text}
 
 -- ---- the first byte
 

@@ -4,22 +4,22 @@
 -- What is read of leaves is spelled so.
 use Rattle.std.proofs.Common.{◌≡◌, ℕ, zero, suc, ◌+◌, ◌-◌, ◌*◌, ◌^◌, ◌<◌, ◌≤◌, Bool, true, false, cond, not, ◌&&◌, ◌==◌, List, [], ◌∷◌, ◌++◌, length, Option, Some, None, refl, sym, ap, subst, ◌∙◌, append_assoc, arith, inl, inr}
 use Rattle.std.specs.Prelude.{nat_lt, nat_le, codes, ℤ, pos, neg_ℤ, is_some}
-use Rattle.std.specs.List.{prefix_len, list_all, AllByRecursion}
+use Rattle.std.specs.List.{list_all, AllByRecursion}
 use Rattle.std.proofs.lemmas.List.Elements.{All-from_recursion}
 use Rattle.dtype_base.specs.Bytes.{Bytes}
 use Rattle.std.specs.Char.{is_ascii_digit, digit_value}
 use Rattle.std.specs.Str.{is_utf8, bytes_eq}
 use Rattle.std.proofs.lemmas.Slice.Eq.{bytes_eq-Decides}
 use Rattle.dtype_types.specs.texts.Text.{bool_text}
-use Rattle.std.specs.Str.Parse.{digits_value, digits_value_after}
+use Rattle.std.specs.Str.Parse.{digits_value_after}
 use Rattle.std.proofs.lemmas.Bool.Decides.{nat_tests}
-use Rattle.std.proofs.lemmas.Bool.{eqb-true, eq-eqb}
-use Rattle.dtype_base.specs.declared.nullability.Nullability.{Nullability}
-use Rattle.dtype_text.specs.Read.{◌>>=◌, byte_at, closed_or, with_first, until}
+use Rattle.std.proofs.lemmas.Bool.{eqb-true}
+use Rattle.dtype_text.specs.Read.{◌>>=◌, byte_at, with_first, until}
 use Rattle.dtype_text.specs.Bare.{is_id_byte, is_bare_byte, is_bare_name, is_some_text, has_special}
-use Rattle.dtype_text.specs.Leaves.{front, past, is_number_byte, nullability_at, digit_after, number_after, number_of, number_at, hex_at, hex_byte_at, meaning, escape_at, unit_at, quoted_at, bare_at, name_at, skipped, equals_at, is_blank, comma_at, tag_at, tag_in, signed_at, word_is, bool_at, no_hex, metadata_at}
-use Rattle.dtype_text.specs.Grammar.{Lang, lit, ◌<>◌, blanks, spaced, numeral, number, mark, units, in_quotes, named, signed, hexes, metadata}
-use Rattle.dtype_text.proofs.Words.{bind_some, some_is, test_some, both, Takes, takes_then, takes_none, front_all, front_past, byte_takes, byte_again, skipped_takes}
+use Rattle.dtype_text.specs.Leaves.{front, past, is_number_byte, nullability_at, digit_after, number_after, number_of, number_at, hex_at, hex_byte_at, meaning, escape_at, unit_at, quoted_at, bare_at, name_at, skipped, equals_at, comma_at, tag_at, signed_at, word_is, bool_at, no_hex, metadata_at}
+use Rattle.dtype_text.specs.Grammar.{lit, ◌<>◌, blanks, spaced, numeral, number, mark, units, named, signed, hexes, metadata}
+use Rattle.dtype_text.specs.Within.{tag_text}
+use Rattle.dtype_text.proofs.Words.{bind_some, some_is, test_some, both, Takes, takes_then, takes_none, front_all, front_past, byte_takes, skipped_takes}
 
 -- ---- marks
 
@@ -192,11 +192,6 @@ comma_takes bytes rest e =
     subst (λ (y : List ℕ). Takes (spaced (codes ",")) bytes y) is
     (takes_then blanks (lit (codes ",") <> blanks) bytes (skipped bytes) (skipped b.0) (skipped_takes bytes)
     (takes_then (lit (codes ",")) blanks (skipped bytes) b.0 (skipped b.0) (byte_takes 44 (skipped bytes) b.0 b.1) (skipped_takes b.0)))
-
--- the tag of a variant, if it is written
-abbrev pub tag_text : Option ℕ → Lang
-tag_text None = lit []
-tag_text (Some g) = lit (codes "@") <> number 255 g
 
 pub tag_takes : (bytes : List ℕ) (x : Option ℕ × List ℕ) → tag_at bytes ≡ Some x → Takes (tag_text x.0) bytes x.1
 unfolding tag_at

@@ -8,8 +8,11 @@ pub mod Words
 pub mod Plain
 pub mod LeavesSound
 pub mod Sequences
+pub mod Ends
+pub mod Positions
 pub mod UnionFacts
 pub mod Sound
+pub mod Within
 pub mod LeavesAgain
 pub mod Answering
 pub mod Again
@@ -18,3 +21,4 @@ pub mod Written
 pub mod PathSteps
 pub mod PathAgain
 pub mod PathLoops
+pub mod AtTheFront

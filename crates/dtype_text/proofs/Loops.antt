@@ -2,15 +2,16 @@
 -- SPDX-FileCopyrightText: Copyright the Vortex contributors
 
 -- Items read one after the other, as a loop does.
-use Rattle.std.proofs.Common.{◌≡◌, ℕ, suc, ◌-◌, ◌+◌, ◌≤◌, ◌<◌, List, [], ◌∷◌, ◌++◌, Bool, true, false, Option, Some, None, refl, sym, ap, ◌∙◌, append_assoc, arith}
+use Rattle.std.proofs.Common.{◌≡◌, ℕ, suc, ◌-◌, ◌+◌, ◌≤◌, ◌<◌, List, [], ◌∷◌, ◌++◌, true, false, Option, Some, None, refl, sym, ap, ◌∙◌, append_assoc, arith}
 use Rattle.std.proofs.lemmas.List.{append-nil}
+use Rattle.dtype_base.specs.declared.vortex_error.VortexError.{VortexError}
 use Rattle.dtype_text.specs.declared.fault.Fault.{Fault}
 use Rattle.dtype_text.specs.declared.fault.Fault.TheVariants.{Memory, Refused, TooDeep, Misread}
 use Rattle.dtype_text.specs.TypeParts.{end_at}
 use Rattle.dtype_text.specs.Types.{Reader, separated}
-use Rattle.dtype_text.specs.Outcome.{Outcome, got, misspelled, refused, too_deep, said, Stops}
+use Rattle.dtype_text.specs.Outcome.{Outcome, got, misspelled, refused, too_deep, Stops}
 use Rattle.dtype_text.specs.Outcome.{◌>>=◌ as then}
-use Rattle.dtype_text.specs.Read.{◌>>=◌, Fails, byte_at, with_first, closed_or, until}
+use Rattle.dtype_text.specs.Read.{Fails, with_first, until}
 
 -- what was read before, and what is still read
 abbrev pub with_front : {A : Type 0} → List A → Option (List A × List ℕ) → Option (List A × List ℕ)
@@ -63,24 +64,24 @@ module _ {A : Type 0} (close : List ℕ → Option (List ℕ)) (item : List ℕ 
 abbrev pub behind : {A : Type 0} → List A → Outcome (List A × List ℕ) → Outcome (List A × List ℕ)
 behind front (got x) = got (front ++ x.0, x.1)
 behind front misspelled = misspelled
-behind front refused = refused
-behind front too_deep = too_deep
+behind front (refused v) = refused v
+behind front (too_deep l) = too_deep l
 
 regroup_all : {A : Type 0} (front : List A) (x : A) (read : Outcome (List A × List ℕ)) → behind front (then read (λ xs. got (x ∷ xs.0, xs.1))) ≡ behind (front ++ x ∷ []) read
 regroup_all front x (got xs) = ap (λ ys. got (ys, xs.1)) (simp append_assoc refl)
 regroup_all front x misspelled = refl
-regroup_all front x refused = refl
-regroup_all front x too_deep = refl
+regroup_all front x (refused v) = refl
+regroup_all front x (too_deep l) = refl
 
 -- what stops an item stops all
-pub stops_all : {A B : Type 0} (e : Fault) (a : Outcome A) (b : Outcome B) → Stops e a → (a ≡ misspelled → b ≡ misspelled) → (a ≡ refused → b ≡ refused) → (a ≡ too_deep → b ≡ too_deep) → Stops e b
+pub stops_all : {A B : Type 0} (e : Fault) (a : Outcome A) (b : Outcome B) → Stops e a → (a ≡ misspelled → b ≡ misspelled) → ((v : VortexError) → a ≡ refused v → b ≡ refused v) → ((l : ℕ) → a ≡ too_deep l → b ≡ too_deep l) → Stops e b
 stops_all Memory a b h f g k = tt
-stops_all (Refused v) a b h f g k = g h
-stops_all (TooDeep l) a b h f g k = k h
+stops_all (Refused v) a b h f g k = g v h
+stops_all (TooDeep l) a b h f g k = k l h
 stops_all (Misread l x) a b h f g k = f h
 
 pub stops_then : {A B : Type 0} (e : Fault) (a : Outcome A) (f : A → Outcome B) → Stops e a → Stops e (then a f)
-stops_then e a f h = stops_all e a (then a f) h (λ is. rw is refl) (λ is. rw is refl) (λ is. rw is refl)
+stops_then e a f h = stops_all e a (then a f) h (λ is. rw is refl) (λ v is. rw is refl) (λ l is. rw is refl)
 
 pub stops_said : {A B : Type 0} (e : Fault) (a : Option A) (b : Outcome B) → Fails e a → (a ≡ None → b ≡ misspelled) → Stops e b
 stops_said Memory a b h f = tt
@@ -97,8 +98,8 @@ module _ {A : Type 0} (close : ℕ) (item : Reader A) (front : List A) (count i 
       let k : count - i ≡ suc (count - (i + 1)) = omega arith in
       stops_all e (item rest) total failed
       (λ is. let one : behind front (separated close item (count - i) rest) ≡ misspelled = rw (k, is) refl in sym so_far ∙ one)
-      (λ is. let one : behind front (separated close item (count - i) rest) ≡ refused = rw (k, is) refl in sym so_far ∙ one)
-      (λ is. let one : behind front (separated close item (count - i) rest) ≡ too_deep = rw (k, is) refl in sym so_far ∙ one)
+      (λ v is. let one : behind front (separated close item (count - i) rest) ≡ refused v = rw (k, is) refl in sym so_far ∙ one)
+      (λ l is. let one : behind front (separated close item (count - i) rest) ≡ too_deep l = rw (k, is) refl in sym so_far ∙ one)
 
   module _ (x : A) (after : List ℕ) (lt : i < count) (found : item rest ≡ got (x, after)) (so_far : Left) where
     pub separated_ends : (e : Fault) → Fails e (end_at close after) → Stops e total

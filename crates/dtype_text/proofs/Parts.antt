@@ -2,12 +2,11 @@
 -- SPDX-FileCopyrightText: Copyright the Vortex contributors
 
 -- The text of a type, by the text of its part, and the texts of parts in a loop.
-use Rattle.std.proofs.Common.{◌≡◌, ℕ, List, [], ◌∷◌, ◌++◌, codes, refl, sym, ap, subst, ◌∙◌, append_assoc, Bool, arith}
+use Rattle.std.proofs.Common.{◌≡◌, ℕ, List, [], ◌∷◌, ◌++◌, codes, refl, sym, ap, subst, ◌∙◌, append_assoc}
 use Rattle.std.specs.List.{flat_map, join_by}
 use Rattle.std.proofs.lemmas.List.{append-nil}
 use Rattle.dtype_base.specs.declared.nullability.Nullability.{Nullability}
 use Rattle.dtype_base.specs.Nullability.{nullability_text}
-use Rattle.dtype_types.specs.texts.Text.{text}
 use Rattle.dtype_types.specs.tree.TreeOf.{tree, fields_of, variants_of, extension_tree, map_shown}
 use Rattle.dtype_types.proofs.lemmas.TreeLaws.{tree_struct, tree_map, tree_union, tree_extension}
 use Rattle.dtype_types.specs.declared.dtype.DType.{DType, Map, Struct, Union, Extension}

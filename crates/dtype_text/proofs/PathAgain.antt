@@ -2,7 +2,7 @@
 -- SPDX-FileCopyrightText: Copyright the Vortex contributors
 
 -- What is spelled of paths is read, and what is written of a path is spelled.
-use Rattle.std.proofs.Common.{◌≡◌, ℕ, zero, suc, ◌+◌, ◌<◌, ◌≤◌, Bool, true, false, cond, not, ◌||◌, ◌==◌, List, [], ◌∷◌, ◌++◌, length, Some, None, refl, sym, ap, subst, ◌∙◌, append_assoc, arith, inl, inr}
+use Rattle.std.proofs.Common.{◌≡◌, ℕ, zero, suc, ◌+◌, ◌≤◌, Bool, true, false, cond, not, ◌||◌, ◌==◌, List, [], ◌∷◌, ◌++◌, length, Some, None, refl, sym, ap, subst, ◌∙◌, append_assoc, arith, inl, inr}
 use Rattle.std.specs.Prelude.{codes}
 use Rattle.std.specs.List.{AllByRecursion}
 use Rattle.std.proofs.lemmas.Bool.{eq-eqb}
@@ -169,20 +169,20 @@ path_found bytes p h = whole_path_sound bytes p h
 pub path_is : (bytes : List ℕ) (p : List Field) → whole_path_at bytes ≡ Some p → (q : List Field) → StandsForPath q bytes → p ≡ q
 path_is bytes p h q s = some_is p q (sym h ∙ whole_path_again bytes q s)
 
-pub path_fails : (bytes : List ℕ) (f : Fault) (e : TextError) → Fails f (whole_path_at bytes) → Tells f e → (q : List Field) → StandsForPath q bytes → e ≡ error.OutOfMemory
-path_fails bytes fault.Memory e h is q s = is
-path_fails bytes (fault.Refused v) e h is q s = absurd h
-path_fails bytes (fault.TooDeep l) e h is q s = absurd h
-path_fails bytes (fault.Misread l x) e h is q s = let no_ : None ≡ Some q = sym h ∙ whole_path_again bytes q s in absurd cc
+pub path_fails : (bytes text : List ℕ) (f : Fault) (e : TextError) → Fails f (whole_path_at bytes) → Tells text f e → (q : List Field) → StandsForPath q bytes → e ≡ error.OutOfMemory
+path_fails bytes text fault.Memory e h is q s = is
+path_fails bytes text (fault.Refused v) e h is q s = absurd h
+path_fails bytes text (fault.TooDeep l) e h is q s = absurd h
+path_fails bytes text (fault.Misread l x) e h is q s = let no_ : None ≡ Some q = sym h ∙ whole_path_again bytes q s in absurd cc
 
-pub path_error : (bytes : List ℕ) (f : Fault) (e : TextError) → Fails f (whole_path_at bytes) → Tells f e → IsPathError e
-path_error bytes fault.Memory e h is = subst IsPathError (sym is) tt
-path_error bytes (fault.Refused v) e h is = absurd h
-path_error bytes (fault.TooDeep l) e h is = absurd h
-path_error bytes (fault.Misread l x) error.OutOfMemory h is = tt
-path_error bytes (fault.Misread l x) (error.Misread p y z) h is = tt
-path_error bytes (fault.Misread l x) (error.Refused v) h is = absurd is
-path_error bytes (fault.Misread l x) (error.TooDeep p) h is = absurd is
+pub path_error : (bytes text : List ℕ) (f : Fault) (e : TextError) → Fails f (whole_path_at bytes) → Tells text f e → IsPathError e
+path_error bytes text fault.Memory e h is = subst IsPathError (sym is) tt
+path_error bytes text (fault.Refused v) e h is = absurd h
+path_error bytes text (fault.TooDeep l) e h is = absurd h
+path_error bytes text (fault.Misread l x) error.OutOfMemory h is = tt
+path_error bytes text (fault.Misread l x) (error.Misread p y z) h is = tt
+path_error bytes text (fault.Misread l x) (error.Refused v) h is = absurd is
+path_error bytes text (fault.Misread l x) (error.TooDeep p) h is = absurd is
 
 pub ruleset path_results = (path_found, path_is, path_fails, path_error)
 

@@ -2,7 +2,7 @@
 -- SPDX-FileCopyrightText: Copyright the Vortex contributors
 
 -- What is read of paths is what is spelled.
-use Rattle.std.proofs.Common.{◌≡◌, ℕ, zero, suc, ◌+◌, Bool, true, false, cond, not, ◌||◌, ◌==◌, List, [], ◌∷◌, ◌++◌, length, Option, Some, None, refl, sym, ap, subst, ◌∙◌, append_assoc, arith, inl, inr}
+use Rattle.std.proofs.Common.{◌≡◌, ℕ, zero, suc, Bool, true, false, cond, not, ◌||◌, ◌==◌, List, [], ◌∷◌, ◌++◌, length, Option, Some, None, refl, sym, ap, subst, ◌∙◌, append_assoc, arith, inl, inr}
 use Rattle.std.specs.Prelude.{codes}
 use Rattle.std.specs.List.{list_all}
 use Rattle.std.proofs.lemmas.Bool.{eqb-true}
@@ -124,7 +124,7 @@ named_step_takes bytes x e =
       closed false true e f = absurd cc
       closed false false e f = refl
 
-step_takes : (bytes : List ℕ) (x : Field × List ℕ) → step_at bytes ≡ Some x → TakesApart (SpellsStep x.0) bytes x.1
+pub step_takes : (bytes : List ℕ) (x : Field × List ℕ) → step_at bytes ≡ Some x → TakesApart (SpellsStep x.0) bytes x.1
 unfolding step_at element_at
 step_takes [] x e =
     let a = named_step_takes [] x e in

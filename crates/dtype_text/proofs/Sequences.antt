@@ -2,11 +2,12 @@
 -- SPDX-FileCopyrightText: Copyright the Vortex contributors
 
 -- Items with commas between them: those of structs, and those of unions.
-use Rattle.std.proofs.Common.{◌≡◌, ℕ, ◌+◌, ◌<◌, ◌≤◌, max, Bool, true, false, List, [], ◌∷◌, ◌++◌, refl, arith}
+use Rattle.std.proofs.Common.{ℕ, ◌<◌, ◌≤◌, false, List, [], ◌∷◌, arith}
 use Rattle.std.specs.Prelude.{codes}
-use Rattle.dtype_types.specs.tree.Tree.{Tree, Items, Fields, fields, pairs, a_struct, no_items, item}
+use Rattle.dtype_types.specs.tree.Tree.{Tree, Items, fields, pairs, a_struct, no_items, item}
 use Rattle.dtype_types.specs.tree.Valid.{Valid, ValidItems}
-use Rattle.dtype_text.specs.Grammar.{Lang, lit, ◌<>◌, blanks, an_item, Spells, SpellsItems, levels, levels_of_items}
+use Rattle.dtype_text.specs.Grammar.{Lang, lit, ◌<>◌, blanks, SpellsItems, levels, levels_of_items}
+use Rattle.dtype_text.specs.Within.{field_text}
 
 -- what is behind an item, before others
 abbrev pub more_items : {A : Type 0} → List A → Lang → Lang
@@ -35,10 +36,6 @@ behind_comma L P Q f x h =
     (behind blanks P Q f))) x h
 
 -- ---- fields
-
--- the text of a field
-abbrev pub field_text : List ℕ × Tree → Lang
-field_text f = an_item f.0 (lit []) (Spells f.1)
 
 pub fields_spelled : (ps : List (List ℕ × Tree)) (x : List ℕ) → sequence field_text ps x → SpellsItems {h = a_struct} false (fields ps) x
 fields_spelled [] x h = h

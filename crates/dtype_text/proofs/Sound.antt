@@ -2,21 +2,21 @@
 -- SPDX-FileCopyrightText: Copyright the Vortex contributors
 
 -- What is read of a type is spelled so.
-use Rattle.std.proofs.Common.{◌≡◌, ℕ, zero, suc, ◌+◌, ◌<◌, ◌≤◌, max, Bool, true, false, cond, ◌==◌, List, [], ◌∷◌, ◌++◌, length, Option, Some, None, refl, sym, ap, subst, ◌∙◌, append_assoc, arith, inl, inr}
+use Rattle.std.proofs.Common.{◌≡◌, ℕ, zero, suc, ◌<◌, ◌≤◌, Bool, true, false, cond, ◌==◌, List, [], ◌∷◌, ◌++◌, length, Option, Some, None, refl, sym, ap, subst, ◌∙◌, arith, inl, inr}
 use Rattle.std.specs.Prelude.{codes, ◌⊎◌, ℤ, is_some}
 use Rattle.std.specs.Str.{is_utf8}
 use Rattle.std.proofs.lemmas.Bool.{eqb-true}
-use Rattle.std.proofs.lemmas.Bool.Decides.{nat_tests}
 use Rattle.std.proofs.lemmas.Slice.Eq.{bytes_eq-Decides}
 use Rattle.dtype_base.specs.declared.nullability.Nullability.{Nullability}
 use Rattle.dtype_base.specs.declared.nullability.Nullability.TheVariants.{Nullable, NonNullable}
-use Rattle.dtype_base.specs.declared.ptype.PType.{PType}
 use Rattle.dtype_base.specs.declared.ptype.PType.TheVariants as p
 use Rattle.dtype_base.specs.Primitives.{ptype_row}
 use Rattle.dtype_base.specs.Decimals.{IsDecimalWithin}
+use Rattle.dtype_base.specs.declared.vortex_error.VortexError.{VortexError}
+use Rattle.dtype_base.specs.declared.vortex_error.VortexError.TheVariants.{MapKeyNullable}
 use Rattle.dtype_types.specs.tree.Tree as of
 use Rattle.dtype_types.specs.tree.Tree.{Tree, Fields, fields, no_items, item, a_struct, a_union}
-use Rattle.dtype_types.specs.tree.Valid.{Valid, ValidItems}
+use Rattle.dtype_types.specs.tree.Valid.{Valid}
 use Rattle.dtype_types.specs.tree.Tree.{triples}
 use Rattle.dtype_types.specs.parts.Lookups.{variant_tags}
 use Rattle.dtype_types.specs.parts.Unions.{AreConsecutive}
@@ -28,15 +28,16 @@ use Rattle.dtype_text.specs.Bare.{is_id_byte, is_bare_id}
 use Rattle.dtype_text.specs.Read.{byte_at}
 use Rattle.dtype_text.specs.Outcome.{Outcome, got, misspelled, refused, too_deep, said, ◌>>=◌}
 use Rattle.dtype_text.specs.Leaves.{front, past, skipped, nullability_at, number_at, text_at, name_at, equals_at, comma_at, tag_at, signed_at, word_is, bool_at, metadata_at, quoted_at}
-use Rattle.dtype_text.specs.TypeParts.{is_text, keyword_of, keyword_of_bytes, keyword_at, size_at, ending, end_in, end_at, decimal_parts, is_decimal, a_decimal, is_nonnullable, keys_sorted_at}
+use Rattle.dtype_text.specs.TypeParts.{is_text, keyword_of, keyword_of_bytes, keyword_at, size_at, end_in, end_at, decimal_parts, is_decimal, decimal_error, a_decimal, is_nonnullable, keys_sorted_at}
 use Rattle.dtype_text.specs.Unions.{union_at}
-use Rattle.dtype_text.specs.Types.{Reader, marked, null_unless, null_at, wrapped_by, list_by, fixed_by, go_on, separated, items_or, items_by, field_by, struct_by, variant_by, union_by, decimal_at, map_by, extension_by, bare_extension_by, quoted_extension_by, after_keyword, keyword_by, word_by, type_by, part_at}
-use Rattle.dtype_text.specs.Grammar.{decimal_parts as d_parts, sorted_part, signed, metadata, ident, Lang, lit, ◌<>◌, blanks, spaced, number, mark, named, in_parentheses, tag_part, an_item, and_more, Spells, SpellsItems, levels, levels_of_items}
-use Rattle.dtype_text.proofs.Words.{bind_some, some_is, test_some, both, Takes, takes_then, takes_none, front_all, front_past, byte_takes, skipped_takes}
-use Rattle.dtype_text.proofs.LeavesSound.{nullability_takes, number_takes, name_takes, equals_takes, comma_takes, tag_text, tag_takes, signed_takes, word_takes as keys_takes, bool_takes, metadata_takes, metadata_bytes, quoted_takes}
+use Rattle.dtype_text.specs.Types.{Reader, marked, null_unless, null_at, wrapped_by, list_by, fixed_by, go_on, separated, items_by, field_by, struct_by, variant_by, union_by, decimal_at, map_by, extension_by, bare_extension_by, quoted_extension_by, after_keyword, keyword_by, word_by, type_by, part_at}
+use Rattle.dtype_text.specs.Grammar.{decimal_parts as d_parts, sorted_part, signed, metadata, ident, Lang, lit, ◌<>◌, blanks, spaced, number, mark, named, in_parentheses, an_item, Spells, SpellsItems, levels}
+use Rattle.dtype_text.specs.Within.{tag_text, variant_text}
+use Rattle.dtype_text.proofs.Words.{bind_some, some_is, test_some, Takes, takes_then, takes_none, front_past, byte_takes, skipped_takes}
+use Rattle.dtype_text.proofs.LeavesSound.{nullability_takes, number_takes, name_takes, equals_takes, comma_takes, tag_takes, signed_takes, word_takes as keys_takes, bool_takes, metadata_takes, metadata_bytes, quoted_takes}
 use Rattle.dtype_text.proofs.TypeFacts.{decimal_within}
 use Rattle.dtype_text.proofs.Sequences.{sequence, fields_spelled, Good, good_fields}
-use Rattle.dtype_text.proofs.UnionFacts.{variant_text, union_spelled}
+use Rattle.dtype_text.proofs.UnionFacts.{union_spelled}
 
 -- what reads types soundly, of less than so many levels
 abbrev pub IsSound : ℕ → Reader Tree → Type 0
@@ -46,8 +47,8 @@ IsSound deep part = (bytes : List ℕ) (x : Tree × List ℕ) → part bytes ≡
 pub bind_got : {A B : Type 0} (r : Outcome A) (f : A → Outcome B) (y : B) → (r >>= f) ≡ got y → (x : A) × (r ≡ got x) × (f x ≡ got y)
 bind_got (got x) f y e = (x, refl, e)
 bind_got misspelled f y e = absurd cc
-bind_got refused f y e = absurd cc
-bind_got too_deep f y e = absurd cc
+bind_got (refused v) f y e = absurd cc
+bind_got (too_deep l) f y e = absurd cc
 
 pub bind_said : {A B : Type 0} (r : Option A) (f : A → Outcome B) (y : B) → (said r >>= f) ≡ got y → (x : A) × (r ≡ Some x) × (f x ≡ got y)
 bind_said (Some x) f y e = (x, refl, e)
@@ -127,9 +128,9 @@ test_passed : {A : Type 0} (b : Bool) (r : Outcome A) (y : A) → cond b r missp
 test_passed true r y e = (refl, e)
 test_passed false r y e = absurd cc
 
-not_refused : {A : Type 0} (b : Bool) (r : Outcome A) (y : A) → cond b r refused ≡ got y → (b ≡ true) × (r ≡ got y)
-not_refused true r y e = (refl, e)
-not_refused false r y e = absurd cc
+not_refused : {A : Type 0} (b : Bool) (r : Outcome A) (v : VortexError) (y : A) → cond b r (refused v) ≡ got y → (b ≡ true) × (r ≡ got y)
+not_refused true r v y e = (refl, e)
+not_refused false r v y e = absurd cc
 
 nonnull : (n : Nullability) → is_nonnullable n ≡ true → n ≡ NonNullable
 nonnull NonNullable e = refl
@@ -143,7 +144,7 @@ null_is bytes x e = split (byte_at 63 bytes) refl where
   split None is = got_is (of.null, bytes) x (rw is at e)
 
 -- what ends an item: the closing byte, or a comma, behind blanks
-end_in_sound : (close : ℕ) (bytes : List ℕ) (x : Bool × List ℕ) → end_in close bytes ≡ Some x
+pub end_in_sound : (close : ℕ) (bytes : List ℕ) (x : Bool × List ℕ) → end_in close bytes ≡ Some x
     → ((x.0 ≡ true) × (bytes ≡ close ∷ x.1)) ⊎ ((x.0 ≡ false) × (c : List ℕ) × (bytes ≡ 44 ∷ c) × (x.1 ≡ skipped c))
 end_in_sound close [] x e = absurd cc
 end_in_sound close (b ∷ bytes) x e = split (b == close) refl where
@@ -343,7 +344,7 @@ module _ (deep : ℕ) (part : Reader Tree) (sound : IsSound deep part) where
       let all = takes_then (lit (codes "union")) ((lit (codes "(") <> (blanks <> (U <> lit (codes ")")))) <> mark m.0) (codes "union" ++ bytes) bytes x.1 (record { text = codes "union"; spelled = refl; parts = refl }) marked_ in
       subst (λ (t : Tree). Takes (Spells t) (codes "union" ++ bytes) x.1 × (levels t ≤ deep) × Valid t) m.1 (all, u.1, u.2)
 
-  decimal_parts_take : (bytes : List ℕ) (x : (ℕ × ℤ) × List ℕ) → decimal_parts bytes ≡ Some x → Takes (d_parts x.0.0 x.0.1) bytes x.1
+  pub decimal_parts_take : (bytes : List ℕ) (x : (ℕ × ℤ) × List ℕ) → decimal_parts bytes ≡ Some x → Takes (d_parts x.0.0 x.0.1) bytes x.1
   unfolding decimal_parts
   decimal_parts_take bytes x e =
       let a = bind_some (byte_at 40 bytes) _ x e in
@@ -367,11 +368,11 @@ module _ (deep : ℕ) (part : Reader Tree) (sound : IsSound deep part) where
       let a = bind_said (decimal_parts bytes) _ x e in
       let p = a.0.0.0 in
       let z = a.0.0.1 in
-      let b = not_refused (is_decimal p z) (marked (λ n. of.decimal (a_decimal p z) n) a.0.1) x a.2 in
+      let b = not_refused (is_decimal p z) (marked (λ n. of.decimal (a_decimal p z) n) a.0.1) (decimal_error p z) x a.2 in
       let m = marked_takes (λ n. of.decimal (a_decimal p z) n) a.0.1 x b.1 in
       (p, z, m.0, m.1, takes_then (d_parts p z) (mark m.0) bytes a.0.1 x.1 (decimal_parts_take bytes a.0 a.1) m.2, decimal_within p z b.0)
 
-  sorted_takes : (bytes : List ℕ) (x : Bool × List ℕ) → keys_sorted_at bytes ≡ Some x → Takes (sorted_part x.0) bytes x.1
+  pub sorted_takes : (bytes : List ℕ) (x : Bool × List ℕ) → keys_sorted_at bytes ≡ Some x → Takes (sorted_part x.0) bytes x.1
   unfolding keys_sorted_at
   sorted_takes bytes x e =
       let a = bind_some (comma_at bytes) _ x e in
@@ -398,7 +399,7 @@ module _ (deep : ℕ) (part : Reader Tree) (sound : IsSound deep part) where
       let c = bind_said (comma_at b.0.1) _ x b.2 in
       let d = bind_got (part c.0) _ x c.2 in
       let f = bind_said (keys_sorted_at d.0.1) _ x d.2 in
-      let g = not_refused (is_nonnullable (nullability b.0.0)) (marked (λ n. of.map_of b.0.0 d.0.0 f.0.0 n) f.0.1) x f.2 in
+      let g = not_refused (is_nonnullable (nullability b.0.0)) (marked (λ n. of.map_of b.0.0 d.0.0 f.0.0 n) f.0.1) MapKeyNullable x f.2 in
       let m = marked_takes (λ n. of.map_of b.0.0 d.0.0 f.0.0 n) f.0.1 x g.1 in
       let s = sound (skipped a.0) b.0 b.1 in
       let t = sound c.0 d.0 d.1 in

@@ -2,10 +2,9 @@
 -- SPDX-FileCopyrightText: Copyright the Vortex contributors
 
 -- Variants, with their tags or with none.
-use Rattle.std.proofs.Common.{◌≡◌, ◌≢◌, ℕ, suc, ◌+◌, ◌<◌, ◌≤◌, max, Bool, true, false, cond, not, ◌&&◌, ◌==◌, List, [], ◌∷◌, ◌++◌, length, Option, Some, None, refl, sym, ap, subst, ◌∙◌, arith, inl, inr}
-use Rattle.std.specs.Prelude.{codes, ◌⊎◌, nat_lt, nat_eq, map}
-use Rattle.std.specs.Bool.{Decides}
-use Rattle.std.specs.List.{list_any, list_all, range_with_len, All, AllByRecursion, IsDistinct, zip}
+use Rattle.std.proofs.Common.{◌≡◌, ℕ, suc, ◌<◌, ◌≤◌, Bool, true, false, cond, not, ◌&&◌, ◌==◌, List, [], ◌∷◌, ◌++◌, length, Option, Some, None, refl, sym, ap, subst, ◌∙◌, arith, inl, inr}
+use Rattle.std.specs.Prelude.{◌⊎◌, nat_lt, nat_eq, map}
+use Rattle.std.specs.List.{list_any, list_all, range_with_len, AllByRecursion, IsDistinct, zip}
 use Rattle.std.specs.Str.{bytes_eq}
 use Rattle.std.proofs.lemmas.Bool.{eqb-true, eq-eqb}
 use Rattle.std.proofs.lemmas.Bool.Decides.{nat_tests, Decides-eqb}
@@ -14,16 +13,15 @@ use Rattle.std.proofs.lemmas.List.{length-map, map_push, append-nil}
 use Rattle.std.proofs.lemmas.List.Elements.{All-from_recursion, recursion_from_All}
 use Rattle.std.proofs.lemmas.List.FromFn.{length-range_with_len, get_or-range_with_len}
 use Rattle.std.proofs.lemmas.Map.Made.{AllPairs-from_IsDistinct, IsDistinct-from_AllPairs}
-use Rattle.std.proofs.lemmas.Map.Keys.{IsDistinct-head, IsDistinct-tail, IsDistinct-cons}
+use Rattle.std.proofs.lemmas.Map.Keys.{IsDistinct-head, IsDistinct-tail}
 use Rattle.dtype_base.specs.Bytes.{Bytes}
-use Rattle.dtype_base.specs.Distinct.{Distinct}
-use Rattle.dtype_types.specs.tree.Tree.{Tree, Items, Variants, variants, triples, a_union, no_items, item}
+use Rattle.dtype_types.specs.tree.Tree.{Tree, Variants, variants, triples, a_union, no_items, item}
 use Rattle.dtype_types.specs.tree.Valid.{Valid, ValidItems}
 use Rattle.dtype_types.specs.parts.Lookups.{variant_names, variant_tags}
 use Rattle.dtype_types.specs.parts.Unions.{AreConsecutive, AreVariants, MakesUnion}
 use Rattle.dtype_types.proofs.lemmas.TreeLaws.{triples_variants}
 use Rattle.dtype_base.specs.declared.vortex_error.VortexError.{VortexError}
-use Rattle.dtype_base.specs.declared.vortex_error.VortexError.TheVariants.{OutOfMemory, UnionTypesLength, UnionTagsLength, UnionEmpty, UnionTagsRepeat, UnionNamesRepeat}
+use Rattle.dtype_base.specs.declared.vortex_error.VortexError.TheVariants.{OutOfMemory, UnionTypesLength, UnionTagsLength, UnionEmpty, UnionTooMany, UnionTagsRepeat, UnionNamesRepeat}
 use Rattle.dtype_types.specs.declared.dtype.DType.{DType}
 use Rattle.dtype_types.specs.declared.union_variants.UnionVariants.{UnionVariants}
 use Rattle.dtype_types.specs.tree.TreeOf.{tree, variant_list, variants_of}
@@ -32,12 +30,14 @@ use Rattle.dtype_text.specs.declared.fault.Fault.{Fault}
 use Rattle.dtype_text.specs.declared.unions.Variant.{Variant}
 use Rattle.dtype_text.specs.Read.{IsMemory}
 use Rattle.dtype_text.specs.Views.{read_variant, read_variants}
-use Rattle.dtype_text.specs.Outcome.{Outcome, got, misspelled, refused, too_deep, Answers, Stops}
-use Rattle.dtype_text.specs.Unions.{differ, is_empty, makes_union, made_union, written_tags, tagged, union_at}
+use Rattle.dtype_text.specs.Outcome.{Outcome, got, misspelled, refused, Answers, Stops}
+use Rattle.dtype_text.specs.Unions.{differ, is_empty, makes_union, union_error, made_union, written_tags, tagged, union_at}
 use Rattle.dtype_text.specs.Chosen.{chosen}
-use Rattle.dtype_text.specs.Grammar.{Lang, lit, ◌<>◌, blanks, an_item, Spells, SpellsItems, levels, levels_of_items}
+use Rattle.dtype_text.specs.Grammar.{Lang, SpellsItems, RefusesVariants, levels, levels_of_items}
 use Rattle.dtype_text.proofs.Words.{both}
-use Rattle.dtype_text.proofs.LeavesSound.{tag_text}
+use Rattle.dtype_text.proofs.TypeFacts.{false_unless}
+use Rattle.dtype_text.specs.Within.{variant_text}
+use Rattle.dtype_text.proofs.Ends.{Stop, refusal, depth, Ends}
 use Rattle.dtype_text.proofs.Sequences.{sequence, Good, behind_comma}
 
 -- ---- which variants make a union
@@ -108,19 +108,97 @@ makes_test (u ∷ us) h =
     let c : differ bytes_eq ns ≡ true = distinct_differ bytes_eq ns (IsDistinct-from_AllPairs bytes_eq-Decides ns h.0.2) in
     rw (a, b, c) refl
 
+-- the error of variants that make no union
+error_has : (us : List (List ℕ × (Tree × ℕ))) → makes_union us ≡ false
+    → (Bytes (variant_tags us) × UnionError (variant_names us) (length us) (variant_tags us) (union_error us)) ⊎ ((Bytes (variant_tags us) → ⊥) × (union_error us ≡ UnionTooMany))
+unfolding union_error
+error_has [] none = inl (All-from_recursion (λ g. g < 256) [] tt, (refl, refl, refl))
+error_has (u ∷ us) none = small (list_all (λ g. nat_lt g 256) gs) refl where
+  gs : List ℕ
+  gs = variant_tags (u ∷ us)
+
+  ns : List (List ℕ)
+  ns = variant_names (u ∷ us)
+
+  names : length ns ≡ length (u ∷ us)
+  names = length-map (u ∷ us) (λ v. v.0)
+
+  tags : length gs ≡ length (u ∷ us)
+  tags = length-map (u ∷ us) (λ v. v.1.1)
+
+  Goal : Type 0
+  Goal = (Bytes gs × UnionError ns (length (u ∷ us)) gs (union_error (u ∷ us))) ⊎ ((Bytes gs → ⊥) × (union_error (u ∷ us) ≡ UnionTooMany))
+
+  named : (c : Bool) → differ bytes_eq ns ≡ c → list_all (λ g. nat_lt g 256) gs ≡ true → differ nat_eq gs ≡ true → Goal
+  named true t s d = let clash : true ≡ false = sym (rw (s, d, t) refl) ∙ none in absurd cc
+  named false t s d =
+      rw (s, d)
+      (inl (
+        All-from_recursion (λ g. g < 256) gs (bytes_of gs s),
+        (
+          (names, names ∙ sym tags, λ no_. cc),
+          AllPairs-from_IsDistinct Decides-eqb gs (differ_distinct nat_eq gs d),
+          λ all. let clash : true ≡ false = sym (distinct_differ bytes_eq ns (IsDistinct-from_AllPairs bytes_eq-Decides ns all)) ∙ t in absurd cc,
+        ),
+      ))
+
+  tagged_apart : (c : Bool) → differ nat_eq gs ≡ c → list_all (λ g. nat_lt g 256) gs ≡ true → Goal
+  tagged_apart true t s = named (differ bytes_eq ns) refl s t
+  tagged_apart false t s =
+      rw (s, t)
+      (inl (
+        All-from_recursion (λ g. g < 256) gs (bytes_of gs s),
+        (
+          (names, names ∙ sym tags, λ no_. cc),
+          λ all. let clash : true ≡ false = sym (distinct_differ nat_eq gs (IsDistinct-from_AllPairs Decides-eqb gs all)) ∙ t in absurd cc,
+        ),
+      ))
+
+  small : (c : Bool) → list_all (λ g. nat_lt g 256) gs ≡ c → Goal
+  small true t = tagged_apart (differ nat_eq gs) refl t
+  small false t = rw t (inr (λ bytes. let clash : true ≡ false = sym (of_bytes gs (recursion_from_All (λ g. g < 256) gs bytes)) ∙ t in absurd cc, refl))
+
+-- the error that the library returns is that one
+error_of : (us : List (List ℕ × (Tree × ℕ))) (v : VortexError) → Bytes (variant_tags us) → UnionError (variant_names us) (length us) (variant_tags us) v → union_error us ≡ v
+unfolding union_error
+error_of [] UnionTypesLength bytes h = absurd (h refl)
+error_of [] UnionTagsLength bytes h = absurd (h.1 refl)
+error_of [] UnionEmpty bytes h = refl
+error_of [] UnionTagsRepeat bytes h = absurd (h.0.2 refl)
+error_of [] UnionNamesRepeat bytes h = absurd (h.0.2 refl)
+error_of [] _ bytes h = absurd h
+error_of (u ∷ us) UnionTypesLength bytes h = absurd (h (length-map (u ∷ us) (λ v. v.0)))
+error_of (u ∷ us) UnionTagsLength bytes h = absurd (h.1 (length-map (u ∷ us) (λ v. v.0) ∙ sym (length-map (u ∷ us) (λ v. v.1.1))))
+error_of (u ∷ us) UnionEmpty bytes h = absurd cc
+error_of (u ∷ us) UnionTagsRepeat bytes h =
+    let gs = variant_tags (u ∷ us) in
+    let a : list_all (λ g. nat_lt g 256) gs ≡ true = of_bytes gs (recursion_from_All (λ g. g < 256) gs bytes) in
+    let b : differ nat_eq gs ≡ false = false_unless (differ nat_eq gs) (λ d. h.1 (AllPairs-from_IsDistinct Decides-eqb gs (differ_distinct nat_eq gs d))) in
+    rw (a, b) refl
+error_of (u ∷ us) UnionNamesRepeat bytes h =
+    let gs = variant_tags (u ∷ us) in
+    let a : list_all (λ g. nat_lt g 256) gs ≡ true = of_bytes gs (recursion_from_All (λ g. g < 256) gs bytes) in
+    let b : differ nat_eq gs ≡ true = distinct_differ nat_eq gs (IsDistinct-from_AllPairs Decides-eqb gs h.1) in
+    rw (a, b) refl
+error_of (u ∷ us) _ bytes h = absurd h
+
+too_many_of : (us : List (List ℕ × (Tree × ℕ))) → (Bytes (variant_tags us) → ⊥) → union_error us ≡ UnionTooMany
+unfolding union_error
+too_many_of [] h = absurd (h (All-from_recursion (λ g. g < 256) [] tt))
+too_many_of (u ∷ us) h =
+    let gs = variant_tags (u ∷ us) in
+    let a : list_all (λ g. nat_lt g 256) gs ≡ false = false_unless (list_all (λ g. nat_lt g 256) gs) (λ t. h (All-from_recursion (λ g. g < 256) gs (bytes_of gs t))) in
+    rw a refl
+
 -- the variants that are made, or that none are
 pub made_is : (us : List (List ℕ × (Tree × ℕ))) (made : Variants) → made_union us ≡ got made → (variants us ≡ made) × Makes_union us
 unfolding made_union
 made_is us made e = split (makes_union us) refl where
   split : (b : Bool) → makes_union us ≡ b → (variants us ≡ made) × Makes_union us
   split true t = (let is : got (variants us) ≡ got made = rw t at e in cc, test_makes us t)
-  split false t = let is : refused ≡ got made = rw t at e in absurd cc
+  split false t = let is : refused (union_error us) ≡ got made = rw t at e in absurd cc
 
 -- ---- the texts of variants
-
--- the text of a variant, with its tag if that is written
-abbrev pub variant_text : List ℕ × (Tree × Option ℕ) → Lang
-variant_text v = an_item v.0 (tag_text v.1.1) (Spells v.1.0)
 
 abbrev Read : Type 0
 Read = List ℕ × (Tree × Option ℕ)
@@ -171,6 +249,14 @@ are_variants : (us : List (List ℕ × (Tree × ℕ))) → Makes_union us → Ar
 unfolding AreVariants
 are_variants us h = subst (λ (ts : List (List ℕ × (Tree × ℕ))). Makes_union ts) (sym (triples_variants us)) h
 
+-- the tags of variants without tags
+counted_tags : (vs : List Read) → AreConsecutive (variant_tags (triples (variants (tagged vs (range_with_len 0 (length vs))))))
+counted_tags vs =
+    let tags = range_with_len 0 (length vs) in
+    let len : length tags ≡ length vs = length-range_with_len 0 (length vs) in
+    let are : variant_tags (triples (variants (tagged vs tags))) ≡ tags = ap variant_tags (triples_variants (tagged vs tags)) ∙ tags_tagged vs tags len in
+    are ∙ ap (range_with_len 0) (sym (ap length are ∙ len))
+
 pub union_spelled : (deep : ℕ) (vs : List Read) (made : Variants) → union_at vs ≡ got made → Good (λ v. (levels v.1.0 < deep) × Valid v.1.0) vs → (x : List ℕ) → sequence variant_text vs x → Union_is deep made x
 unfolding union_at
 union_spelled deep vs made e good x h = split (is_empty (written_tags vs)) refl where
@@ -190,9 +276,42 @@ union_spelled deep vs made e good x h = split (is_empty (written_tags vs)) refl 
   split true t =
       let tags = range_with_len 0 (length vs) in
       let len : length tags ≡ length vs = length-range_with_len 0 (length vs) in
-      let are : variant_tags (triples (variants (tagged vs tags))) ≡ tags = ap variant_tags (triples_variants (tagged vs tags)) ∙ tags_tagged vs tags len in
-      let consecutive : AreConsecutive (variant_tags (triples (variants (tagged vs tags)))) = are ∙ ap (range_with_len 0) (sym (ap length are ∙ len)) in
-      with_tags tags len (rw t at e) (inr (consecutive, untagged_spelled vs tags t len x h))
+      with_tags tags len (rw t at e) (inr (counted_tags vs, untagged_spelled vs tags t len x h))
+  split false t = all_tagged (length (written_tags vs) == length vs) refl t
+
+-- ---- variants that make no union
+
+-- a union of these texts is refused, and never too deep
+pub record RefusedUnion (x : List ℕ) (e : VortexError) : Type 0 where
+  pub made : Variants
+  pub spelled : SpellsVariants made x
+  pub refuses : RefusesVariants made e
+
+abbrev pub StopsUnion : List ℕ → Stop → Type 0
+StopsUnion x (refusal e) = RefusedUnion x e
+StopsUnion x (depth l) = ⊥
+
+made_ends : (us : List (List ℕ × (Tree × ℕ))) (x : List ℕ) → SpellsVariants (variants us) x → Ends (StopsUnion x) (made_union us)
+unfolding made_union
+made_ends us x s = split (makes_union us) refl where
+  Has : List (List ℕ × (Tree × ℕ)) → Type 0
+  Has ts = (Bytes (variant_tags ts) × UnionError (variant_names ts) (length ts) (variant_tags ts) (union_error us)) ⊎ ((Bytes (variant_tags ts) → ⊥) × (union_error us ≡ UnionTooMany))
+
+  split : (b : Bool) → makes_union us ≡ b → Ends (StopsUnion x) (made_union us)
+  split true t = rw t tt
+  split false t = rw t (record { made = variants us; spelled = s; refuses = subst Has (sym (triples_variants us)) (error_has us t) })
+
+pub union_ends : (vs : List Read) (x : List ℕ) → sequence variant_text vs x → Ends (StopsUnion x) (union_at vs)
+unfolding union_at
+union_ends vs x h = split (is_empty (written_tags vs)) refl where
+  all_tagged : (b : Bool) → (length (written_tags vs) == length vs) ≡ b → is_empty (written_tags vs) ≡ false → Ends (StopsUnion x) (union_at vs)
+  all_tagged true t f = rw (f, t) (made_ends (tagged vs (written_tags vs)) x (inl (tagged_spelled vs (eqb-true (length (written_tags vs)) (length vs) t) x h)))
+  all_tagged false t f = rw (f, t) tt
+
+  split : (b : Bool) → is_empty (written_tags vs) ≡ b → Ends (StopsUnion x) (union_at vs)
+  split true t =
+      let tags = range_with_len 0 (length vs) in
+      rw t (made_ends (tagged vs tags) x (inr (counted_tags vs, untagged_spelled vs tags t (length-range_with_len 0 (length vs)) x h)))
   split false t = all_tagged (length (written_tags vs) == length vs) refl t
 
 -- ---- the variants of a union, as they are read
@@ -239,14 +358,14 @@ variants_triples (item n t g us) = ap (λ (ws : Variants). item n t g ws) (varia
 
 -- the union is made, or refused if the variants make none
 abbrev Answers_union : Variants → Outcome Variants → Type 0
-Answers_union us r = Answers us (AreVariants us) 0 0 r
+Answers_union us r = Answers us (AreVariants us) (RefusesVariants us) 0 0 r
 
 made_again : (us : Variants) → Answers_union us (made_union (triples us))
 unfolding made_union AreVariants
 made_again us = split (makes_union (triples us)) refl where
   split : (b : Bool) → makes_union (triples us) ≡ b → Answers_union us (made_union (triples us))
   split true t = rw t (variants_triples us, test_makes (triples us) t, omega arith)
-  split false t = rw t (λ h. let clash : false ≡ true = sym t ∙ makes_test (triples us) h in absurd cc)
+  split false t = rw t (λ h. let clash : false ≡ true = sym t ∙ makes_test (triples us) h in absurd cc, error_has (triples us) t)
 
 pub untagged_again : (us : Variants) → AreConsecutive (variant_tags (triples us)) → Answers_union us (union_at (as_read false us))
 unfolding union_at
@@ -310,15 +429,26 @@ pub made_of : (u : UnionVariants) (us : List (List ℕ × (Tree × ℕ))) → va
 unfolding made_union
 made_of u us e h = rw (makes_test us h) (ap (λ (ws : List (List ℕ × (Tree × ℕ))). got (variants ws)) (sym e))
 
-refused_if : (us : List (List ℕ × (Tree × ℕ))) → (Makes_union us → ⊥) → made_union us ≡ refused
+refused_if : (us : List (List ℕ × (Tree × ℕ))) (v : VortexError) → (Makes_union us → ⊥) → union_error us ≡ v → made_union us ≡ refused v
 unfolding made_union
-refused_if us h = split (makes_union us) refl where
-  split : (b : Bool) → makes_union us ≡ b → made_union us ≡ refused
+refused_if us v h e = split (makes_union us) refl where
+  split : (b : Bool) → makes_union us ≡ b → made_union us ≡ refused v
   split true t = absurd (h (test_makes us t))
-  split false t = rw t refl
+  split false t = rw (t, e) refl
 
-pub refused_of : (ns : List (List ℕ)) (ts : List Tree) (gs : List ℕ) (v : VortexError) → length ns ≡ length ts → length ns ≡ length gs → UnionError ns (length ts) gs v → made_union (zip ns (zip ts gs)) ≡ refused
-refused_of ns ts gs v e f h = refused_if (zip ns (zip ts gs)) (λ m. contrary v h (makes_zipped ns ts gs e f m).0) where
+zipped_error : (ns : List (List ℕ)) (ts : List Tree) (gs : List ℕ) (v : VortexError) → length ns ≡ length ts → length ns ≡ length gs → Bytes gs → UnionError ns (length ts) gs v → union_error (zip ns (zip ts gs)) ≡ v
+zipped_error ns ts gs v e f bytes h =
+    let us = zip ns (zip ts gs) in
+    let names = zip_names ns ts gs e f in
+    let tags = zip_tags ns ts gs e f in
+    let len : length us ≡ length ts = sym (length-map us (λ v. v.0)) ∙ ap (λ (ms : List (List ℕ)). length ms) names ∙ e in
+    error_of us v (subst Bytes (sym tags) bytes)
+    (subst (λ (hs : List ℕ). UnionError (variant_names us) (length us) hs v) (sym tags)
+    (subst (λ (ms : List (List ℕ)). UnionError ms (length us) gs v) (sym names)
+    (subst (λ (k : ℕ). UnionError ns k gs v) (sym len) h)))
+
+pub refused_of : (ns : List (List ℕ)) (ts : List Tree) (gs : List ℕ) (v : VortexError) → length ns ≡ length ts → length ns ≡ length gs → Bytes gs → UnionError ns (length ts) gs v → made_union (zip ns (zip ts gs)) ≡ refused v
+refused_of ns ts gs v e f bytes h = refused_if (zip ns (zip ts gs)) v (λ m. contrary v h (makes_zipped ns ts gs e f m).0) (zipped_error ns ts gs v e f bytes h) where
   contrary : (v : VortexError) → UnionError ns (length ts) gs v → MakesUnion ns (length ts) gs → ⊥
   contrary UnionTypesLength h m = h e
   contrary UnionTagsLength h m = h.1 f
@@ -328,12 +458,12 @@ refused_of ns ts gs v e f h = refused_if (zip ns (zip ts gs)) (λ m. contrary v 
   contrary _ h m = h
 
 -- the error of the library, as a fault
-stops_as : (v : VortexError) (f : Fault) (r : Outcome Variants) → IsMemory v f → ((v ≡ OutOfMemory) ⊎ (r ≡ refused)) → Stops f r
+stops_as : (v : VortexError) (f : Fault) (r : Outcome Variants) → IsMemory v f → ((v ≡ OutOfMemory) ⊎ (r ≡ refused v)) → Stops f r
 stops_as v f r is h = elim h [
   | inl m ↦ subst (λ (g : Fault). Stops g r) (sym (subst (λ (w : VortexError). IsMemory w f) m is)) tt
   | inr no_ ↦ other v is no_
 ] where
-  other : (v : VortexError) → IsMemory v f → r ≡ refused → Stops f r
+  other : (v : VortexError) → IsMemory v f → r ≡ refused v → Stops f r
   other OutOfMemory is h = subst (λ (g : Fault). Stops g r) (sym is) tt
   other _ is h = subst (λ (g : Fault). Stops g r) (sym is) h
 
@@ -359,14 +489,14 @@ made_tagged u ns ds gs e f is made bytes =
     let len : length (map tree ds) ≡ length ds = length-map ds tree in
     made_of u (zip ns (zip (map tree ds) gs)) is (zipped_makes ns (map tree ds) gs (e ∙ sym len) f (subst (λ (k : ℕ). MakesUnion ns k gs) (sym len) made) bytes)
 
-pub refused_tagged : (ns : List (List ℕ)) (ds : List DType) (gs : List ℕ) (v : VortexError) (f : Fault) → length ns ≡ length ds → length ns ≡ length gs → IsMemory v f
+pub refused_tagged : (ns : List (List ℕ)) (ds : List DType) (gs : List ℕ) (v : VortexError) (f : Fault) → length ns ≡ length ds → length ns ≡ length gs → Bytes gs → IsMemory v f
     → ((v ≡ OutOfMemory) × HasUnionLengths ns (length ds) gs) ⊎ UnionError ns (length ds) gs v → Stops f (made_union (zip ns (zip (map tree ds) gs)))
-refused_tagged ns ds gs v f e g is h =
+refused_tagged ns ds gs v f e g bytes is h =
     let len : length (map tree ds) ≡ length ds = length-map ds tree in
     stops_as v f (made_union (zip ns (zip (map tree ds) gs))) is
     (elim h [
       | inl m ↦ inl m.0
-      | inr no_ ↦ inr (refused_of ns (map tree ds) gs v (e ∙ sym len) g (subst (λ (k : ℕ). UnionError ns k gs v) (sym len) no_))
+      | inr no_ ↦ inr (refused_of ns (map tree ds) gs v (e ∙ sym len) g bytes (subst (λ (k : ℕ). UnionError ns k gs v) (sym len) no_))
     ])
 
 -- what `new` returns
@@ -377,18 +507,22 @@ made_untagged u ns ds e is made few =
       at_most : (256 < length ns → ⊥) → length ns ≤ 256
       at_most few = grind (arith, few)
 
-pub refused_untagged : (ns : List (List ℕ)) (ds : List DType) (v : VortexError) (f : Fault) → length ns ≡ length ds → IsMemory v f → (length ns ≤ 256 → (v ≡ OutOfMemory) ⊎ UnionError ns (length ds) (range_with_len 0 (length ns)) v)
+pub refused_untagged : (ns : List (List ℕ)) (ds : List DType) (v : VortexError) (f : Fault) → length ns ≡ length ds → IsMemory v f → (256 < length ns → v ≡ UnionTooMany) → (length ns ≤ 256 → (v ≡ OutOfMemory) ⊎ UnionError ns (length ds) (range_with_len 0 (length ns)) v)
     → Stops f (made_union (zip ns (zip (map tree ds) (range_with_len 0 (length ns)))))
-refused_untagged ns ds v f e is h =
+refused_untagged ns ds v f e is too_many h =
     let gs = range_with_len 0 (length ns) in
     let len : length (map tree ds) ≡ length ds = length-map ds tree in
     let tags : length ns ≡ length gs = sym (length-range_with_len 0 (length ns)) in
     stops_as v f (made_union (zip ns (zip (map tree ds) gs))) is
     (elim (le_or_lt (length ns) 256) [
-      | inr many ↦ inr (refused_if (zip ns (zip (map tree ds) gs)) (λ m. absurd (omega (arith, many, consecutive_small (length ns) (makes_zipped ns (map tree ds) gs (e ∙ sym len) tags m).1))))
+      | inr many ↦
+          let us = zip ns (zip (map tree ds) gs) in
+          let no_bytes : Bytes gs → ⊥ = λ bytes. absurd (omega (arith, many, consecutive_small (length ns) bytes)) in
+          inr (refused_if us v (λ m. no_bytes (makes_zipped ns (map tree ds) gs (e ∙ sym len) tags m).1)
+          (too_many_of us (λ bytes. no_bytes (subst Bytes (zip_tags ns (map tree ds) gs (e ∙ sym len) tags) bytes)) ∙ sym (too_many many)))
       | inl few ↦ elim (h few) [
         | inl m ↦ inl m
-        | inr no_ ↦ inr (refused_of ns (map tree ds) gs v (e ∙ sym len) tags (subst (λ (k : ℕ). UnionError ns k gs v) (sym len) no_))
+        | inr no_ ↦ inr (refused_of ns (map tree ds) gs v (e ∙ sym len) tags (consecutive_bytes (length ns) few) (subst (λ (k : ℕ). UnionError ns k gs v) (sym len) no_))
       ]
     ])
 

@@ -10,6 +10,7 @@ use Rattle.std.proofs.lemmas.List.Sums.{take_while-cons}
 use Rattle.std.proofs.lemmas.Bool.{eqb-true, eq-eqb}
 use Rattle.dtype_text.specs.Read.{◌>>=◌, byte_at}
 use Rattle.dtype_text.specs.Leaves.{front, past, is_blank, is_in_line, opens_gap, skipped_from, skipped}
+pub use Rattle.dtype_text.specs.Fronts.{begins}
 use Rattle.dtype_text.specs.TypeParts.{is_end}
 use Rattle.dtype_text.specs.Grammar.{lit, ◌<>◌, is_gap, blanks, comment}
 
@@ -33,11 +34,6 @@ both false b e = absurd cc
 pub test_some : {A : Type 0} (b : Bool) (x y : A) → cond b (Some x) None ≡ Some y → (b ≡ true) × (x ≡ y)
 test_some true x y e = (refl, some_is x y e)
 test_some false x y e = absurd cc
-
--- the first byte passes a test
-abbrev pub begins : (ℕ → Bool) → List ℕ → Bool
-begins p [] = false
-begins p (b ∷ bytes) = p b
 
 -- a text of a language is taken from the front
 pub record Takes (L : List ℕ → Type 0) (bytes rest : List ℕ) : Type 0 where

@@ -2,33 +2,29 @@
 -- SPDX-FileCopyrightText: Copyright the Vortex contributors
 
 -- What is written of a type is spelled so.
-use Rattle.std.proofs.Common.{◌≡◌, ℕ, zero, suc, ◌+◌, ◌-◌, ◌*◌, ◌/◌, ◌%◌, ◌^◌, ◌<◌, ◌≤◌, Bool, true, false, cond, not, ◌&&◌, ◌||◌, ◌==◌, List, [], ◌∷◌, ◌++◌, length, get_or, Option, Some, None, refl, sym, ap, subst, ◌∙◌, append_assoc, arith, inl, inr}
-use Rattle.std.specs.Prelude.{codes, decimal as digits, nat_lt, nat_le, ◌⊎◌, ℤ, pos, negsuc, neg_ℤ, ◌≤ℤ◌}
+use Rattle.std.proofs.Common.{◌≡◌, ℕ, suc, ◌+◌, ◌*◌, ◌/◌, ◌%◌, ◌^◌, ◌<◌, ◌≤◌, Bool, true, false, cond, not, ◌==◌, List, [], ◌∷◌, ◌++◌, length, Some, refl, sym, ap, subst, ◌∙◌, append_assoc, arith, inl, inr}
+use Rattle.std.specs.Prelude.{codes, decimal as digits, ◌⊎◌, ℤ, pos, negsuc, neg_ℤ, ◌≤ℤ◌}
 use Rattle.std.specs.Fmt.{signed_decimal}
 use Rattle.dtype_base.specs.Decimals.{IsDecimalWithin}
 use Rattle.dtype_types.specs.texts.Text.{bool_text}
 use Rattle.std.specs.List.{list_all, flat_map, join_by, AllByRecursion}
 use Rattle.std.specs.Char.{is_ascii_digit, is_ascii_control, digit_value}
 use Rattle.std.specs.Str.{is_utf8}
-use Rattle.std.specs.Str.Parse.{digits_value, IsNumeral, AllDigits}
+use Rattle.std.specs.Str.Parse.{AllDigits}
 use Rattle.std.proofs.lemmas.Bool.{eqb-true, eq-eqb}
 use Rattle.std.proofs.lemmas.Bool.Decides.{nat_tests}
 use Rattle.std.proofs.lemmas.List.{append-nil}
 use Rattle.std.proofs.lemmas.Fmt.{decimal_is_IsNumeral}
 use Rattle.dtype_base.specs.Escapes.{hex_digit, escaped_byte, escaped}
-use Rattle.dtype_base.specs.FieldNames.{quoted}
-use Rattle.dtype_base.specs.declared.nullability.Nullability.{Nullability}
 use Rattle.dtype_base.specs.Nullability.{nullability_text}
 use Rattle.dtype_base.specs.Primitives.{ptype_row}
 use Rattle.dtype_types.specs.tree.Tree as of
 use Rattle.dtype_types.specs.tree.Tree.{Tree, Items, a_struct, no_items, item}
 use Rattle.dtype_text.specs.Bare.{is_bare_name, is_bare_id}
-use Rattle.dtype_text.specs.Leaves.{is_blank, hex_at, hex_byte_at, meaning, escape_at, unit_at}
-use Rattle.dtype_text.specs.Source.{source, item_sources, tag_source, name_source, item_source, id_source, byte_source, hex_source}
-use Rattle.dtype_text.specs.Grammar.{decimal_parts as d_parts, sorted_part, signed, metadata, ident, hexes, Lang, lit, ◌<>◌, blanks, spaced, numeral, mark, units, in_quotes, named, in_parentheses, and_more, number, tag_part, an_item, comment, Stands, levels, Spells, SpellsItems, AreTexts, ItemsAreTexts}
-use Rattle.dtype_base.specs.Bytes.{Bytes}
+use Rattle.dtype_text.specs.Leaves.{hex_at, hex_byte_at, meaning, escape_at, unit_at}
+use Rattle.dtype_text.specs.Source.{source, item_sources, name_source, item_source, id_source, byte_source, hex_source}
+use Rattle.dtype_text.specs.Grammar.{decimal_parts as d_parts, sorted_part, signed, metadata, ident, hexes, Lang, lit, ◌<>◌, blanks, spaced, numeral, mark, units, in_quotes, named, in_parentheses, number, tag_part, an_item, Stands, levels, Spells, SpellsItems, AreTexts, ItemsAreTexts}
 use Rattle.std.proofs.lemmas.List.Elements.{recursion_from_All}
-use Rattle.std.proofs.lemmas.Slice.Eq.{bytes_eq-Decides}
 use Rattle.std.specs.Cmp.Lexicographic.{bytes_decides}
 use Rattle.dtype_types.specs.tree.Tree.{Holder, Tag, a_union, triples, Variants}
 use Rattle.dtype_types.specs.tree.Valid.{Valid, ValidItems}

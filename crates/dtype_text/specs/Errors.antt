@@ -2,17 +2,26 @@
 -- SPDX-FileCopyrightText: Copyright the Vortex contributors
 
 -- Which error of a text tells which fault of a reader.
-use Rattle.std.specs.Prelude.{◌≡◌}
-use Rattle.dtype_base.specs.declared.vortex_error.VortexError.{VortexError}
+use Rattle.std.specs.Prelude.{◌≡◌, ℕ, suc, ◌-◌, ◌≤◌, List, length}
 use Rattle.dtype_text.specs.declared.fault.Fault.{Fault}
 use Rattle.dtype_text.specs.declared.fault.Fault.TheVariants as fault
 use Rattle.dtype_text.specs.declared.text_error.TextError.{TextError}
 use Rattle.dtype_text.specs.declared.text_error.TextError.TheVariants as error
 
--- the error is of the same variant as the fault
-abbrev pub Tells : Fault → TextError → Type 0
-Tells fault.Memory e = e ≡ error.OutOfMemory
-Tells (fault.Refused v) e = e ≡ error.Refused v
-Tells (fault.TooDeep left) (error.TooDeep position) = Unit {0}
-Tells (fault.Misread left expected) (error.Misread position x found) = x ≡ expected
-Tells _ _ = ⊥
+-- the position of a byte of the text, from 1, or one more than its length
+abbrev pub IsPositionIn : List ℕ → ℕ → Type 0
+IsPositionIn text position = (1 ≤ position) × (position ≤ suc (length text))
+
+-- the error has a position of the text, if it has one
+abbrev pub IsPlacedIn : List ℕ → TextError → Type 0
+IsPlacedIn text (error.TooDeep position) = IsPositionIn text position
+IsPlacedIn text (error.Misread position expected found) = IsPositionIn text position
+IsPlacedIn text _ = Unit {0}
+
+-- the error is of the same variant as the fault, and its position is where so many bytes of the text are left
+abbrev pub Tells : List ℕ → Fault → TextError → Type 0
+Tells text fault.Memory e = e ≡ error.OutOfMemory
+Tells text (fault.Refused v) e = e ≡ error.Refused v
+Tells text (fault.TooDeep left) (error.TooDeep position) = position ≡ suc (length text - left)
+Tells text (fault.Misread left expected) (error.Misread position x found) = (x ≡ expected) × (position ≡ suc (length text - left))
+Tells text _ _ = ⊥

@@ -2,21 +2,26 @@
 -- SPDX-FileCopyrightText: Copyright the Vortex contributors
 
 -- Which texts stand for which type. A language is a property of lists of bytes.
-use Rattle.std.specs.Prelude.{◌≡◌, ◌⊎◌, ℕ, suc, ◌≤◌, ◌<◌, List, [], ◌∷◌, ◌++◌, ◌==◌, ◌&&◌, not, Bool, true, false, if◌then◌else◌, max, Some, codes, ℤ, pos, neg_ℤ, Result, Ok, Err}
+use Rattle.std.specs.Prelude.{◌≡◌, ◌⊎◌, ℕ, suc, ◌≤◌, ◌<◌, List, [], ◌∷◌, ◌++◌, ◌==◌, ◌&&◌, not, Bool, true, false, if◌then◌else◌, max, length, Some, codes, ℤ, pos, neg_ℤ, Result, Ok, Err}
 use Rattle.std.specs.List.{list_all}
 use Rattle.std.specs.Char.{is_ascii_digit}
 use Rattle.std.specs.Str.{is_utf8}
 use Rattle.std.specs.Str.Parse.{digits_value}
+use Rattle.dtype_base.specs.Bytes.{Bytes}
+use Rattle.dtype_base.specs.Decimals.{DecimalError, greatest_precision}
 use Rattle.dtype_base.specs.declared.nullability.Nullability.{Nullability}
+use Rattle.dtype_base.specs.declared.vortex_error.VortexError.{VortexError}
+use Rattle.dtype_base.specs.declared.vortex_error.VortexError.TheVariants.{MapKeyNullable, UnionTooMany}
 use Rattle.dtype_types.specs.texts.Text.{bool_text}
 use Rattle.dtype_base.specs.Nullability.{nullability_text}
 use Rattle.dtype_base.specs.Primitives.{ptype_row}
 use Rattle.dtype_types.specs.tree.Tree.{Tree, Items, Holder, a_struct, a_union, no_items, item, null, bool, primitive, decimal, utf8, binary, list, fixed_size_list, map_of, struct, union, variant, extension}
-use Rattle.dtype_types.specs.tree.Tree.{Tag, triples}
+use Rattle.dtype_types.specs.tree.Tree.{Tag, Variants, triples}
 use Rattle.dtype_types.specs.tree.TreeOf.{tree}
 use Rattle.dtype_types.specs.tree.Valid.{Valid}
-use Rattle.dtype_types.specs.parts.Lookups.{variant_tags}
-use Rattle.dtype_types.specs.parts.Unions.{AreConsecutive}
+use Rattle.dtype_types.specs.nullability.Nullable.{IsNullable}
+use Rattle.dtype_types.specs.parts.Lookups.{variant_names, variant_tags}
+use Rattle.dtype_types.specs.parts.Unions.{AreConsecutive, UnionError}
 use Rattle.dtype_types.specs.declared.dtype.DType.{DType}
 use Rattle.dtype_text.specs.Bare.{is_bare_name, is_bare_id}
 use Rattle.dtype_text.specs.Leaves.{is_blank, is_in_line, unit_at, hex_byte_at}
@@ -180,11 +185,36 @@ pub record Stands (t : Tree) (text : List ℕ) : Type 0 where
   pub shallow : levels t ≤ 128
   pub valid : Valid t
 
+-- The library makes no union of these variants, and this is its error. If no tags are written, they are 0, 1, 2 and so on,
+-- so that of more than 256 variants the last have tags that are no bytes.
+abbrev pub RefusesVariants : Variants → VortexError → Type 0
+RefusesVariants vs e =
+    (Bytes (variant_tags (triples vs)) × UnionError (variant_names (triples vs)) (length (triples vs)) (variant_tags (triples vs)) e)
+    ⊎ ((¬ Bytes (variant_tags (triples vs))) × (e ≡ UnionTooMany))
+
+-- The library refuses the type or a part of it with this error. For example, it refuses `{a=decimal(0,0)}` with
+-- `PrecisionZero 76`.
+abbrev mutual
+  pub Refuses : Tree → VortexError → Type 0
+  Refuses (decimal d n) e = DecimalError greatest_precision d.precision d.scale e
+  Refuses (list t n) e = Refuses t e
+  Refuses (fixed_size_list t k n) e = Refuses t e
+  Refuses (struct fs n) e = RefusesItem fs e
+  Refuses (map_of k v o n) e = Refuses k e ⊎ Refuses v e ⊎ ((e ≡ MapKeyNullable) × IsNullable k)
+  Refuses (union vs n) e = RefusesItem vs e ⊎ RefusesVariants vs e
+  Refuses (extension id b s) e = Refuses s e
+  Refuses _ e = ⊥
+
+  -- the same of the type of an item
+  pub RefusesItem : {h : Holder} → Items h → VortexError → Type 0
+  RefusesItem no_items e = ⊥
+  RefusesItem (item n t g rest) e = Refuses t e ⊎ RefusesItem rest e
+
 -- What is returned for a text that spells the type: the type, if it is valid and has at most 128 levels. Only a type that
--- isn't valid is refused, and only one that has more levels is too deep.
+-- isn't valid is refused, with an error of its own or of a part, and only one that has more levels is too deep.
 abbrev pub IsReadAs : Tree → Result DType TextError → Type 0
 IsReadAs t (Ok d) = (tree d ≡ t) × Valid t × (levels t ≤ 128)
 IsReadAs t (Err OutOfMemory) = Unit {0}
-IsReadAs t (Err (Refused e)) = Valid t → ⊥
+IsReadAs t (Err (Refused e)) = (Valid t → ⊥) × Refuses t e
 IsReadAs t (Err (TooDeep position)) = 128 < levels t
 IsReadAs t (Err (Misread position expected found)) = ⊥

@@ -12,7 +12,9 @@ pub mod Chosen
 pub mod Types
 pub mod Views
 pub mod Grammar
+pub mod Fronts
 pub mod Errors
+pub mod Within
 pub mod PathGrammar
 pub mod PathSource
 pub mod Paths

@@ -2,12 +2,14 @@
 -- SPDX-FileCopyrightText: Copyright the Vortex contributors
 
 -- What is read of the parts of types that contain no type: keywords, sizes, the numbers of a decimal, the end of items.
-use Rattle.std.specs.Prelude.{ℕ, List, [], ◌∷◌, ◌==◌, Bool, true, false, nat_eq, ◌&&◌, Option, Some, None, if◌then◌else◌, codes, ℤ, pos, neg_ℤ, int_le, nat_le}
+use Rattle.std.specs.Prelude.{ℕ, List, [], ◌∷◌, ◌==◌, Bool, true, false, nat_eq, ◌&&◌, Option, Some, None, if◌then◌else◌, codes, ℤ, pos, neg_ℤ, int_le, int_lt, nat_le, nat_lt}
 use Rattle.std.specs.Cmp.Lexicographic.{pointwise}
 use Rattle.dtype_base.specs.declared.nullability.Nullability.{Nullability}
 use Rattle.dtype_base.specs.declared.nullability.Nullability.TheVariants.{Nullable, NonNullable}
 use Rattle.dtype_base.specs.Decimals.{Decimal}
 use Rattle.dtype_base.specs.declared.ptype.PType.TheVariants as p
+use Rattle.dtype_base.specs.declared.vortex_error.VortexError.{VortexError}
+use Rattle.dtype_base.specs.declared.vortex_error.VortexError.TheVariants.{PrecisionZero, PrecisionTooLarge, ScaleTooLarge, ScaleAbovePrecision}
 use Rattle.dtype_text.specs.declared.keyword.Keyword.{Keyword}
 use Rattle.dtype_text.specs.declared.keyword.Keyword.TheVariants as k
 use Rattle.dtype_text.specs.Bare.{is_id_byte}
@@ -88,6 +90,14 @@ decimal_parts bytes = do
 -- whether the library makes such a decimal
 abbrev pub is_decimal : ℕ → ℤ → Bool
 is_decimal p s = nat_le 1 p && (nat_le p 76 && (int_le (neg_ℤ (pos 128)) s && int_le s (pos p)))
+
+-- the error of a decimal that the library doesn't make
+unfoldable pub decimal_error : ℕ → ℤ → VortexError
+decimal_error p s =
+    if p == 0 then PrecisionZero 76
+    else if nat_lt 76 p then PrecisionTooLarge p 76
+    else if int_lt (pos 76) s then ScaleTooLarge s (pos 76)
+    else ScaleAbovePrecision s p
 
 abbrev pub a_decimal : ℕ → ℤ → Decimal
 a_decimal p s = record { precision = p; scale = s }

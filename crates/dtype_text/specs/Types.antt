@@ -2,8 +2,9 @@
 -- SPDX-FileCopyrightText: Copyright the Vortex contributors
 
 -- What is read of types. `part` reads a type within another.
-use Rattle.std.specs.Prelude.{ℕ, zero, suc, List, [], ◌∷◌, ◌==◌, Bool, true, false, Option, Some, None, if◌then◌else◌, codes, length, is_some}
+use Rattle.std.specs.Prelude.{ℕ, zero, suc, List, [], ◌∷◌, ◌==◌, Bool, true, false, Option, Some, None, if◌then◌else◌, length, is_some}
 use Rattle.dtype_base.specs.declared.nullability.Nullability.{Nullability}
+use Rattle.dtype_base.specs.declared.vortex_error.VortexError.TheVariants.{MapKeyNullable}
 use Rattle.dtype_types.specs.nullability.Nullable.{nullability}
 use Rattle.dtype_types.specs.tree.Tree as of
 use Rattle.dtype_types.specs.tree.Tree.{Tree, fields}
@@ -13,7 +14,7 @@ use Rattle.dtype_text.specs.Bare.{is_id_byte, is_bare_id}
 use Rattle.dtype_text.specs.Read.{byte_at}
 use Rattle.dtype_text.specs.Outcome.{Outcome, got, misspelled, refused, too_deep, said, ◌>>=◌}
 use Rattle.dtype_text.specs.Leaves.{front, past, skipped, text_at, nullability_at, name_at, equals_at, comma_at, tag_at, metadata_at, quoted_at}
-use Rattle.dtype_text.specs.TypeParts.{keyword_at, size_at, end_at, decimal_parts, is_decimal, a_decimal, is_nonnullable, keys_sorted_at, is_end}
+use Rattle.dtype_text.specs.TypeParts.{keyword_at, size_at, end_at, decimal_parts, is_decimal, decimal_error, a_decimal, is_nonnullable, keys_sorted_at, is_end}
 use Rattle.dtype_text.specs.Unions.{union_at}
 
 -- what reads a type, or a value that contains types
@@ -101,7 +102,7 @@ union_by part bytes = do
 unfoldable pub decimal_at : Reader Tree
 decimal_at bytes = do
   d ← said (decimal_parts bytes)
-  if is_decimal d.0.0 d.0.1 then marked (λ n. of.decimal (a_decimal d.0.0 d.0.1) n) d.1 else refused
+  if is_decimal d.0.0 d.0.1 then marked (λ n. of.decimal (a_decimal d.0.0 d.0.1) n) d.1 else refused (decimal_error d.0.0 d.0.1)
 
 unfoldable pub map_by : Reader Tree → Reader Tree
 map_by part bytes = do
@@ -110,7 +111,7 @@ map_by part bytes = do
   behind ← said (comma_at key.1)
   value ← part behind
   sorted ← said (keys_sorted_at value.1)
-  if is_nonnullable (nullability key.0) then marked (λ n. of.map_of key.0 value.0 sorted.0 n) sorted.1 else refused
+  if is_nonnullable (nullability key.0) then marked (λ n. of.map_of key.0 value.0 sorted.0 n) sorted.1 else refused MapKeyNullable
 
 -- what is behind the id of an extension
 unfoldable pub extension_by : Reader Tree → List ℕ → Reader Tree
@@ -164,7 +165,7 @@ type_by part (b ∷ bytes) =
 
 -- a type within so many others
 abbrev pub part_at : ℕ → Reader Tree
-part_at zero bytes = too_deep
+part_at zero bytes = too_deep (length bytes)
 part_at (suc levels) bytes = type_by (part_at levels) bytes
 
 -- a whole text

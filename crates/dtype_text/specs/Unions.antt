@@ -7,6 +7,8 @@ use Rattle.std.specs.List.{list_any, list_all, range_with_len, zip}
 use Rattle.std.specs.Str.{bytes_eq}
 use Rattle.dtype_types.specs.tree.Tree.{Tree, Variants, variants}
 use Rattle.dtype_types.specs.parts.Lookups.{variant_names, variant_tags}
+use Rattle.dtype_base.specs.declared.vortex_error.VortexError.{VortexError}
+use Rattle.dtype_base.specs.declared.vortex_error.VortexError.TheVariants.{UnionEmpty, UnionTooMany, UnionTagsRepeat, UnionNamesRepeat}
 use Rattle.dtype_text.specs.Outcome.{Outcome, got, misspelled, refused}
 
 -- no item is twice in the list
@@ -23,8 +25,16 @@ abbrev pub makes_union : List (List ℕ × (Tree × ℕ)) → Bool
 makes_union vs =
     not (is_empty vs) && (list_all (λ g. nat_lt g 256) (variant_tags vs) && (differ nat_eq (variant_tags vs) && differ bytes_eq (variant_names vs)))
 
+-- the error of variants that make no union
+unfoldable pub union_error : List (List ℕ × (Tree × ℕ)) → VortexError
+union_error vs =
+    if is_empty vs then UnionEmpty
+    else if not (list_all (λ g. nat_lt g 256) (variant_tags vs)) then UnionTooMany
+    else if not (differ nat_eq (variant_tags vs)) then UnionTagsRepeat
+    else UnionNamesRepeat
+
 unfoldable pub made_union : List (List ℕ × (Tree × ℕ)) → Outcome Variants
-made_union vs = if makes_union vs then got (variants vs) else refused
+made_union vs = if makes_union vs then got (variants vs) else refused (union_error vs)
 
 -- the tags that are written
 abbrev pub written_tags : List (List ℕ × (Tree × Option ℕ)) → List ℕ

@@ -2,9 +2,9 @@
 // SPDX-FileCopyrightText: Copyright the Vortex contributors
 
 // Why a reader of bytes stops.
-ghost use Rattle.std.specs.Prelude.{◌≡◌};
+ghost use Rattle.std.specs.Prelude.{◌≡◌, length};
 ghost use Rattle.dtype_text.specs.Read.{IsMemory, IsMisread};
-ghost use Rattle.dtype_text.specs.declared.fault.Fault.TheVariants.{Memory, Refused};
+ghost use Rattle.dtype_text.specs.declared.fault.Fault.TheVariants.{Memory, Misread, Refused};
 
 use crate::text_error::Expected;
 use dtype_base::VortexError;
@@ -53,7 +53,8 @@ impl From<VortexError> for Fault {
 
 /// Returns the fault that this was expected at the front of these bytes.
 pub fn misread(bytes: &[u8], expected: Expected) -> Fault
-    ensures { IsMisread result }
+    ensures kind { IsMisread result }
+    ensures place { result ≡ Misread (length bytes.now) expected }
 {
     Fault::Misread {
         left: bytes.len(),

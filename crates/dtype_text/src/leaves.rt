@@ -6,7 +6,8 @@ ghost use Rattle.std.specs.Prelude.{◌≡◌, ◌+◌, ◌*◌, ◌<◌, ◌≤
 ghost use Rattle.std.specs.List.{prefix_len};
 ghost use Rattle.dtype_text.specs.Bare.{is_bare_byte as is_bare_spec, is_id_byte as is_id_spec};
 ghost use Rattle.dtype_text.specs.Leaves.{is_blank as is_blank_spec, is_in_line as is_in_line_spec, behind_comment as behind_comment_spec, is_number_byte as is_number_spec, front, past, skipped, nullability_at, digit_after, number_of, number_at, text_at, bare_at, hex_at, hex_byte_at, meaning as meaning_spec, escape_at, unit_at, quoted_at, name_at, equals_at, comma_at, signed_at, word_is as word_is_spec, bool_at, no_hex, metadata_at};
-ghost use Rattle.dtype_text.specs.Read.{IsMisread, Reads, shown, byte_at, until};
+ghost use Rattle.dtype_text.specs.Read.{IsExpected, Reads, shown, byte_at, until};
+ghost use Rattle.dtype_text.specs.declared.text_error.Expected.TheVariants as expecting;
 
 use crate::bare::{has_special, is_bare_byte, is_id_byte, is_special};
 use crate::fault::{Fault, misread};
@@ -201,7 +202,9 @@ pub fn text_of(bytes: &[u8]) -> Option<&str>
 
 /// Returns these bytes from the first character on that no bare name has. The bytes begin with this word. If the word
 /// has no such character, all bytes are returned.
-pub fn at_special<'a>(bytes: &'a [u8], word: &[u8]) -> &'a [u8] {
+pub fn at_special<'a>(bytes: &'a [u8], word: &[u8]) -> &'a [u8]
+    ensures { length result.now ≤ length bytes.now }
+{
     let Some(text) = text_of(word) else {
         return bytes;
     };
@@ -219,7 +222,7 @@ pub fn at_special<'a>(bytes: &'a [u8], word: &[u8]) -> &'a [u8] {
 /// Returns the fault that an id was expected at the front of these bytes, which begin with this word. Its place is that of
 /// the first character of the word that no bare id has.
 pub fn not_an_id(bytes: &[u8], word: &[u8]) -> Fault
-    ensures { IsMisread result }
+    ensures { IsExpected expecting.Id (length bytes.now) result }
 {
     misread(at_special(bytes, word), Expected::Id)
 }

@@ -5,6 +5,7 @@
 ghost use Rattle.std.specs.Prelude.{◌≡◌, IfErr, IfOk, List, MatchResult, length};
 ghost use Rattle.dtype_paths.specs.declared.field.Field.{Field as Step};
 ghost use Rattle.dtype_text.specs.PathGrammar.{StandsForPath, is_next as is_next_spec};
+ghost use Rattle.dtype_text.specs.Errors.{IsPlacedIn};
 ghost use Rattle.dtype_text.specs.Paths.{IsPathError, element_at, named_step_at, path_by, step_at, steps_at, whole_path_at};
 ghost use Rattle.dtype_text.specs.Read.{Reads};
 ghost use Rattle.dtype_text.specs.declared.text_error.TextError.TheVariants.{OutOfMemory};
@@ -113,9 +114,12 @@ pub fn read_path(alloc: Global, text: &str) -> Result<FieldPath, TextError>
     ensures only { (p : List Step) → StandsForPath p text.now → MatchResult result (λ q. q ≡ p) (λ e. e ≡ OutOfMemory) }
     // No path is refused by the library or too deep.
     ensures errors { IfErr result IsPathError }
+    // The position is that of a byte of the text, or one more than its length.
+    ensures place { IfErr result (IsPlacedIn text.now) }
 {
-    match whole_path(alloc, text.as_bytes()) {
+    let bytes = text.as_bytes();
+    match whole_path(alloc, bytes) {
         Ok(path) => Ok(path),
-        Err(fault) => Err(TextError::of(fault, text.as_bytes())),
+        Err(fault) => Err(TextError::of(fault, bytes)),
     }
 }

@@ -2,17 +2,18 @@
 // SPDX-FileCopyrightText: Copyright the Vortex contributors
 
 // The reader of types. Each function reads at the front of bytes, and returns what it read and the bytes after it.
-ghost use Rattle.std.specs.Prelude.{◌≡◌, map, IfOk, MatchResult, Some, None, if◌then◌else◌, List, Bool, length};
+ghost use Rattle.std.specs.Prelude.{◌≡◌, map, IfOk, IfErr, MatchResult, Some, None, if◌then◌else◌, List, Bool, length};
 ghost use Rattle.dtype_base.specs.Errors.{Makes};
 ghost use Rattle.dtype_types.specs.parts.FieldTypes.{field_tree};
 ghost use Rattle.dtype_types.specs.tree.Tree as of;
 ghost use Rattle.dtype_types.specs.tree.Tree.{Tree, fields};
 ghost use Rattle.dtype_types.specs.tree.TreeOf.{tree, children};
 ghost use Rattle.dtype_text.specs.Outcome.{Gives, got, refused};
-ghost use Rattle.dtype_text.specs.TypeParts.{is_decimal, a_decimal};
+ghost use Rattle.dtype_text.specs.TypeParts.{is_decimal, a_decimal, decimal_error};
 ghost use Rattle.dtype_text.specs.Types.{null_at, wrapped_by, list_by, fixed_by, field_by, separated, items_by, struct_by, variant_by, union_by, after_keyword, keyword_by, bare_extension_by, quoted_extension_by, extension_by, decimal_at, map_by, word_by, type_by, part_at, whole_at};
 ghost use Rattle.dtype_text.specs.Grammar.{Stands, IsSpelled, IsReadAs};
 ghost use Rattle.dtype_text.specs.declared.text_error.TextError.TheVariants.{OutOfMemory};
+ghost use Rattle.dtype_text.specs.Within.{IsFaultOf};
 ghost use Rattle.dtype_text.specs.Views.{typed, field_pairs, read_variant, read_variants};
 
 use crate::bare::is_bare_id;
@@ -141,9 +142,12 @@ fn keyword_type(alloc: Global, bytes: &[u8], levels: u32) -> Result<(DType, &[u8
 // The decimal of a precision and a scale.
 #[tactic(auto, using(crate::proofs::TypeFacts::decimals))]
 fn decimal_of(precision: u8, scale: i8) -> Result<DecimalDType, Fault>
-    ensures { Gives (λ d. d) result (if is_decimal precision scale then got (a_decimal precision scale) else refused) }
+    ensures { Gives (λ d. d) result (if is_decimal precision scale then got (a_decimal precision scale) else refused (decimal_error precision scale)) }
 {
-    Ok(DecimalDType::try_new(precision, scale)?)
+    match DecimalDType::try_new(precision, scale) {
+        Ok(decimal) => Ok(decimal),
+        Err(error) => Err(Fault::Refused(error)),
+    }
 }
 
 // Reads what is after `decimal`.
@@ -419,7 +423,7 @@ pub fn type_at(alloc: Global, bytes: &[u8]) -> Result<(DType, &[u8]), Fault>
 ///
 /// - `Misread`: the text isn't spelled like a type. The error says at which position which part was expected.
 /// - `Refused`: the library refuses a part that the text spells, with the library's error. For example, `decimal(0,0)` is
-///   refused with `PrecisionZero`.
+///   refused with `PrecisionZero`. What comes after that part isn't read, and may be misspelled.
 /// - `TooDeep`: the text has more than 128 levels of types inside one another.
 /// - `OutOfMemory`: an allocation fails.
 ///
@@ -430,11 +434,16 @@ pub fn read_dtype(alloc: Global, text: &str) -> Result<DType, TextError>
     ensures found { IfOk result (λ d. Stands (tree d) text.now) }
     // What stands for a type is read, unless memory runs out.
     ensures only { (t : Tree) → Stands t text.now → MatchResult result (λ d. tree d ≡ t) (λ e. e ≡ OutOfMemory) }
-    // Of a text that spells a type, only what isn't valid is refused, and only what has more than 128 levels is too deep.
+    // Of a text that spells a type, only what isn't valid is refused, with an error of the type or of a part of it, and only
+    // what has more than 128 levels is too deep.
     ensures spelled { (t : Tree) → IsSpelled t text.now → IsReadAs t result }
+    // Whatever else the text is, a part that is refused stands in it and is refused with that error, and a part that is too
+    // deep begins at that position.
+    ensures faults { IfErr result (IsFaultOf text.now) }
 {
-    match whole(alloc, text.as_bytes()) {
+    let bytes = text.as_bytes();
+    match whole(alloc, bytes) {
         Ok(dtype) => Ok(dtype),
-        Err(fault) => Err(TextError::of(fault, text.as_bytes())),
+        Err(fault) => Err(TextError::of(fault, bytes)),
     }
 }

@@ -2,6 +2,7 @@
 // SPDX-FileCopyrightText: Copyright the Vortex contributors
 
 // Why a text can't be read, with the place.
+ghost use Rattle.std.specs.Prelude.{◌≡◌, ◌-◌, suc, length};
 ghost use Rattle.dtype_text.specs.Errors.{Tells};
 
 use crate::bare::{is_bare_byte, is_special};
@@ -100,7 +101,7 @@ pub enum TextError {
 impl TextError {
     /// Returns the error of a fault at which so many bytes of a text are left.
     pub fn of(fault: Fault, text: &[u8]) -> TextError
-        ensures { Tells fault result }
+        ensures { Tells text.now fault result }
     {
         match fault {
             Fault::Memory => TextError::OutOfMemory,
@@ -118,7 +119,9 @@ impl TextError {
 }
 
 // Returns the position at which so many bytes of a text are left.
-fn position(text: &[u8], left: usize) -> usize {
+fn position(text: &[u8], left: usize) -> usize
+    ensures { result ≡ suc (length text.now - left) }
+{
     text.len().saturating_sub(left).saturating_add(1)
 }
 

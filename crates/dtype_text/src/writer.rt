@@ -1,8 +1,8 @@
 // SPDX-License-Identifier: Apache-2.0
 // SPDX-FileCopyrightText: Copyright the Vortex contributors
 
-// The writer of types.
-ghost use Rattle.std.specs.Prelude.{◌≡◌, ◌<◌, ◌++◌, OnOk, true, IsOkUnless, string_bytes};
+// The writer of types. A call that fails may have appended a part; `appended` has the calls after which the text is as it was.
+ghost use Rattle.std.specs.Prelude.{◌≡◌, ◌<◌, ◌++◌, OnErr, OnOk, true, IsOkUnless, string_bytes};
 ghost use Rattle.std.specs.Str.{is_utf8};
 ghost use Rattle.dtype_base.specs.declared.vortex_error.VortexError.TheVariants.{OutOfMemory};
 ghost use Rattle.dtype_types.specs.tree.TreeOf.{tree, fields_of, variants_of, extension_tree, map_shown};
@@ -15,15 +15,7 @@ use dtype_base::{FieldName, VortexResult};
 use dtype_types::{DType, ExtDTypeRef, ExtId, MapDType, StructFields, UnionVariants};
 use std::alloc::Global;
 
-/// Appends the text of a type to `out`, from which `read_dtype` reads the type back. Nothing is abbreviated.
-///
-/// For example, `{a=i32, "b c"=list(utf8?)}` is appended for a struct with two fields. The text is what `Display` prints,
-/// except that the metadata of extensions is in hexadecimal digits, and that names and ids stand in quotes unless they
-/// consist of ASCII letters and digits, `_` and visible characters beyond ASCII; ids may have dots too.
-///
-/// # Errors
-///
-/// `OutOfMemory` if an allocation fails. Then a part of the text may have been appended.
+// Appends a type.
 #[cycle(written)]
 #[tactic(auto, using(crate::proofs::Parts::source_parts, crate::proofs::Parts::text_parts, std::proofs::lemmas::Grind::common_steps))]
 pub fn write_dtype(alloc: Global, out: &mut String, dtype: &DType) -> VortexResult<()>
@@ -146,26 +138,37 @@ fn write_tag(out: &mut String, is_consecutive: bool, tag: u8) -> VortexResult<()
     Ok(())
 }
 
-/// Appends a name: bare where it can be, else in quotes.
+/// Appends a name: bare if it can be, else in quotes. After an error `out` is as it was.
+///
+/// # Errors
+///
+/// - `OutOfMemory` (0): an allocation fails.
 #[tactic(auto, using(crate::proofs::LeafFacts::utf8))]
 pub fn write_name(out: &mut String, name: &FieldName) -> VortexResult<()>
     ensures utf8 { OnOk result (is_utf8 name.now ≡ true) }
     ensures written { OnOk result (string_bytes out.new ≡ string_bytes out.old ++ name_source name.now) }
+    ensures kept { OnErr result (string_bytes out.new ≡ string_bytes out.old) }
     ensures errors { IsOkUnless result OutOfMemory }
 {
     if is_bare_name(name.as_str()) {
         out.push_str(name.as_str())?;
     } else {
-        write!(out, "\"{name}\"")?;
+        let quoted = format!(in *out.allocator(); "\"{name}\"")?;
+        out.push_str(quoted.as_str())?;
     }
     Ok(())
 }
 
-/// Appends an id: bare where it can be, else in quotes.
+/// Appends an id: bare if it can be, else in quotes. After an error `out` is as it was.
+///
+/// # Errors
+///
+/// - `OutOfMemory` (0): an allocation fails.
 #[tactic(auto, using(crate::proofs::LeafFacts::utf8))]
 pub fn write_id(alloc: Global, out: &mut String, id: &ExtId) -> VortexResult<()>
     ensures written { OnOk result (string_bytes out.new ≡ string_bytes out.old ++ id_source id.now) }
     ensures utf8 { OnOk result (is_utf8 id.now ≡ true) }
+    ensures kept { OnErr result (string_bytes out.new ≡ string_bytes out.old) }
     ensures errors { IsOkUnless result OutOfMemory }
 {
     let text = id.as_str();
@@ -173,7 +176,8 @@ pub fn write_id(alloc: Global, out: &mut String, id: &ExtId) -> VortexResult<()>
         out.push_str(text)?;
     } else {
         let name = FieldName::new(alloc, text)?;
-        write!(out, "\"{name}\"")?;
+        let quoted = format!(in alloc; "\"{name}\"")?;
+        out.push_str(quoted.as_str())?;
     }
     Ok(())
 }

@@ -13,7 +13,7 @@ use Rattle.dtype_text.specs.Unions.{union_at}
 use Rattle.dtype_types.specs.parts.FieldTypes.{field_tree}
 use Rattle.dtype_text.specs.Outcome.{got, Stops}
 use Rattle.dtype_text.specs.TypeParts.{end_at}
-use Rattle.dtype_text.specs.Types.{part_at, field_by, variant_by, separated, items_by, union_by, marked, extension_by, wrapped_by}
+use Rattle.dtype_text.specs.Types.{part_at, field_by, variant_by, items_by, union_by, marked, extension_by, wrapped_by}
 use Rattle.dtype_text.specs.Views.{field_pairs, read_variant, read_variants}
 use Rattle.dtype_text.proofs.Loops.{stops_then, separated_stops, separated_ends, separated_closed, separated_more}
 use Rattle.dtype_text.proofs.reader.+reading.Goals as goal

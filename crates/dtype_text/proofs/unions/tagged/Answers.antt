@@ -16,7 +16,7 @@ returns-in_err-try_new c =
     let v = c.in_err-try_new.field-0.0 in
     let ns = c.args.names in
     let gs = c.args.tags.items in
-    rw p.1 (refused_tagged ns c.args.dtypes.items gs v p.0 (c.requires.types ∙ c.args.dtypes.ok.0) (c.requires.tags ∙ c.args.tags.ok.0) p.2 (subst (λ (k : ℕ). ((v ≡ OutOfMemory) × HasUnionLengths ns k gs) ⊎ UnionError ns k gs v) c.args.dtypes.ok.0 c.in_err-try_new.ensures.errors))
+    rw p.1 (refused_tagged ns c.args.dtypes.items gs v p.0 (c.requires.types ∙ c.args.dtypes.ok.0) (c.requires.tags ∙ c.args.tags.ok.0) (subst Bytes c.deref.ensures.value c.are_bytes.ensures) p.2 (subst (λ (k : ℕ). ((v ≡ OutOfMemory) × HasUnionLengths ns k gs) ⊎ UnionError ns k gs v) c.args.dtypes.ok.0 c.in_err-try_new.ensures.errors))
 
 pub returns : goal.returns
 returns c =

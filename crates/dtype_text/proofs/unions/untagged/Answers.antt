@@ -15,4 +15,4 @@ returns-in_err-new c =
     let p = err_from_is_err_and c.from_residual.result c.from_residual.ensures.1 in
     let v = c.in_err-new.field-0.0 in
     let ns = c.args.names in
-    rw p.1 (refused_untagged ns c.args.dtypes.items v p.0 (c.requires ∙ c.args.dtypes.ok.0) p.2 (λ few. subst (λ (k : ℕ). (v ≡ OutOfMemory) ⊎ UnionError ns k (range_with_len 0 (length ns)) v) c.args.dtypes.ok.0 (c.in_err-new.ensures.errors few)))
+    rw p.1 (refused_untagged ns c.args.dtypes.items v p.0 (c.requires ∙ c.args.dtypes.ok.0) p.2 (λ many. let is = c.in_err-new.ensures.too_many.1 many in cc) (λ few. subst (λ (k : ℕ). (v ≡ OutOfMemory) ⊎ UnionError ns k (range_with_len 0 (length ns)) v) c.args.dtypes.ok.0 (c.in_err-new.ensures.errors few)))

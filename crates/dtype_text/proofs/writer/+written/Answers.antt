@@ -4,15 +4,15 @@
 use Rattle.dtype_text.proofs.Iteration.{none_of}
 use Rattle.dtype_types.proofs.lemmas.Tags.{told_by_test}
 use Rattle.dtype_types.specs.parts.Lists.{borrowed_pair, borrowed_triple}
-use Rattle.std.proofs.Common.{true, ◌≡◌, ◌++◌, codes, [], ap, sym, subst, ◌∙◌, arith, append_assoc, rules}
+use Rattle.std.proofs.Common.{true, ◌++◌, codes, ap, sym, subst, ◌∙◌}
 use Rattle.std.specs.Prelude.{string_bytes}
 use Rattle.std.specs.List.{join_by}
 use Rattle.dtype_types.specs.tree.Tree.{fields, variants}
-use Rattle.dtype_types.specs.tree.TreeOf.{tree, map_shown, struct_pairs, fields_of, variants_of, variant_list, with_trees, with_tagged_trees}
+use Rattle.dtype_types.specs.tree.TreeOf.{map_shown, fields_of, variants_of, variant_list, with_trees, with_tagged_trees}
 use Rattle.dtype_types.specs.texts.Text.{bool_text}
 use Rattle.dtype_text.specs.Grammar.{ItemsAreTexts}
 use Rattle.dtype_text.specs.Source.{source, map_source, fields_source, variants_source, item_sources}
-use Rattle.dtype_text.proofs.Parts.{leading, leading_all, one_written, all_written, joined, five}
+use Rattle.dtype_text.proofs.Parts.{all_written, joined, five}
 use Rattle.dtype_text.proofs.writer.+written.Goals as goal
 
 pub write_fields-returns-clause-written : goal.write_fields-returns-clause-written

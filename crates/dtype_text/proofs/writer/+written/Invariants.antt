@@ -1,15 +1,13 @@
 -- SPDX-License-Identifier: Apache-2.0
 -- SPDX-FileCopyrightText: Copyright the Vortex contributors
 
-use Rattle.std.proofs.Common.{◌≡◌, ◌≤◌, ◌+◌, ◌-◌, ◌*◌, ◌++◌, [], codes, length, true}
+use Rattle.std.proofs.Common.{◌≡◌, ◌≤◌, ◌+◌, ◌*◌, ◌++◌, [], codes, true}
 use Rattle.std.specs.Prelude.{string_bytes}
 use denote.Shadow.{shadow}
 use denote.Text.{Utf8}
-use Rattle.dtype_types.specs.tree.Tree.{fields, variants, triples}
+use Rattle.dtype_types.specs.tree.Tree.{fields, variants}
 use Rattle.dtype_types.specs.tree.TreeOf.{tree, fields_of, variants_of, storage_tree, map_shown, with_trees, with_tagged_trees}
 use Rattle.dtype_types.proofs.lemmas.TypesBelow.{weight, weight_items}
-use Rattle.dtype_types.specs.parts.Lookups.{variant_tags}
-use Rattle.dtype_types.specs.parts.Unions.{are_consecutive}
 use Rattle.dtype_text.specs.Grammar.{ItemsAreTexts}
 use Rattle.dtype_text.specs.Source.{item_sources}
 use Rattle.dtype_text.proofs.Parts.{leading}

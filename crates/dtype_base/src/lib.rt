@@ -50,6 +50,7 @@ pub use field_names::FieldNames;
 pub use field_names_into_iter::FieldNamesIntoIter;
 pub use field_names_iter::FieldNamesIter;
 pub use indexed_names::IndexedNames;
+pub use name_key::bucket_of_name;
 pub use nullability::Nullability;
 pub use ptype::PType;
 pub use vortex_error::{MessageFault, VortexError, VortexResult};

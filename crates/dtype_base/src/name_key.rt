@@ -45,15 +45,26 @@ pub(crate) fn key_of(text: &[u8], bits: u32) -> u64
     without_bits(hash_of(text), bits)
 }
 
-// Returns the bucket of a key. The keys are distributed evenly over the `count` buckets.
+// Returns the bucket of a key, or 0 if there are no buckets. The keys are distributed evenly over the `count` buckets.
 #[inline(always)]
 #[tactic(auto, using(crate::proofs::NameHashes::bucket_below))]
 pub(crate) fn bucket_of_key(count: usize, key: u64) -> usize
-    requires { 0 < count }
     ensures is { result ≡ bucket_of_key count key }
-    ensures within { result < count }
+    ensures within { 0 < count → result < count }
 {
     (u128::from(key) * count as u128 / TWO_POW_64) as usize
+}
+
+/// Returns the bucket of a name, which is less than `count`, if names are divided among `count` buckets by their hashes.
+/// If `count` is 0, it returns 0. Names that nobody chose for their hashes are distributed evenly. But it is easy to
+/// choose names that have one hash, and these are all in one bucket.
+#[inline(always)]
+pub fn bucket_of_name(name: &[u8], count: usize) -> usize
+    ensures is { result ≡ bucket_of_key count (hash_of name.now) }
+    ensures none { count ≡ 0 → result ≡ 0 }
+    ensures within { 0 < count → result < count }
+{
+    bucket_of_key(count, hash_of(name))
 }
 
 // Returns the hash of a text, which two texts rarely have in common. It is computed from the length, the words of eight
@@ -104,15 +115,17 @@ fn load_u64(text: &[u8]) -> u64
     ])
 }
 
-// Returns the first eight bytes of a text of at least eight bytes, as one big-endian number.
+// Returns the first eight bytes of a text of at least eight bytes, as one big-endian number. The last is read first,
+// because in Rust, which tests each index, no other test is left then.
 #[inline(always)]
 #[tactic(auto, using(crate::proofs::NameHashes::first_eight))]
 fn first_word(text: &[u8]) -> u64
     requires { 8 ≤ length text.now }
     ensures { result ≡ big_endian 8 text.now }
 {
+    let last = text[7];
     u64::from_be_bytes([
-        text[0], text[1], text[2], text[3], text[4], text[5], text[6], text[7],
+        text[0], text[1], text[2], text[3], text[4], text[5], text[6], last,
     ])
 }
 

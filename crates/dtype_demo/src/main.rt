@@ -16,7 +16,8 @@
 //!
 //! The clauses of `run` speak of what a reader has left to read and of what a writer has taken. Slices and vectors state
 //! both, and the standard streams state neither. So for the program as it runs only the clause `unwritten` says
-//! something, and the rest is tested (`tools/gate/faults`).
+//! something, and the rest is tested (`tools/gate/faults`). The file `tests.rt` calls `run` with readers and writers that
+//! state both, and with some that fail.
 #![tactic(auto)]
 
 ghost use Rattle.std.specs.Prelude.{◌≡◌, ◌+◌, ◌<◌, ◌≤◌, length, IsUtf8, IfErr, IfSome, IsErrOf, OnOk};
@@ -38,6 +39,8 @@ mod dtype;
 mod fault;
 mod input;
 mod lines;
+#[cfg(test)]
+mod tests;
 
 pub use fault::DemoFault;
 
@@ -52,7 +55,10 @@ pub use fault::DemoFault;
 /// The first three come in this order and before `WriteFailed`, and if one of them is returned, nothing has been
 /// written. If one of the last two is returned, a part of the output may have been written.
 ///
-/// - `ReadFailed`: the reader returns an error.
+/// - `ReadFailed`: the reader returns an error. (No clause says that `ReadFailed` comes only then, because the trait
+///   `Read` says nothing of when a read fails: its clauses are about the bytes of a read that succeeds. The trait `Write`
+///   says as little, so the same is true of `WriteFailed`. That there is no such error without a failed read or write is
+///   tested.)
 /// - `InputTooLong`: the input has more than 1,048,576 bytes.
 /// - `NotUtf8`: the input isn't UTF-8.
 /// - `WriteFailed`: the writer returns an error.

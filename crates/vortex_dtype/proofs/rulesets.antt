@@ -50,7 +50,9 @@ pub use Rattle.vortex_dtype.proofs.lemmas.Collected.{collected}
 pub use Rattle.vortex_dtype.proofs.lemmas.Smaller.{smaller_parts}
 -- the ids of a session, each of many
 pub use Rattle.vortex_dtype.proofs.lemmas.EachRegistered.{each_registered}
--- several types that a loop merges
+-- several types that a loop merges by columns
+pub use Rattle.dtype_merging.proofs.lemmas.AllMerged.{all_merged}
+-- several types that a loop merges by nullability
 pub use Rattle.vortex_dtype.proofs.lemmas.MergedAll.{merging_all}
 -- a type and a cursor that are stepped together, and its lemmas one by one, for answers that a caller writes
 pub use Rattle.dtype_projection.proofs.lemmas.Descending.{descending, opened_after, opened_nowhere, opened_uncontained}

@@ -26,6 +26,7 @@ ghost use Rattle.vortex_dtype.specs.declared.foreign.ForeignExtMetadata.{Foreign
 pub use crate::plugin::plugin_laws;
 pub use crate::session::session_laws;
 pub use dtype_base::laws as base;
+pub use dtype_edits::laws as edits;
 pub use dtype_merging::laws as columns;
 pub use dtype_messages::laws as messages;
 pub use dtype_native::laws as native;

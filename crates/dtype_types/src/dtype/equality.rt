@@ -5,7 +5,7 @@
 // ignored, or tested for being within each other.
 #![tactic(auto, using(crate::proofs::KindLaws::parts_equal_under))]
 
-ghost use Rattle.std.specs.Prelude.{◌≡◌, ◌↔◌, IsTrue, map};
+ghost use Rattle.std.specs.Prelude.{◌≡◌, ◌↔◌, IsTrue, map, true};
 ghost use Rattle.std.specs.Cmp.Lexicographic.{pointwise};
 ghost use Rattle.dtype_types.specs.equality.Equality.{equal_under, allows};
 ghost use Rattle.dtype_types.specs.tree.Erase.{erase};
@@ -63,6 +63,21 @@ pub(crate) fn equal_under(a: &DType, b: &DType, rule: NullabilityRule) -> bool
     }
 }
 
+// Returns whether the types are leaves of one of the frequent kinds, and equal under the rule. It's inlined into the loop
+// over the types of two lists, so that most of them are compared without a call.
+#[inline(always)]
+fn are_equal_leaves(a: &DType, b: &DType, rule: NullabilityRule) -> bool
+    ensures { IsTrue result → equal_under rule (tree a.now) (tree b.now) ≡ true }
+{
+    match (a, b) {
+        (DType::Bool(m), DType::Bool(n)) => rule.allow(*m, *n),
+        (DType::Primitive(p, m), DType::Primitive(q, n)) => *p == *q && rule.allow(*m, *n),
+        (DType::Utf8(m), DType::Utf8(n)) => rule.allow(*m, *n),
+        (DType::Binary(m), DType::Binary(n)) => rule.allow(*m, *n),
+        _ => false,
+    }
+}
+
 // Returns whether two lists have equally many types, and the types at equal positions are equal under the rule.
 #[cycle(equal_under)]
 pub(crate) fn equal_dtypes(a: &[DType], b: &[DType], rule: NullabilityRule) -> bool
@@ -72,7 +87,7 @@ pub(crate) fn equal_dtypes(a: &[DType], b: &[DType], rule: NullabilityRule) -> b
         return false;
     }
     for (dtype, other_dtype) in a.iter().zip(b) {
-        if !equal_under(dtype, other_dtype, rule) {
+        if !are_equal_leaves(dtype, other_dtype, rule) && !equal_under(dtype, other_dtype, rule) {
             return false;
         }
     }

@@ -6,6 +6,7 @@ pub mod StepKeys
 pub mod ChildLists
 pub mod ChildIters
 pub mod ChildTrees
+pub mod ChildTables
 pub mod Children
 pub mod Trie
 pub mod Lending

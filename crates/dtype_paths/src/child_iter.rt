@@ -7,9 +7,8 @@ ghost use Rattle.dtype_paths.specs.private.Children.{borrowed_entry, borrowed_na
 
 use crate::Field;
 use crate::child_list::Child;
-use crate::child_tree::ChildTreeIter;
+use crate::child_table::ChildTableIter;
 use dtype_base::FieldName;
-use std::collections::hash_map;
 use std::marker::Model;
 use std::slice;
 
@@ -19,8 +18,7 @@ use std::slice;
 pub(crate) enum ChildIter<'a> {
     One(Option<(&'a Field, usize)>),
     List(slice::Iter<'a, Child>),
-    Map(hash_map::Iter<'a, Field, usize>),
-    Tree(ChildTreeIter<'a>),
+    Table(ChildTableIter<'a>),
 }
 
 impl<'a> ChildIter<'a> {
@@ -36,11 +34,7 @@ impl<'a> ChildIter<'a> {
                 let child = list.next()?;
                 Some((child.step(), child.node_index()))
             }
-            ChildIter::Map(map) => {
-                let (step, node_index) = map.next()?;
-                Some((step, *node_index))
-            }
-            ChildIter::Tree(tree) => tree.next(),
+            ChildIter::Table(table) => table.next(),
         }
     }
 

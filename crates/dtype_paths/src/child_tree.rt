@@ -1,15 +1,13 @@
 // SPDX-License-Identifier: Apache-2.0
 // SPDX-FileCopyrightText: Copyright the Vortex contributors
 
-ghost use Rattle.std.specs.Prelude.{◌≡◌, ◌^◌, ◌<◌, ℕ, [], length, Option, Some, IfErr, OnOk, IsTrue, false, if◌then◌else◌};
+ghost use Rattle.std.specs.Prelude.{◌≡◌, ◌≤◌, ◌+◌, ℕ, [], length, Option, Some, IfErr, OnOk, IsTrue, false, if◌then◌else◌};
 ghost use Rattle.std.specs.BTreeMap.{is_at, IsOrdered};
 ghost use Rattle.std.specs.Iterator.{YieldsFirstBy};
 ghost use Rattle.std.specs.List.{IsDistinct};
 ghost use Rattle.std.specs.Map.{keys_of};
 ghost use Rattle.std.specs.Ordering.{nat_cmp};
-ghost use Rattle.dtype_base.specs.Errors.{Makes};
 ghost use Rattle.dtype_base.specs.declared.vortex_error.VortexError.TheVariants.{OutOfMemory};
-ghost use Rattle.dtype_paths.specs.private.ChildIters.{entries_left};
 ghost use Rattle.dtype_paths.specs.private.ChildTrees.{at_key, led_by, IsFirst, IsTaken};
 ghost use Rattle.dtype_paths.specs.private.Children.{borrowed_entry, node_by, LeadsTo};
 ghost use Rattle.dtype_paths.specs.Equality.{same_field};
@@ -17,7 +15,6 @@ ghost use Rattle.dtype_paths.specs.private.StepKeys.{step_key};
 ghost use Rattle.dtype_paths.specs.declared.field.Field.{Field};
 
 use crate::Field;
-use crate::child_iter::ChildIter;
 use crate::step_key::step_key_of;
 use dtype_base::VortexResult;
 use std::alloc::Global;
@@ -56,18 +53,6 @@ impl ChildTree {
         }
     }
 
-    // A tree of copies of these children.
-    pub(crate) fn of(alloc: Global, mut left: ChildIter<'_>) -> VortexResult<Self>
-        requires { IsDistinct same_field (keys_of (entries_left left)) }
-        ensures { Makes result (λ t. (f : Field) → node_by t f ≡ node_by (entries_left left.entry) f) }
-    {
-        let mut tree = ChildTree::new(alloc);
-        while let Some((step, node_index)) = left.next() {
-            tree.insert(step.try_clone(alloc)?, node_index)?;
-        }
-        Ok(tree)
-    }
-
     // Returns the index of the node to which the step leads.
     #[tactic(auto, using(crate::proofs::ChildTrees::looked_up_first, crate::proofs::ChildTrees::looked_up_later))]
     pub(crate) fn child(&self, step: &Field) -> Option<usize>
@@ -93,6 +78,7 @@ impl ChildTree {
     #[tactic(auto, using(crate::proofs::ChildTrees::led_more_by_step, crate::proofs::ChildTrees::led_more_by_key))]
     pub(crate) fn insert(&mut self, step: Field, node_index: usize) -> VortexResult<()>
         ensures added { OnOk result (LeadsTo (node_by self.old) step node_index (node_by self.new)) }
+        ensures grown { OnOk result (length self.new ≤ length self.old + 1) }
         ensures errors { IfErr result (λ e. (e ≡ OutOfMemory) × (self.new ≡ self.old)) }
     {
         let key = step_key_of(&step);
@@ -109,19 +95,11 @@ impl ChildTree {
     pub(crate) fn iter(&self) -> ChildTreeIter<'_>
         ensures children { result ≡ self.now }
         ensures once { IsDistinct same_field (keys_of self.now) }
-        ensures fits { length self.now < 2 ^ 64 }
     {
         ChildTreeIter {
             by_key: self.by_key.values(),
             by_step: self.by_step.iter(),
         }
-    }
-
-    // A copy: the same steps lead to the same nodes.
-    pub(crate) fn try_clone(&self, alloc: Global) -> VortexResult<Self>
-        ensures { Makes result (λ t. (f : Field) → node_by t f ≡ node_by self.now f) }
-    {
-        Ok(ChildTree::of(alloc, ChildIter::Tree(self.iter()))?)
     }
 }
 
@@ -179,6 +157,7 @@ fn put_at_key(
     ensures errors { IfErr result (λ e. (e ≡ OutOfMemory)
         × (by_key.new.entries ≡ by_key.old.entries)) }
     ensures ordered { IsOrdered nat_cmp by_key.new }
+    ensures grown { OnOk result (length by_key.new.entries ≤ length by_key.old.entries + 1) }
 {
     by_key.insert(key, (step, node_index))?;
     Ok(())

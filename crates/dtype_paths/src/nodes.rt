@@ -248,15 +248,21 @@ impl Nodes {
         Ok(found)
     }
 
-    // A copy of the nodes, with the same indices.
+    // A copy of the nodes, with the same indices. It has room for some more nodes, so that the first insertion into it
+    // doesn't copy all of them again.
     pub(crate) fn try_clone(&self, alloc: Global) -> VortexResult<Self>
         ensures { Makes result (λ n. IsAlike self.now n) }
     {
         let root = self.root.try_clone(alloc)?;
-        let mut rest = Vec::with_capacity(alloc, self.rest.len())?;
+        let mut rest = Vec::with_capacity(alloc, with_room_for_more(self.rest.len()))?;
         for node in &self.rest {
             rest.push(node.try_clone(alloc)?)?;
         }
         Ok(Nodes { root, rest })
     }
+}
+
+// The room for a copy of this many nodes: an eighth more, rounded up. A copy of no nodes needs none.
+fn with_room_for_more(count: usize) -> usize {
+    count.saturating_add(count.div_ceil(8))
 }

@@ -6,7 +6,7 @@ use Rattle.std.specs.Prelude.{ℕ, List, [], ◌∷◌, Some, None}
 use Rattle.std.specs.List.{filter_map}
 use Rattle.std.specs.Slice.Iter.{iter_rest}
 use Rattle.dtype_paths.specs.declared.child_iter.ChildIter.{ChildIter}
-use Rattle.dtype_paths.specs.declared.child_iter.ChildIter.TheVariants.{One, List as InList, Map as InMap, Tree as InTree}
+use Rattle.dtype_paths.specs.declared.child_iter.ChildIter.TheVariants.{One, List as InList, Table as InTable}
 use Rattle.dtype_paths.specs.declared.field.Field.{Field}
 use Rattle.dtype_paths.specs.private.ChildLists.{entries}
 use Rattle.dtype_paths.specs.private.Children.{borrowed_entry, name_entry}
@@ -16,8 +16,7 @@ abbrev pub entries_left : ChildIter → List (Field × ℕ)
 entries_left (One None) = []
 entries_left (One (Some e)) = borrowed_entry e ∷ []
 entries_left (InList it) = entries (iter_rest it)
-entries_left (InMap it) = it
-entries_left (InTree it) = it
+entries_left (InTable it) = it
 
 -- those of them that are names
 abbrev pub named_left : ChildIter → List (List ℕ × ℕ)

@@ -3,9 +3,9 @@
 
 -- Columns that are collected one after another, and the types that are made of merged parts.
 use Rattle.std.proofs.Common.{◌≡◌, ◌∙◌, ◌&&◌, ◌+◌, ◌≤◌, ℕ, List, [], ◌∷◌, ◌++◌, true, false, Option, Some, None, refl, sym, ap, subst, append_assoc, arith}
-use Rattle.std.specs.Option.{option_map}
-use Rattle.std.specs.Prelude.{Bool, Result}
-use Rattle.std.proofs.Math.Bool.{beq}
+use Rattle.std.specs.Option.{is_some, option_map}
+use Rattle.std.specs.Prelude.{◌↔◌, Bool, IsTrue, Result}
+use Rattle.std.proofs.lemmas.Bool.Decides.{same_from_decides}
 use Rattle.std.proofs.lemmas.List.{map-append}
 use Rattle.dtype_base.specs.Errors.{Makes}
 use Rattle.dtype_base.specs.Nullability.{either}
@@ -15,15 +15,18 @@ use Rattle.dtype_base.specs.declared.vortex_error.VortexError.{VortexError}
 use Rattle.dtype_types.specs.declared.dtype.DType.{DType, Struct}
 use Rattle.dtype_types.specs.declared.field_dtype.FieldDType.{FieldDType}
 use Rattle.dtype_types.specs.declared.struct_fields.StructFields.{StructFields}
+use Rattle.dtype_types.specs.nullability.Merged.{merged}
 use Rattle.dtype_types.specs.nullability.Nullable.{IsNullable, nullability}
 use Rattle.dtype_types.specs.parts.FieldTypes.{field_tree}
 use Rattle.dtype_types.specs.parts.Lookups.{first_named}
+use Rattle.dtype_types.specs.tree.Erase.{erase}
 use Rattle.dtype_types.specs.tree.Tree.{Tree, fields, pairs, struct}
 use Rattle.dtype_types.specs.tree.TreeOf.{MapParts, children, fields_of, tree, with_trees}
+use Rattle.dtype_types.proofs.lemmas.Merging.{under_where}
 use Rattle.dtype_types.proofs.lemmas.TreeLaws.{pairs_of, tree_struct}
 use Rattle.dtype_types.proofs.lemmas.TypesBelow.{weight, weight_items}
 use Rattle.dtype_merging.specs.MergedColumns.{column, columns_merged, further, map_of_key, map_with, merged_beside, merged_by_name, no_repeats, prepend, struct_with}
-use Rattle.dtype_merging.specs.private.Collected.{collected, maps_merged}
+use Rattle.dtype_merging.specs.private.Collected.{collected, maps_merged, maps_stay_sorted}
 use Rattle.dtype_merging.proofs.lemmas.Finding.{Pairs}
 use Rattle.dtype_merging.proofs.lemmas.Merging.{pick_false, pick_true}
 
@@ -32,17 +35,18 @@ map_of_nullable : (k : Tree) (o : Option Tree) (s : Bool) (n : Nullability) → 
 map_of_nullable k None s n e = refl
 map_of_nullable k (Some v) s n e = ap (λ m. map_of_key m k v s n) e
 
-same_flags : (x y : Bool) → x ≡ y → beq x y ≡ true
-same_flags true true e = refl
-same_flags true false e = cc
-same_flags false true e = cc
-same_flags false false e = refl
+-- the keys stay sorted if those of both maps are sorted, and a call finds the key types equal except for nullabilities
+pub told_sorted : (a b : MapParts) (t u : Tree) (r : Bool) → a.2 ≡ true → b.2 ≡ true → t ≡ a.0 → u ≡ b.0 → IsTrue r ↔ (erase t ≡ erase u) → r ≡ maps_stay_sorted a b
+told_sorted a b t u r one other left right told =
+    let same = subst (λ x. IsTrue r ↔ (erase x ≡ erase b.0)) left (subst (λ y. IsTrue r ↔ (erase t ≡ erase y)) right told) in
+    same_from_decides r (is_some (merged a.0 b.0)) same (under_where either a.0 b.0)
+    ∙ sym (ap (λ z. z && b.2 && is_some (merged a.0 b.0)) one ∙ ap (λ z. true && z && is_some (merged a.0 b.0)) other)
 
 -- two maps whose merged key type is nullable can't be merged
-pub keys_nullable : (a b : MapParts) (n : Nullability) (k : Tree) → a.2 ≡ b.2 → Some k ≡ columns_merged a.0 b.0 → IsNullable k → None ≡ maps_merged a b n
-keys_nullable a b n k same key nulls =
-    sym (pick_true (beq a.2 b.2) (map_with (columns_merged a.0 b.0) (columns_merged a.1 b.1) a.2 n) None (same_flags a.2 b.2 same)
-    ∙ ap (λ o. map_with o (columns_merged a.1 b.1) a.2 n) (sym key) ∙ map_of_nullable k (columns_merged a.1 b.1) a.2 n nulls)
+pub keys_nullable : (a b : MapParts) (n : Nullability) (k : Tree) → Some k ≡ columns_merged a.0 b.0 → IsNullable k → None ≡ maps_merged a b n
+keys_nullable a b n k key nulls =
+    let s = maps_stay_sorted a b in
+    sym (ap (λ o. map_with o (columns_merged a.1 b.1) s n) (sym key) ∙ map_of_nullable k (columns_merged a.1 b.1) s n nulls)
 
 -- ---- structs
 

@@ -2,6 +2,7 @@
 -- SPDX-FileCopyrightText: Copyright the Vortex contributors
 
 pub mod lemmas
+mod Apart
 mod Collecting
 mod Visiting
 mod Ordered

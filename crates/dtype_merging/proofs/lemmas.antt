@@ -13,3 +13,4 @@ pub mod Merging
 pub mod MergeLaws
 pub mod Filling
 pub mod Conflicting
+pub mod AllMerged

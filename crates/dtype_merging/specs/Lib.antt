@@ -5,4 +5,5 @@ pub mod ReadsAs
 pub mod MergedColumns
 pub mod Conflicts
 pub mod Filled
+pub mod AllMerged
 pub mod private

@@ -2,16 +2,16 @@
 -- SPDX-FileCopyrightText: Copyright the Vortex contributors
 
 -- One type for two types with different columns: the fields of the first in their order, and then those of the second
--- that the first lacks. A field that one of the two lacks is nullable. Unions, and structs in which a name repeats, have
--- a common type only if their names and tags are the same in the same order; then their types are merged position by
--- position. For example, `union(x={a=i32})` and `union(x={b=u8})` are merged to `union(x={a=i32?, b=u8?})`. Types without
--- parts are merged by nullability alone. That this is the least type as which both can be read is a theorem (`ReadsAs`,
--- and `laws`).
-use Rattle.std.specs.Prelude.{ℕ, List, [], ◌∷◌, ◌++◌, map, Bool, true, false, ◌&&◌, ◌==◌, Option, Some, None, is_none, if◌then◌else◌}
+-- that the first lacks. A field that one of the two lacks is nullable, and so is what `null` is merged with. Unions, and
+-- structs in which a name repeats, have a common type only if their names and tags are the same in the same order. Then
+-- their types are merged position by position. For example, `union(x={a=i32})` and `union(x={b=u8})` are merged to
+-- `union(x={a=i32?, b=u8?})`. Types without parts are merged by nullability alone. That this is the least type as which
+-- both can be read is a theorem (`ReadsAs`, and `laws`).
+use Rattle.std.specs.Prelude.{ℕ, List, [], ◌∷◌, ◌++◌, map, Bool, true, false, ◌&&◌, ◌==◌, Option, Some, None, is_none, is_some, if◌then◌else◌}
 use Rattle.std.specs.List.{filter, list_all}
 use Rattle.std.specs.Option.{option_map}
 use Rattle.std.specs.Str.{bytes_eq}
-use Rattle.std.proofs.Math.Bool.{beq, not}
+use Rattle.std.proofs.Math.Bool.{not}
 use Rattle.dtype_base.specs.Nullability.{either}
 use Rattle.dtype_base.specs.declared.nullability.Nullability.{Nullability}
 use Rattle.dtype_base.specs.declared.nullability.Nullability.TheVariants.{NonNullable, Nullable}
@@ -19,7 +19,7 @@ use Rattle.dtype_types.specs.equality.Equality.{same_tag}
 use Rattle.dtype_types.specs.nullability.Merged.{merged}
 use Rattle.dtype_types.specs.nullability.Nullable.{nullability, set_null}
 use Rattle.dtype_types.specs.parts.Lookups.{first_named, variant_names}
-use Rattle.dtype_types.specs.tree.Tree.{Tree, Fields, Variants, Items, Holder, Tag, no_items, item, pairs, triples, fields, list, fixed_size_list, map_of, struct, union, extension}
+use Rattle.dtype_types.specs.tree.Tree.{Tree, Fields, Variants, Items, Holder, Tag, no_items, item, pairs, triples, fields, null, list, fixed_size_list, map_of, struct, union, extension}
 use Rattle.dtype_merging.specs.ReadsAs.{tags}
 
 -- no two of the fields have the same name
@@ -64,6 +64,11 @@ abbrev pub prepend : List ℕ → Option Tree → Option (List (List ℕ × Tree
 prepend n (Some t) (Some rest) = Some ((n, t) ∷ rest)
 prepend n _ _ = None
 
+-- whether the keys of the merged map are sorted: those of both maps are, and the two key types are equal except for
+-- nullabilities, so that the keys stay what they are
+abbrev pub stay_sorted : Bool → Tree → Bool → Tree → Bool
+stay_sorted x t y u = x && y && is_some (merged t u)
+
 -- the map of this key type and this value type; None if its key would be nullable, which no valid map's is
 abbrev pub map_of_key : Nullability → Tree → Tree → Bool → Nullability → Option Tree
 map_of_key NonNullable k v s n = Some (map_of k v s n)
@@ -87,17 +92,24 @@ abbrev pub put_first : {h : Holder} → List ℕ → Tag h → Option Tree → O
 put_first n f (Some t) (Some rest) = Some (item n t f rest)
 put_first n f _ _ = None
 
+-- Two types whose parts aren't merged one by one: `null` is merged with every type, which is made nullable, and other types
+-- by nullability.
+abbrev pub others_merged : Tree → Tree → Option Tree
+others_merged null u = Some (made_nullable u)
+others_merged t null = Some (made_nullable t)
+others_merged t u = merged t u
+
 abbrev mutual
   -- the least type as which both types can be read, or None if there is none
   pub columns_merged : Tree → Tree → Option Tree
   columns_merged (list t m) (list u n) = option_map (λ x. list x (either m n)) (columns_merged t u)
   columns_merged (fixed_size_list t j m) (fixed_size_list u k n) = if j == k then option_map (λ x. fixed_size_list x j (either m n)) (columns_merged t u) else None
-  columns_merged (map_of t v x m) (map_of u w y n) = if beq x y then map_with (columns_merged t u) (columns_merged v w) x (either m n) else None
+  columns_merged (map_of t v x m) (map_of u w y n) = map_with (columns_merged t u) (columns_merged v w) (stay_sorted x t y u) (either m n)
   columns_merged (struct fs m) (struct gs n) =
       if no_repeats (pairs fs) && no_repeats (pairs gs) then struct_with (merged_by_name fs gs) (further (pairs fs) (pairs gs)) (either m n) else option_map (λ hs. struct hs (either m n)) (merged_beside fs gs)
   columns_merged (union vs m) (union ws n) = union_with (merged_beside vs ws) (either m n)
   columns_merged (extension i a t) (extension j b u) = if bytes_eq i j && bytes_eq a b then option_map (extension i a) (columns_merged t u) else None
-  columns_merged t u = merged t u
+  columns_merged t u = others_merged t u
 
   -- the fields of `fs`, each merged with the field of its name in `gs`
   pub merged_by_name : Fields → Fields → Option (List (List ℕ × Tree))

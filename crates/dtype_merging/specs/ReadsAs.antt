@@ -8,13 +8,16 @@
 -- name, so a struct in which a name repeats is read only as structs with the same names in the same order, and each field
 -- as the field at its position. For example, `{a=i32, a={b=u8}}` can be read as `{a=i32?, a={c=bool?, b=u8}}`. A union is
 -- read only as unions with the same names and tags in the same order, and each variant as the variant at its position.
-use Rattle.std.specs.Prelude.{◌≡◌, ◌⊎◌, ℕ, List, Some, None, IsSomeAnd}
+-- A map whose keys are sorted can also be read as a map that doesn't promise it (`StaySorted`). The type `null`, whose only
+-- value is null, is read as each nullable type: a column that has only nulls is read as a column that is missing.
+use Rattle.std.specs.Prelude.{◌≡◌, ◌⊎◌, ℕ, List, Bool, true, Some, None, IsSomeAnd}
 use Rattle.dtype_base.specs.Distinct.{Distinct}
 use Rattle.dtype_base.specs.declared.nullability.Nullability.{Nullability}
 use Rattle.dtype_types.specs.nullability.Nullable.{IsNullable}
 use Rattle.dtype_types.specs.nullability.Sub.{Sub, Allows}
 use Rattle.dtype_types.specs.parts.Lookups.{field_names, first_named, variant_tags}
-use Rattle.dtype_types.specs.tree.Tree.{Tree, Fields, Variants, Items, Holder, no_items, item, pairs, triples, list, fixed_size_list, map_of, struct, union, extension}
+use Rattle.dtype_types.specs.tree.Erase.{erase}
+use Rattle.dtype_types.specs.tree.Tree.{Tree, Fields, Variants, Items, Holder, no_items, item, pairs, triples, null, list, fixed_size_list, map_of, struct, union, extension}
 use Rattle.dtype_types.specs.tree.Valid.{Valid}
 
 -- the names of the fields, in order
@@ -33,40 +36,58 @@ NoRepeats fs gs = Distinct (names fs) × Distinct (names gs)
 abbrev pub OnlyFurther : (Tree → Type 0) → Fields → Fields → Type 0
 OnlyFurther E fs gs = (n : List ℕ) (u : Tree) → first_named (pairs fs) n ≡ None → first_named (pairs gs) n ≡ Some u → E u
 
+-- What `StaySorted` and `SameOrder` say of two maps: `x` and `y` are whether their keys are sorted, and `t` and `u` are
+-- their key types. The keys of a map stay sorted only if they stay what they are: if a reader puts the columns of a key
+-- into another order, or adds one, then the keys may come in another order. So a map can be read as one with sorted keys
+-- only if its keys are sorted, and if the two key types are equal except for nullabilities. For example,
+-- `map({a=i32, b=i32}, u8, keys_sorted=true)` can be read as `map({b=i32, a=i32}, u8)`, but not as
+-- `map({b=i32, a=i32}, u8, keys_sorted=true)`.
+abbrev pub StaySorted : Bool → Tree → Bool → Tree → Type 0
+StaySorted x t y u = y ≡ true → (x ≡ true) × (erase t ≡ erase u)
+
+-- the flags are equal, and if they are true, then the key types are equal except for nullabilities
+abbrev pub SameOrder : Bool → Tree → Bool → Tree → Type 0
+SameOrder x t y u = (x ≡ y) × (y ≡ true → erase t ≡ erase u)
+
 -- Two types are alike if `R` is true of their nullabilities, their parts are alike, and each field of a struct has a
--- field of its name in the other struct, in any order, whose type is alike. `E` is true of the types of the further
--- fields of the second. Unions, and structs in which a name repeats, are alike if their variants or fields are, position
--- by position. `L` is true of types without parts. It is also true of unions in which a tag repeats: they aren't valid,
+-- field of its name in the other struct, in any order, whose type is alike. `K` is true of the flags and the key types of
+-- maps. `E` is true of the types of the further fields of the second. Unions, and structs in which a name repeats, are
+-- alike if their variants or fields are, position by position. `L` is true of types without parts. It is also true of unions in which a tag repeats: they aren't valid,
 -- and the tag of a value doesn't tell its variant, so a reader can't change the value.
 abbrev mutual
-  pub Alike : (Tree → Tree → Type 0) → (Nullability → Nullability → Type 0) → (Tree → Type 0) → Tree → Tree → Type 0
-  Alike L R E (list t m) (list u n) = R m n × Alike L R E t u
-  Alike L R E (fixed_size_list t j m) (fixed_size_list u k n) = (j ≡ k) × R m n × Alike L R E t u
-  Alike L R E (map_of t v x m) (map_of u w y n) = (x ≡ y) × R m n × Alike L R E t u × Alike L R E v w
-  Alike L R E (struct fs m) (struct gs n) =
-      (NoRepeats fs gs × R m n × EachFound L R E fs gs × OnlyFurther E fs gs) ⊎ ((¬ NoRepeats fs gs) × R m n × EachBeside L R E fs gs)
-  Alike L R E (union vs m) (union ws n) = R m n × EachBeside L R E vs ws × (Distinct (tags vs) ⊎ L (union vs m) (union ws n))
-  Alike L R E (extension i a t) (extension j b u) = (i ≡ j) × (a ≡ b) × Alike L R E t u
-  Alike L R E t u = L t u
+  pub Alike : (Tree → Tree → Type 0) → (Nullability → Nullability → Type 0) → (Bool → Tree → Bool → Tree → Type 0) → (Tree → Type 0) → Tree → Tree → Type 0
+  Alike L R K E (list t m) (list u n) = R m n × Alike L R K E t u
+  Alike L R K E (fixed_size_list t j m) (fixed_size_list u k n) = (j ≡ k) × R m n × Alike L R K E t u
+  Alike L R K E (map_of t v x m) (map_of u w y n) = K x t y u × R m n × Alike L R K E t u × Alike L R K E v w
+  Alike L R K E (struct fs m) (struct gs n) =
+      (NoRepeats fs gs × R m n × EachFound L R K E fs gs × OnlyFurther E fs gs) ⊎ ((¬ NoRepeats fs gs) × R m n × EachBeside L R K E fs gs)
+  Alike L R K E (union vs m) (union ws n) = R m n × EachBeside L R K E vs ws × (Distinct (tags vs) ⊎ L (union vs m) (union ws n))
+  Alike L R K E (extension i a t) (extension j b u) = (i ≡ j) × (a ≡ b) × Alike L R K E t u
+  Alike L R K E t u = L t u
 
   -- the name of each field of `fs` finds a field of `gs`, and the types of the two are alike
-  pub EachFound : (Tree → Tree → Type 0) → (Nullability → Nullability → Type 0) → (Tree → Type 0) → Fields → Fields → Type 0
-  EachFound L R E no_items gs = Unit {0}
-  EachFound L R E (item n t _ fs) gs = IsSomeAnd (first_named (pairs gs) n) (λ u. Alike L R E t u) × EachFound L R E fs gs
+  pub EachFound : (Tree → Tree → Type 0) → (Nullability → Nullability → Type 0) → (Bool → Tree → Bool → Tree → Type 0) → (Tree → Type 0) → Fields → Fields → Type 0
+  EachFound L R K E no_items gs = Unit {0}
+  EachFound L R K E (item n t _ fs) gs = IsSomeAnd (first_named (pairs gs) n) (λ u. Alike L R K E t u) × EachFound L R K E fs gs
 
   -- the items have the same names and tags in the same order, and the two types at each position are alike
-  pub EachBeside : (Tree → Tree → Type 0) → (Nullability → Nullability → Type 0) → (Tree → Type 0) → {h : Holder} → Items h → Items h → Type 0
-  EachBeside L R E no_items no_items = Unit {0}
-  EachBeside L R E (item m t f xs) (item n u g ys) = (m ≡ n) × (f ≡ g) × Alike L R E t u × EachBeside L R E xs ys
-  EachBeside L R E _ _ = ⊥
+  pub EachBeside : (Tree → Tree → Type 0) → (Nullability → Nullability → Type 0) → (Bool → Tree → Bool → Tree → Type 0) → (Tree → Type 0) → {h : Holder} → Items h → Items h → Type 0
+  EachBeside L R K E no_items no_items = Unit {0}
+  EachBeside L R K E (item m t f xs) (item n u g ys) = (m ≡ n) × (f ≡ g) × Alike L R K E t u × EachBeside L R K E xs ys
+  EachBeside L R K E _ _ = ⊥
+
+-- a type without parts is read as a type of which it is a subset, and `null` as each nullable type
+abbrev pub ReadsPlain : Tree → Tree → Type 0
+ReadsPlain null u = IsNullable u
+ReadsPlain t u = Sub t u
 
 -- `t` can be read as `u`: `u` is nullable in each place in which `t` is, and its further columns are nullable
 abbrev pub ReadsAs : Tree → Tree → Type 0
-ReadsAs = Alike Sub Allows IsNullable
+ReadsAs = Alike ReadsPlain Allows StaySorted IsNullable
 
--- the two types are the same up to the order of columns
+-- the two types are the same up to the order of columns; the columns of sorted keys are in the same order
 abbrev pub SameColumns : Tree → Tree → Type 0
-SameColumns = Alike (λ t u. t ≡ u) (λ m n. m ≡ n) (λ t. ⊥)
+SameColumns = Alike (λ t u. t ≡ u) (λ m n. m ≡ n) SameOrder (λ t. ⊥)
 
 -- both `a` and `b` can be read as `c`, and `c` can be read as each valid type `d` as which both can be read
 pub record IsLeastReader (a b c : Tree) : Type 0 where

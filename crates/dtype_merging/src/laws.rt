@@ -2,12 +2,13 @@
 // SPDX-FileCopyrightText: Copyright the Vortex contributors
 
 // Theorems about the definitions. Each function's contract is the theorem, and its body is empty.
-ghost use Rattle.std.specs.Prelude.{◌≡◌, None, Some};
+ghost use Rattle.std.specs.Prelude.{◌≡◌, ◌↔◌, None, Some};
+ghost use Rattle.dtype_base.specs.declared.nullability.Nullability.TheVariants.{Nullable};
 ghost use Rattle.dtype_types.specs.nullability.Merged.{merged};
-ghost use Rattle.dtype_types.specs.nullability.Nullable.{IsNullable};
+ghost use Rattle.dtype_types.specs.nullability.Nullable.{IsNullable, set_null};
 ghost use Rattle.dtype_types.specs.nullability.Sub.{Sub};
 ghost use Rattle.dtype_types.specs.tree.Erase.{erase};
-ghost use Rattle.dtype_types.specs.tree.Tree.{Tree};
+ghost use Rattle.dtype_types.specs.tree.Tree.{Tree, null};
 ghost use Rattle.dtype_types.specs.tree.Valid.{Valid};
 ghost use Rattle.dtype_types.specs.values.Value.{Of, Value};
 ghost use Rattle.dtype_merging.specs.Filled.{filled};
@@ -20,8 +21,9 @@ ghost use Rattle.dtype_merging.specs.ReadsAs.{HaveNoReader, IsLeastReader, Reads
 /// - `back`: if each of `t` and `u` can be read as the other, then the two are the same up to the order of columns.
 /// - `same`: if `t` and `u` are the same up to the order of columns, then `t` can be read as `u`.
 ///
-/// For example, each of `{a=i32, b=utf8}` and `{b=utf8, a=i32}` can be read as the other. With this law a caller knows
-/// that a schema that was extended several times still reads the oldest file.
+/// For example, each of `{a=i32, b=utf8}` and `{b=utf8, a=i32}` can be read as the other. In `same` and `back`, the columns
+/// of the keys of a map are in the same order if the keys are sorted (`SameOrder`). With this law a caller knows that a
+/// schema that was extended several times still reads the oldest file.
 ///
 /// About [`merge_columns`].
 #[tactic(auto, using(crate::proofs::lemmas::Reading::reads_itself, crate::proofs::lemmas::Reading::reads_more, crate::proofs::lemmas::Reading::reads_back, crate::proofs::lemmas::Reading::same_reads))]
@@ -43,6 +45,44 @@ pub fn reading_is_an_order()
 pub fn subsets_can_be_read()
     ensures subset { (t u : Tree) → Sub t u → ReadsAs t u }
     ensures nullable { (t u : Tree) → ReadsAs t u → IsNullable t → IsNullable u }
+{}
+
+/// For every type `t`:
+/// - `read`: `null` can be read as `t` exactly if `t` is nullable.
+/// - `first` and `second`: merging `t` with `null`, in both orders, returns `t` with its outer nullability set to
+///   `Nullable`.
+///
+/// For example, merging `null` and `list(i32)` returns `list(i32)?`. So a file in which a column has only nulls, and which
+/// was therefore written with the type `null`, can be read together with files that have other values in that column.
+///
+/// About [`merge_columns`].
+#[tactic(auto, using(crate::proofs::lemmas::MergeLaws::with_nulls))]
+pub fn null_is_read_as_each_nullable_type()
+    ensures read { (t : Tree) → ReadsAs null t ↔ IsNullable t }
+    ensures first { (t : Tree) → columns_merged null t ≡ set_null t Nullable }
+    ensures second { (t : Tree) → columns_merged t null ≡ set_null t Nullable }
+{}
+
+/// For all types `t` and `u` such that `t` is valid and `u` can be read as `t`, merging the two, in both orders, returns a
+/// type that is `t` up to the order of columns. For example, merging `{a=i32?, b=utf8}` and `{b=utf8, a=i32}` returns
+/// `{a=i32?, b=utf8}`. With this law a caller knows that a file which can be read as a table leaves the type of the table
+/// as it is.
+///
+/// About [`merge_columns`].
+#[tactic(auto, using(crate::proofs::lemmas::MergeLaws::changes_nothing, crate::proofs::lemmas::MergeLaws::changes_nothing_turned))]
+pub fn merging_with_what_is_read_changes_nothing()
+    ensures after { (t u : Tree) → Valid t → ReadsAs u t → ((c : Tree) × (columns_merged t u ≡ Some c) × SameColumns c t) }
+    ensures before { (t u : Tree) → Valid t → ReadsAs u t → ((c : Tree) × (columns_merged u t ≡ Some c) × SameColumns c t) }
+{}
+
+/// If the key types `t` and `u` of two maps are equal except for nullabilities, then each value of `t`, read as `u`, is the
+/// same value. So sorted keys stay sorted where `StaySorted` says so: a reader doesn't change them. For example, the value
+/// `{a=1, b=2}` of `{a=i32, b=i32}` is the same value of `{a=i32?, b=i32}`.
+///
+/// About [`merge_columns`].
+#[tactic(auto, using(crate::proofs::lemmas::Filling::same_filled))]
+pub fn keys_that_stay_sorted_stay_the_same()
+    ensures { (t u : Tree) (v : Value) → erase t ≡ erase u → Of v t → filled t u v ≡ v }
 {}
 
 /// For all types `t` and `u` such that `t` can be read as `u`, and for each value `v` of `t`, `filled t u v` is a value

@@ -3,7 +3,7 @@
 
 //! One type for two types with different columns: the definitions and the theorems about them. A program that reads
 //! several files as one table needs such a type, because the files were written at different times: a column was added,
-//! another is missing, and the order differs.
+//! another is missing or has only nulls, and the order differs.
 //!
 //! The following is proved of `merge_columns`:
 //! - Both types can be read as the type that it returns.
@@ -13,6 +13,8 @@
 //! - The order of the types decides only the order of the columns, also if more than two are merged.
 //! - From each value of one of the two types, adding nulls and ordering the columns makes a value of the merged type.
 //!
+//! `merge_all` merges the types of several files, and the same is proved of it.
+//!
 //! If there is no such type, `merge_conflict` returns the first place at which the two types can't be merged, as a path
 //! and the two types there.
 //!
@@ -20,18 +22,22 @@
 //! - `ReadsAs`: which type can be read as which, and which types are the same up to the order of columns.
 //! - `MergedColumns`: what is merged of two types, by recursion on the first.
 //! - `Filled`: the value that a reader makes of a value of one type to read it as another.
+//! - `AllMerged`: what several types are merged to, one after another.
 //! - `Conflicts`: the first place at which two types can't be merged.
 //!
-//! Unions have a common type only if they have the same names and tags in the same order, and so have structs in which a
-//! name repeats, because their columns can't be told apart by name. Their types are merged position by position.
+//! `null` is merged with every type. Unions have a common type only if they have the same names and tags in the same order.
+//! The same is so of the names of structs in which a name repeats, because their columns can't be told apart by name. The
+//! types of both are merged position by position.
 //!
 //! Only private contracts cite `specs/private`. `proofs/lemmas` contains the lemmas that callers may cite. `laws` states
 //! the theorems about the definitions.
 #![tactic(auto)]
 
+mod all;
 mod conflict;
 pub mod laws;
 mod merge;
 
+pub use all::merge_all;
 pub use conflict::{MergeConflict, merge_conflict};
 pub use merge::merge_columns;

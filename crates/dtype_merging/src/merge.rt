@@ -11,13 +11,13 @@ ghost use Rattle.dtype_types.specs.tree.TreeOf.{children, extension_tree, fields
 ghost use Rattle.dtype_types.specs.tree.Valid.{Valid};
 ghost use Rattle.dtype_types.specs.values.Value.{Of, Value};
 ghost use Rattle.dtype_merging.specs.Filled.{filled};
-ghost use Rattle.dtype_merging.specs.MergedColumns.{column, columns_merged, further, merged_beside, merged_by_name, no_repeats, struct_with, union_with};
+ghost use Rattle.dtype_merging.specs.MergedColumns.{column, columns_merged, further, merged_beside, merged_by_name, no_repeats, others_merged, struct_with, union_with};
 ghost use Rattle.dtype_merging.specs.ReadsAs.{HaveNoReader, IsLeastReader};
-ghost use Rattle.dtype_merging.specs.private.Collected.{collected, maps_merged, types_merged};
+ghost use Rattle.dtype_merging.specs.private.Collected.{collected, maps_merged, maps_stay_sorted, types_merged};
 
 use dtype_base::{FieldName, Nullability, VortexError, VortexResult};
 use dtype_types::{
-    DType, DTypeIter, ExtDTypeRef, FieldDType, MapDType, StructFields, UnionVariants,
+    DType, DTypeIter, ExtDTypeRef, FieldDType, Kind, MapDType, StructFields, UnionVariants,
     merge_nullability,
 };
 use std::alloc::Global;
@@ -28,17 +28,29 @@ use std::alloc::Global;
 /// The rules are:
 /// - A struct has the fields of the first in their order, and then those of the second that the first lacks. A field
 ///   that both have is merged by these rules. A field that one of the two lacks is nullable.
-/// - Lists, fixed-size lists of the same size, maps with the same flag, and extensions with the same id and the same
-///   metadata are merged by their parts. Maps whose merged key type would be nullable can't be merged.
+/// - `null` can be merged with every type, which is made nullable. So a column that has only nulls in one file, and was
+///   written as `null`, has the type that the other file has.
+/// - Lists, fixed-size lists of the same size, maps, and extensions with the same id and the same metadata are merged by
+///   their parts. Maps whose merged key type would be nullable can't be merged.
+/// - The merged map declares sorted keys (`keys_sorted`) only if both maps do, and if the two key types are equal except
+///   for nullabilities. Otherwise the reader may have to change the keys, and changed keys needn't be sorted. For example,
+///   it puts the columns of the keys of `map({b=i32, a=i32}, u8, keys_sorted=true)` into the order `a`, `b`, if this map
+///   is merged with `map({a=i32, b=i32}, u8, keys_sorted=true)`.
 /// - Unions with the same names and tags in the same order are merged variant by variant. Structs in which a name repeats
 ///   are merged field by field, if the names are the same in the same order, because their columns can't be told apart by
 ///   name.
 /// - All other types are merged as `merge_nullability` merges them.
 /// - In each place, at every depth, the merged type is nullable if one of the two types is nullable there.
 ///
-/// For example, merging `{a=i32, b=utf8}` and `{c=u8, a=i32?}` returns `{a=i32?, b=utf8?, c=u8?}`. Merging
-/// `union(x={a=i32})` and `union(x={b=u8})` returns `union(x={a=i32?, b=u8?})`. Merging `{a=i32}` and `{a=utf8}` returns
-/// `None`, and `merge_conflict` returns the path `a` and the two types there.
+/// For example, merging `{a=i32, b=utf8}` and `{c=u8, a=i32?}` returns `{a=i32?, b=utf8?, c=u8?}`. Merging `{a=null}` and
+/// `{a=list(i32)}` returns `{a=list(i32)?}`. Merging `union(x={a=i32})` and `union(x={b=u8})` returns
+/// `union(x={a=i32?, b=u8?})`. Merging `{a=i32}` and `{a=utf8}` returns `None`, and `merge_conflict` returns the path `a`
+/// and the two types there.
+///
+/// If a session accepts the extensions of both types, it needn't accept those of the merged type, because a plugin decides
+/// for itself which storage types it accepts. For example, a plugin that accepts only structs with one column accepts the
+/// storage types `{a=i32}` and `{b=i32}`, but not the merged one, `{a=i32?, b=i32?}`. Then `to_proto` writes the merged
+/// type as a message, and `from_proto` refuses to read it with `MetadataRefused` (22).
 ///
 /// vortex-array has no such call.
 ///
@@ -94,8 +106,22 @@ fn merge(alloc: Global, a: &DType, b: &DType) -> VortexResult<Option<DType>>
             merge_unions(alloc, variants, others, *m | *n)
         }
         (DType::Extension(t), DType::Extension(u)) => merge_extensions(alloc, t, u),
-        _ => merge_nullability(alloc, a, b),
+        _ => merge_others(alloc, a, b),
     }
+}
+
+// Returns the merged type of two types whose parts aren't merged one by one.
+#[tactic(auto, using(crate::proofs::lemmas::Merging::merging_others))]
+fn merge_others(alloc: Global, a: &DType, b: &DType) -> VortexResult<Option<DType>>
+    ensures { Makes result (λ r. option_map tree r ≡ others_merged (tree a.now) (tree b.now)) }
+{
+    if a.kind() == Kind::Null {
+        return Ok(Some(b.as_nullable(alloc)?));
+    }
+    if b.kind() == Kind::Null {
+        return Ok(Some(a.as_nullable(alloc)?));
+    }
+    Ok(merge_nullability(alloc, a, b)?)
 }
 
 // Returns the merged type of two maps. Its outer nullability is `n`.
@@ -108,10 +134,6 @@ fn merge_maps(
 ) -> VortexResult<Option<DType>>
     ensures { Makes result (λ r. option_map tree r ≡ maps_merged (map_shown a.now) (map_shown b.now) n) }
 {
-    let keys_sorted = a.keys_sorted();
-    if keys_sorted != b.keys_sorted() {
-        return Ok(None);
-    }
     let Some(key) = merge(alloc, a.key_dtype(), b.key_dtype())? else {
         return Ok(None);
     };
@@ -119,9 +141,16 @@ fn merge_maps(
         return Ok(None);
     }
     match merge(alloc, a.value_dtype(), b.value_dtype())? {
-        Some(value) => Ok(Some(DType::map(alloc, key, value, keys_sorted, n)?)),
+        Some(value) => Ok(Some(DType::map(alloc, key, value, keys_stay_sorted(a, b), n)?)),
         None => Ok(None),
     }
+}
+
+// Returns whether the keys of the merged map are sorted.
+fn keys_stay_sorted(a: &MapDType, b: &MapDType) -> bool
+    ensures { result ≡ maps_stay_sorted (map_shown a.now) (map_shown b.now) }
+{
+    a.keys_sorted() && b.keys_sorted() && a.key_dtype().eq_ignore_nullability(b.key_dtype())
 }
 
 // Returns the merged type of two extensions.

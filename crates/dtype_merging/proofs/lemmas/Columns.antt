@@ -16,11 +16,11 @@ use Rattle.dtype_types.proofs.lemmas.JoinedFields.{named_before, named_behind}
 use Rattle.dtype_types.proofs.lemmas.Nullabilities.{set_is}
 use Rattle.dtype_types.proofs.lemmas.Order.{below_nullable}
 use Rattle.dtype_types.proofs.lemmas.TreeLaws.{pairs_of}
-use Rattle.dtype_merging.specs.ReadsAs.{ReadsAs, names}
+use Rattle.dtype_merging.specs.ReadsAs.{ReadsAs, ReadsPlain, StaySorted, names}
 use Rattle.dtype_merging.specs.MergedColumns.{further, made_nullable, no_repeats, or_tree}
 use Rattle.dtype_merging.proofs.lemmas.Finding.{Pairs, agrees_rest, by_name, by_option, by_place, finds_first, finds_later, no_repeats_rest, true_both}
 use Rattle.dtype_merging.proofs.lemmas.Order.{of_extension, of_fixed, of_list, of_map, of_struct, of_union}
-use Rattle.dtype_merging.proofs.lemmas.Reading.{reads_kind, sub_kind, sub_reads}
+use Rattle.dtype_merging.proofs.lemmas.Reading.{plain_kinds, reads_kind, sub_reads}
 use Rattle.dtype_merging.proofs.lemmas.Repeats.{distinct_tested, tested_distinct}
 
 -- ---- a type that is made nullable
@@ -50,30 +50,30 @@ made_least (utf8 m) (utf8 n) h e = record { erased = h.erased; nullable = λ z. 
 made_least (binary m) (binary n) h e = record { erased = h.erased; nullable = λ z. e }
 made_least (variant m) (variant n) h e = record { erased = h.erased; nullable = λ z. e }
 made_least (union vs m) y h e =
-    let i = of_union Sub Allows IsNullable sub_kind vs m y h in
+    let i = of_union ReadsPlain Allows StaySorted IsNullable plain_kinds vs m y h in
     let at = subst IsNullable i.2 e in
     subst (ReadsAs (union vs Nullable)) (sym i.2) (λ z. at, i.3.1, elim i.3.2 [ inl d ↦ inl d | inr s ↦ inr (record { erased = s.erased; nullable = (λ z. at, s.nullable.1) }) ])
 made_least (list t m) y h e =
-    let i = of_list Sub Allows IsNullable sub_kind t m y h in
+    let i = of_list ReadsPlain Allows StaySorted IsNullable plain_kinds t m y h in
     let at = subst IsNullable i.2 e in subst (ReadsAs (list t Nullable)) (sym i.2) (λ z. at, i.4)
 made_least (fixed_size_list t j m) y h e =
-    let i = of_fixed Sub Allows IsNullable sub_kind t j m y h in
+    let i = of_fixed ReadsPlain Allows StaySorted IsNullable plain_kinds t j m y h in
     let at = subst IsNullable i.2 e in subst (ReadsAs (fixed_size_list t j Nullable)) (sym i.2) (refl, λ z. at, i.4)
 made_least (map_of t v x m) y h e =
-    let i = of_map Sub Allows IsNullable sub_kind t v x m y h in
-    let at = subst IsNullable i.3 e in subst (ReadsAs (map_of t v x Nullable)) (sym i.3) (refl, λ z. at, i.5, i.6)
+    let i = of_map ReadsPlain Allows StaySorted IsNullable plain_kinds t v x m y h in
+    let at = subst IsNullable i.4 e in subst (ReadsAs (map_of t v x Nullable)) (sym i.4) (i.5, λ z. at, i.7, i.8)
 made_least (struct fs m) y h e =
-    let i = of_struct Sub Allows IsNullable sub_kind fs m y h in
+    let i = of_struct ReadsPlain Allows StaySorted IsNullable plain_kinds fs m y h in
     let at = subst IsNullable i.2 e in
     subst (ReadsAs (struct fs Nullable)) (sym i.2) (elim i.3 [
       | inl s ↦ inl (s.0, λ z. at, s.2, s.3)
       | inr s ↦ inr (s.0, λ z. at, s.2)
     ])
 made_least (extension i b t) y h e =
-    let p = of_extension Sub Allows IsNullable sub_kind i b t y h in
+    let p = of_extension ReadsPlain Allows StaySorted IsNullable plain_kinds i b t y h in
     let at = subst IsNullable p.1 e in
     subst (λ z. ReadsAs z y) (sym (made_in_storage i b t)) (subst (ReadsAs (extension i b (made_nullable t))) (sym p.1) (refl, refl, made_least t p.0 p.2 at))
-made_least t y h e = let kinds = reads_kind t y h in cc
+made_least t y h e = let kinds = reads_kind t y refl h in cc
 
 -- ---- columns side by side with fields
 

@@ -2,7 +2,7 @@
 -- SPDX-FileCopyrightText: Copyright the Vortex contributors
 
 -- The value that a reader makes of a value of one type to read it as another is a value of the other.
-use Rattle.std.proofs.Common.{◌≡◌, ◌==◌, ◌&&◌, ℕ, suc, List, Bool, true, false, Some, if◌then◌else◌, refl, sym, ap, subst, ◌∙◌, inl, inr}
+use Rattle.std.proofs.Common.{◌≡◌, ◌==◌, ◌&&◌, ℕ, suc, List, Bool, true, false, Some, None, if◌then◌else◌, refl, sym, ap, subst, ◌∙◌, inl, inr}
 use Rattle.std.specs.List.{list_all}
 use Rattle.std.proofs.Math.Bool.{not}
 use Rattle.std.proofs.lemmas.Bool.{false≢true}
@@ -10,19 +10,21 @@ use Rattle.std.proofs.lemmas.Bool.Decides.{Decides-eqb}
 use Rattle.std.proofs.lemmas.Option.{same_Some}
 use Rattle.dtype_base.specs.declared.nullability.Nullability.{Nullability}
 use Rattle.dtype_types.specs.nullability.Nullable.{IsNullable}
-use Rattle.dtype_types.specs.nullability.Sub.{Sub, Allows}
+use Rattle.dtype_types.specs.nullability.Sub.{Allows}
 use Rattle.dtype_types.specs.parts.Lookups.{first_named}
-use Rattle.dtype_types.specs.tree.Tree.{Tree, Fields, Variants, no_items, item, pairs, list, fixed_size_list, map_of, struct, union, extension}
+use Rattle.dtype_types.specs.tree.Erase.{erase, erase_items}
+use Rattle.dtype_types.specs.tree.Tree.{Tree, Fields, Variants, no_items, item, pairs, null, list, fixed_size_list, map_of, struct, union, extension, rest_of}
 use Rattle.dtype_types.specs.values.Value.{Value, Values, no_values, value, Entries, no_entries, entry, Named, no_named, named, null_value, items, fixed_items, entries, record_of, tagged, Each, EachEntry, NamedOf, Of, VariantOf, value_count}
 use Rattle.dtype_types.proofs.lemmas.Lookups.{other_name, taken_same_name}
 use Rattle.dtype_types.proofs.lemmas.NullValues.{null_is_of_nullable}
 use Rattle.dtype_types.proofs.lemmas.SubValues.{sub_values}
 use Rattle.dtype_merging.specs.Filled.{cell, each_entry, each_value, filled, filled_beside, filled_pairs, filled_variant, in_entries, in_items, in_record, in_variant, value_named}
 use Rattle.dtype_merging.specs.MergedColumns.{no_repeats, tags_differ}
-use Rattle.dtype_merging.specs.ReadsAs.{EachBeside, EachFound, OnlyFurther, ReadsAs, tags}
-use Rattle.dtype_merging.proofs.lemmas.Finding.{Agrees, agrees_first, agrees_rest, both_true, by_bool, by_option, by_place, found, no_repeats_rest, true_both}
+use Rattle.dtype_merging.specs.ReadsAs.{EachBeside, EachFound, OnlyFurther, ReadsAs, ReadsPlain, StaySorted, tags}
+use Rattle.dtype_merging.proofs.lemmas.Beside.{type_or}
+use Rattle.dtype_merging.proofs.lemmas.Finding.{Agrees, agrees_first, agrees_rest, both_true, by_bool, by_name, by_option, by_place, finds_first, finds_later, found, no_repeats_rest, true_both}
 use Rattle.dtype_merging.proofs.lemmas.Order.{alike_plain, plain}
-use Rattle.dtype_merging.proofs.lemmas.Reading.{reads_kind}
+use Rattle.dtype_merging.proofs.lemmas.Reading.{erased_kind, reads_kind}
 use Rattle.dtype_merging.proofs.lemmas.Repeats.{distinct_tested, tested_distinct}
 use Rattle.dtype_merging.proofs.lemmas.Variants.{first_tag_alone, tested_tags}
 
@@ -92,17 +94,135 @@ plain_filled (union vs m) u v p = absurd (false≢true p)
 plain_filled (extension i a t) u v p = absurd (false≢true p)
 plain_filled t u v p = refl
 
--- ---- at every depth
+null_filled : (u : Tree) (v : Value) → IsNullable u → Of v null → Of v u
+null_filled u null_value h o = (null_is_of_nullable u).1 h
+null_filled u _ h o = absurd o
+
+-- ---- types that are equal except for nullabilities
+
+each_same : (P : Value → Type 0) (f : Value → Value) → ((v : Value) → P v → f v ≡ v) → (vs : Values) → Each P vs → each_value f vs ≡ vs
+each_same P f g no_values h = refl
+each_same P f g (value v vs) h = ap (λ x. value x (each_value f vs)) (g v h.0) ∙ ap (value v) (each_same P f g vs h.1)
+
+items_same : (t : Tree) (n : Nullability) (f : Value → Value) → ((v : Value) → Of v t → f v ≡ v) → (v : Value) → Of v (list t n) → in_items f v ≡ v
+items_same t n f g (items vs) o = ap items (each_same (λ v. Of v t) f g vs o)
+items_same t n f g null_value o = refl
+items_same t n f g _ o = absurd o
+
+fixed_same : (t : Tree) (k : ℕ) (n : Nullability) (f : Value → Value) → ((v : Value) → Of v t → f v ≡ v) → (v : Value) → Of v (fixed_size_list t k n) → in_items f v ≡ v
+fixed_same t k n f g (fixed_items vs) o = ap fixed_items (each_same (λ v. Of v t) f g vs o.1)
+fixed_same t k n f g null_value o = refl
+fixed_same t k n f g _ o = absurd o
+
+entries_same : (t p : Tree) (f h : Value → Value) → ((v : Value) → Of v t → f v ≡ v) → ((v : Value) → Of v p → h v ≡ v) → (es : Entries) → EachEntry (λ k. Of k t) (λ v. Of v p) es → each_entry f h es ≡ es
+entries_same t p f h c d no_entries o = refl
+entries_same t p f h c d (entry x y es) o =
+    ap (λ z. entry z (h y) (each_entry f h es)) (c x o.0) ∙ ap (λ z. entry x z (each_entry f h es)) (d y o.1) ∙ ap (entry x y) (entries_same t p f h c d es o.2)
+
+map_same : (t p : Tree) (x : Bool) (n : Nullability) (f h : Value → Value) → ((v : Value) → Of v t → f v ≡ v) → ((v : Value) → Of v p → h v ≡ v) → (v : Value) → Of v (map_of t p x n) → in_entries f h v ≡ v
+map_same t p x n f h c d (entries es) o = ap entries (entries_same t p f h c d es o)
+map_same t p x n f h c d null_value o = refl
+map_same t p x n f h c d _ o = absurd o
+
+record_same : (fs : Fields) (n : Nullability) (f : Named → Named) → ((nvs : Named) → NamedOf nvs fs → f nvs ≡ nvs) → (v : Value) → Of v (struct fs n) → in_record f v ≡ v
+record_same fs n f g (record_of nvs) o = ap record_of (g nvs o)
+record_same fs n f g null_value o = refl
+record_same fs n f g _ o = absurd o
+
+variant_same : (vs : Variants) (n : Nullability) (f : ℕ → Value → Value) → ((k : ℕ) (x : Value) → VariantOf k x vs → f k x ≡ x) → (v : Value) → Of v (union vs n) → in_variant f v ≡ v
+variant_same vs n f g (tagged k x) o = ap (tagged k) (g k x o)
+variant_same vs n f g null_value o = refl
+variant_same vs n f g _ o = absurd o
+
+-- a name that no field has finds no value
+no_value : (nvs : Named) (fs : Fields) (n : List ℕ) → NamedOf nvs fs → first_named (pairs fs) n ≡ None → value_named nvs n ≡ None
+no_value no_named fs n o none = refl
+no_value (named k v rest) (item m u _ fs) n o none = by_name m n
+    (λ e. let some = finds_first m n u (pairs fs) e in cc)
+    (λ ne. other_name k n (Some v) (value_named rest n) (λ q. ne (sym o.0 ∙ q)) ∙ no_value rest fs n o.2 (sym (finds_later m n u (pairs fs) ne) ∙ none))
+no_value (named k v rest) no_items n o none = absurd o
+
+mutual
+  pub same_filled : (t u : Tree) (v : Value) → erase t ≡ erase u → Of v t → filled t u v ≡ v
+  same_filled (list t m) (list u n) v e o = let f : erase t ≡ erase u = cc in items_same t m (λ x. filled t u x) (λ x p. same_filled t u x f p) v o
+  same_filled (list t m) u v e o = let k = erased_kind (list t m) u e in cc
+  same_filled (fixed_size_list t j m) (fixed_size_list u i n) v e o = let f : erase t ≡ erase u = cc in fixed_same t j m (λ x. filled t u x) (λ x p. same_filled t u x f p) v o
+  same_filled (fixed_size_list t j m) u v e o = let k = erased_kind (fixed_size_list t j m) u e in cc
+  same_filled (map_of t p x m) (map_of u q y n) v e o =
+      let f : erase t ≡ erase u = cc in
+      let g : erase p ≡ erase q = cc in map_same t p x m (λ k. filled t u k) (λ w. filled p q w) (λ k h. same_filled t u k f h) (λ w h. same_filled p q w g h) v o
+  same_filled (map_of t p x m) u v e o = let k = erased_kind (map_of t p x m) u e in cc
+  same_filled (struct fs m) (struct gs n) v e o =
+      let f : erase_items fs ≡ erase_items gs = cc in
+      by_bool (no_repeats (pairs fs) && no_repeats (pairs gs))
+      (λ tested.
+      let d = both_true (no_repeats (pairs fs)) (no_repeats (pairs gs)) tested in
+      subst (λ b. (if b then in_record (λ nvs. filled_pairs fs nvs gs) v else in_record (λ nvs. filled_beside fs nvs gs) v) ≡ v) (sym tested)
+      (record_same fs m (λ nvs. filled_pairs fs nvs gs) (λ nvs p. pairs_same fs fs gs nvs nvs f d.0 (λ k z is. is) (λ k z is. is) p) v o))
+      (λ differ.
+      subst (λ b. (if b then in_record (λ nvs. filled_pairs fs nvs gs) v else in_record (λ nvs. filled_beside fs nvs gs) v) ≡ v) (sym differ)
+      (record_same fs m (λ nvs. filled_beside fs nvs gs) (λ nvs p. beside_same fs gs nvs f p) v o))
+  same_filled (struct fs m) u v e o = let k = erased_kind (struct fs m) u e in cc
+  same_filled (union vs m) (union ws n) v e o =
+      let f : erase_items vs ≡ erase_items ws = cc in
+      by_bool (tags_differ vs)
+      (λ alone.
+      subst (λ b. (if b then in_variant (λ k x. filled_variant vs ws k x) v else v) ≡ v) (sym alone)
+      (variant_same vs m (λ k x. filled_variant vs ws k x) (λ k x p. variants_same vs ws k x alone f p) v o))
+      (λ repeat. subst (λ b. (if b then in_variant (λ k x. filled_variant vs ws k x) v else v) ≡ v) (sym repeat) refl)
+  same_filled (union vs m) u v e o = let k = erased_kind (union vs m) u e in cc
+  same_filled (extension i a t) (extension j b u) v e o = same_filled t u v (cc) o
+  same_filled (extension i a t) u v e o = let k = erased_kind (extension i a t) u e in cc
+  same_filled t u v e o = plain_filled t u v refl
+
+  -- `hs` and `whole` are the struct and its value, of which `fs` and `nvs` are the last fields
+  pairs_same : (fs hs gs : Fields) (nvs whole : Named) → erase_items fs ≡ erase_items gs → no_repeats (pairs fs) ≡ true → Agrees (pairs fs) (pairs hs)
+      → ((n : List ℕ) (v : Value) → value_named nvs n ≡ Some v → value_named whole n ≡ Some v) → NamedOf nvs fs → filled_pairs hs whole gs ≡ nvs
+  pairs_same no_items hs no_items no_named whole e d a w o = refl
+  pairs_same (item n t _ fs) hs (item k u _ gs) (named m x rest) whole e d a w o =
+      let name : k ≡ n = cc in
+      let type : erase t ≡ erase u = ap (type_or (erase t)) e in
+      let r = no_repeats_rest (n, t) (pairs fs) d in
+      let type_at : first_named (pairs hs) k ≡ Some t = ap (first_named (pairs hs)) name ∙ agrees_first n t (pairs fs) (pairs hs) a in
+      let value_at : value_named whole k ≡ Some x = w k x (taken_same_name m k (Some x) (value_named rest k) (o.0 ∙ sym name)) in
+      let here : cell (λ t v. filled t u v) (first_named (pairs hs) k) (value_named whole k) ≡ x =
+      ap (λ z. cell (λ t v. filled t u v) z (value_named whole k)) type_at ∙ ap (λ z. cell (λ t v. filled t u v) (Some t) z) value_at ∙ same_filled t u x type o.1 in
+      let behind : (p : List ℕ) (y : Value) → value_named rest p ≡ Some y → value_named whole p ≡ Some y =
+      λ p y is. w p y (other_name m p (Some x) (value_named rest p) (λ q. let none = no_value rest fs n o.2 r.0 in let same : n ≡ p = sym o.0 ∙ q in let at = ap (value_named rest) same in cc) ∙ is) in
+      ap (λ z. named k z (filled_pairs hs whole gs)) here ∙ ap (λ z. named z x (filled_pairs hs whole gs)) (name ∙ sym o.0)
+      ∙ ap (named m x) (pairs_same fs hs gs rest whole (ap rest_of e) r.1 (agrees_rest n t (pairs fs) (pairs hs) r.0 a) behind o.2)
+  pairs_same no_items hs (item k u _ gs) nvs whole e d a w o = cc
+  pairs_same (item n t _ fs) hs no_items nvs whole e d a w o = cc
+  pairs_same no_items hs no_items (named m x rest) whole e d a w o = absurd o
+  pairs_same (item n t _ fs) hs (item k u _ gs) no_named whole e d a w o = absurd o
+
+  beside_same : (fs gs : Fields) (nvs : Named) → erase_items fs ≡ erase_items gs → NamedOf nvs fs → filled_beside fs nvs gs ≡ nvs
+  beside_same no_items gs nvs e o = refl
+  beside_same (item n t _ fs) (item k u _ gs) (named m x rest) e o =
+      ap (λ z. named m z (filled_beside fs rest gs)) (same_filled t u x (ap (type_or (erase t)) e) o.1) ∙ ap (named m x) (beside_same fs gs rest (ap rest_of e) o.2)
+  beside_same (item n t _ fs) no_items nvs e o = cc
+  beside_same (item n t _ fs) (item k u _ gs) no_named e o = refl
+
+  variants_same : (vs ws : Variants) (k : ℕ) (x : Value) → tags_differ vs ≡ true → erase_items vs ≡ erase_items ws → VariantOf k x vs → filled_variant vs ws k x ≡ x
+  variants_same no_items ws k x d e o = refl
+  variants_same (item m t f vs) no_items k x d e o = cc
+  variants_same (item m t f vs) (item n u g ws) k x d e o =
+      let alone = first_tag_alone m t f vs d in
+      by_bool (k == f)
+      (λ same. subst (λ b. (if b then filled t u x else filled_variant vs ws k x) ≡ x) (sym same)
+      (elim o [ inl at ↦ same_filled t u x (ap (type_or (erase t)) e) at.1 | inr later ↦ absurd (other_variant vs f k x alone.0 ((Decides-eqb k f).0 same) later) ]))
+      (λ ne. subst (λ b. (if b then filled t u x else filled_variant vs ws k x) ≡ x) (sym ne)
+      (elim o [ inl at ↦ absurd (false≢true (sym ne ∙ (Decides-eqb k f).1 at.0)) | inr later ↦ variants_same vs ws k x alone.1 (ap rest_of e) later ]))
 
 mutual
   pub of_filled : (t u : Tree) → ReadsAs t u → (v : Value) → Of v t → Of (filled t u v) u
   of_filled (list t m) (list u n) h v o = list_filled t u m n (λ x. filled t u x) (of_filled t u h.1) h.0 v o
-  of_filled (list t m) u h v o = let k = reads_kind (list t m) u h in cc
+  of_filled (list t m) u h v o = let k = reads_kind (list t m) u refl h in cc
   of_filled (fixed_size_list t j m) (fixed_size_list u k n) h v o =
       subst (λ z. Of (in_items (λ x. filled t u x) v) (fixed_size_list u z n)) h.0 (fixed_filled t u j m n (λ x. filled t u x) (of_filled t u h.2) h.1 v o)
-  of_filled (fixed_size_list t j m) u h v o = let k = reads_kind (fixed_size_list t j m) u h in cc
+  of_filled (fixed_size_list t j m) u h v o = let k = reads_kind (fixed_size_list t j m) u refl h in cc
   of_filled (map_of t p x m) (map_of u q y n) h v o = map_filled t u p q x y m n (λ k. filled t u k) (λ w. filled p q w) (of_filled t u h.2) (of_filled p q h.3) h.1 v o
-  of_filled (map_of t p x m) u h v o = let k = reads_kind (map_of t p x m) u h in cc
+  of_filled (map_of t p x m) u h v o = let k = reads_kind (map_of t p x m) u refl h in cc
   of_filled (struct fs m) (struct gs n) (inl h) v o =
       let tested = true_both (no_repeats (pairs fs)) (no_repeats (pairs gs)) (tested_distinct (pairs fs) h.0.0) (tested_distinct (pairs gs) h.0.1) in
       subst (λ b. Of (if b then in_record (λ nvs. filled_pairs fs nvs gs) v else in_record (λ nvs. filled_beside fs nvs gs) v) (struct gs n)) (sym tested)
@@ -114,19 +234,20 @@ mutual
       (λ e. e) in
       subst (λ b. Of (if b then in_record (λ nvs. filled_pairs fs nvs gs) v else in_record (λ nvs. filled_beside fs nvs gs) v) (struct gs n)) (sym differ)
       (struct_filled fs gs m n (λ nvs. filled_beside fs nvs gs) (λ nvs p. beside_filled fs gs nvs h.2 p) h.1 v o)
-  of_filled (struct fs m) u h v o = let k = reads_kind (struct fs m) u h in cc
+  of_filled (struct fs m) u h v o = let k = reads_kind (struct fs m) u refl h in cc
   of_filled (union vs m) (union ws n) h v o = by_bool (tags_differ vs)
       (λ alone. subst (λ b. Of (if b then in_variant (λ k x. filled_variant vs ws k x) v else v) (union ws n)) (sym alone)
       (union_filled vs ws m n (λ k x. filled_variant vs ws k x) (λ k x p. variant_filled vs ws k x alone h.1 p) h.0 v o))
       (λ repeat. subst (λ b. Of (if b then in_variant (λ k x. filled_variant vs ws k x) v else v) (union ws n)) (sym repeat)
       (elim h.2 [ inl d ↦ absurd (false≢true (sym repeat ∙ tested_tags vs d)) | inr s ↦ sub_values (union vs m) (union ws n) s v o ]))
-  of_filled (union vs m) u h v o = let k = reads_kind (union vs m) u h in cc
+  of_filled (union vs m) u h v o = let k = reads_kind (union vs m) u refl h in cc
   of_filled (extension i a t) (extension j b u) h v o = of_filled t u h.2 v o
-  of_filled (extension i a t) u h v o = let k = reads_kind (extension i a t) u h in cc
-  of_filled t u h v o = subst (λ x. Of x u) (sym (plain_filled t u v refl)) (sub_values t u (alike_plain Sub Allows IsNullable t u refl h) v o)
+  of_filled (extension i a t) u h v o = let k = reads_kind (extension i a t) u refl h in cc
+  of_filled null u h v o = null_filled u v h o
+  of_filled t u h v o = subst (λ x. Of x u) (sym (plain_filled t u v refl)) (sub_values t u (alike_plain ReadsPlain Allows StaySorted IsNullable t u refl h) v o)
 
   -- `hs` is the whole struct of which `gs` are the last fields
-  pairs_filled : (fs gs hs : Fields) (nvs : Named) → EachFound Sub Allows IsNullable fs hs → OnlyFurther IsNullable fs hs → no_repeats (pairs gs) ≡ true → Agrees (pairs gs) (pairs hs) → NamedOf nvs fs
+  pairs_filled : (fs gs hs : Fields) (nvs : Named) → EachFound ReadsPlain Allows StaySorted IsNullable fs hs → OnlyFurther IsNullable fs hs → no_repeats (pairs gs) ≡ true → Agrees (pairs gs) (pairs hs) → NamedOf nvs fs
       → NamedOf (filled_pairs fs nvs gs) gs
   pairs_filled fs no_items hs nvs f only d a o = tt
   pairs_filled fs (item n u _ gs) hs nvs f only d a o =
@@ -136,12 +257,12 @@ mutual
       (λ none. subst (λ z. Of (cell (λ t v. filled t u v) z (value_named nvs n)) u) (sym none) ((null_is_of_nullable u).1 (only n u none at)))
       (λ t some.
       let x = named_value nvs fs o n t some in
-      let r = found Sub Allows IsNullable fs hs f n t some in
+      let r = found ReadsPlain Allows StaySorted IsNullable fs hs f n t some in
       let reads = subst (ReadsAs t) (same_Some r.0 u (sym r.1 ∙ at)) r.2 in
       subst (λ z. Of (cell (λ t v. filled t u v) z (value_named nvs n)) u) (sym some) (subst (λ z. Of (cell (λ t v. filled t u v) (Some t) z) u) (sym x.1) (of_filled t u reads x.0 x.2))) in
       (refl, here, pairs_filled fs gs hs nvs f only rest.1 (agrees_rest n u (pairs gs) (pairs hs) rest.0 a) o)
 
-  beside_filled : (fs gs : Fields) (nvs : Named) → EachBeside Sub Allows IsNullable fs gs → NamedOf nvs fs → NamedOf (filled_beside fs nvs gs) gs
+  beside_filled : (fs gs : Fields) (nvs : Named) → EachBeside ReadsPlain Allows StaySorted IsNullable fs gs → NamedOf nvs fs → NamedOf (filled_beside fs nvs gs) gs
   beside_filled no_items no_items no_named h o = tt
   beside_filled (item m t _ fs) (item n u _ gs) (named k v nvs) h o = (o.0 ∙ h.0, of_filled t u h.2 v o.1, beside_filled fs gs nvs h.3 o.2)
   beside_filled no_items no_items (named k v nvs) h o = absurd o
@@ -149,7 +270,7 @@ mutual
   beside_filled (item m t _ fs) no_items nvs h o = absurd h
   beside_filled (item m t _ fs) (item n u _ gs) no_named h o = absurd o
 
-  variant_filled : (vs ws : Variants) (k : ℕ) (x : Value) → tags_differ vs ≡ true → EachBeside Sub Allows IsNullable vs ws → VariantOf k x vs → VariantOf k (filled_variant vs ws k x) ws
+  variant_filled : (vs ws : Variants) (k : ℕ) (x : Value) → tags_differ vs ≡ true → EachBeside ReadsPlain Allows StaySorted IsNullable vs ws → VariantOf k x vs → VariantOf k (filled_variant vs ws k x) ws
   variant_filled no_items ws k x d h o = absurd o
   variant_filled (item m t f vs) no_items k x d h o = absurd h
   variant_filled (item m t f vs) (item n u g ws) k x d h o =

@@ -80,18 +80,18 @@ no_repeats_rest f ps e = let h = both_true (is_none (first_named ps f.0)) (no_re
 
 -- ---- the names of fields find fields
 
-module _ (L : Tree → Tree → Type 0) (R : Nullability → Nullability → Type 0) (E : Tree → Type 0) where
-  pub found : (fs gs : Fields) → EachFound L R E fs gs → (n : List ℕ) (t : Tree) → first_named (pairs fs) n ≡ Some t → (u : Tree) × (first_named (pairs gs) n ≡ Some u) × Alike L R E t u
+module _ (L : Tree → Tree → Type 0) (R : Nullability → Nullability → Type 0) (K : Bool → Tree → Bool → Tree → Type 0) (E : Tree → Type 0) where
+  pub found : (fs gs : Fields) → EachFound L R K E fs gs → (n : List ℕ) (t : Tree) → first_named (pairs fs) n ≡ Some t → (u : Tree) × (first_named (pairs gs) n ≡ Some u) × Alike L R K E t u
   found no_items gs h n t is = cc
   found (item m x _ fs) gs h n t is =
       by_place m n x t (pairs fs) is
-      (λ e same. let s = some_and (Alike L R E x) (first_named (pairs gs) m) h.0 in (s.0, sym (ap (first_named (pairs gs)) e) ∙ s.1, subst (λ z. Alike L R E z s.0) same s.2))
+      (λ e same. let s = some_and (Alike L R K E x) (first_named (pairs gs) m) h.0 in (s.0, sym (ap (first_named (pairs gs)) e) ∙ s.1, subst (λ z. Alike L R K E z s.0) same s.2))
       (λ ne later. found fs gs h.1 n t later)
 
   pub each_found : (fs gs : Fields) → no_repeats (pairs fs) ≡ true
-      → ((n : List ℕ) (t : Tree) → first_named (pairs fs) n ≡ Some t → (u : Tree) × (first_named (pairs gs) n ≡ Some u) × Alike L R E t u) → EachFound L R E fs gs
+      → ((n : List ℕ) (t : Tree) → first_named (pairs fs) n ≡ Some t → (u : Tree) × (first_named (pairs gs) n ≡ Some u) × Alike L R K E t u) → EachFound L R K E fs gs
   each_found no_items gs d f = tt
   each_found (item m x _ fs) gs d f =
       let r = no_repeats_rest (m, x) (pairs fs) d in
       let s = f m x (finds_first m m x (pairs fs) refl) in
-      (of_some_and (Alike L R E x) (first_named (pairs gs) m) s.0 s.1 s.2, each_found fs gs r.1 (λ n t is. f n t (agrees_rest m x (pairs fs) ((m, x) ∷ pairs fs) r.0 (λ k y e. e) n t is)))
+      (of_some_and (Alike L R K E x) (first_named (pairs gs) m) s.0 s.1 s.2, each_found fs gs r.1 (λ n t is. f n t (agrees_rest m x (pairs fs) ((m, x) ∷ pairs fs) r.0 (λ k y e. e) n t is)))

@@ -3,39 +3,36 @@
 
 -- Laws of merging: what is merged of valid types is valid, types that differ in nullabilities alone are merged as
 -- `merge_nullability` merges them, and merging is commutative and associative up to the order of columns.
-use Rattle.std.proofs.Common.{◌≡◌, ◌==◌, ◌&&◌, IfNone, IfSome, ℕ, List, [], ◌∷◌, ◌++◌, true, Option, Some, None, refl, sym, ap, subst, ◌∙◌, append-nil}
-use Rattle.std.specs.Cmp.{booleans_Decides}
+use Rattle.std.proofs.Common.{◌≡◌, ◌==◌, ◌&&◌, IfNone, IfSome, [], ◌∷◌, ◌++◌, Option, Some, None, sym, ap, subst, ◌∙◌}
 use Rattle.std.specs.Option.{option_map}
+use Rattle.std.specs.Prelude.{◌↔◌}
 use Rattle.std.specs.Str.{bytes_eq}
-use Rattle.std.proofs.Math.Bool.{beq}
-use Rattle.std.proofs.lemmas.Bool.{eq-eqb}
 use Rattle.std.proofs.lemmas.Option.{same_Some}
-use Rattle.std.proofs.lemmas.Slice.Eq.{bytes_eq-Decides}
 use Rattle.dtype_base.specs.Nullability.{either}
 use Rattle.dtype_base.specs.declared.nullability.Nullability.TheVariants.{Nullable}
-use Rattle.dtype_types.specs.nullability.Merged.{merge, merge_items, merged}
-use Rattle.dtype_types.specs.nullability.Nullable.{IsNullable}
-use Rattle.dtype_types.specs.nullability.Sub.{Sub, Allows}
+use Rattle.dtype_types.specs.nullability.Merged.{merge, merged}
+use Rattle.dtype_types.specs.nullability.Nullable.{IsNullable, set_null}
+use Rattle.dtype_types.specs.nullability.Sub.{Allows}
 use Rattle.dtype_types.specs.parts.Lookups.{first_named}
-use Rattle.dtype_types.specs.tree.Erase.{erase, erase_items}
-use Rattle.dtype_types.specs.tree.Tree.{Tree, Fields, Holder, Items, no_items, item, pairs, fields, list, fixed_size_list, map_of, struct, union, extension, first_tag, rest_of}
+use Rattle.dtype_types.specs.tree.Erase.{erase}
+use Rattle.dtype_types.specs.tree.Tree.{Tree, Fields, Holder, Items, no_items, item, pairs, fields, null, list, fixed_size_list, map_of, struct, union, extension}
 use Rattle.dtype_types.specs.tree.TreeOf.{tree}
 use Rattle.dtype_types.specs.tree.Valid.{Valid, ValidItems}
 use Rattle.dtype_types.specs.values.Value.{Of, Value}
 use Rattle.dtype_types.specs.declared.dtype.DType.{DType}
-use Rattle.dtype_types.proofs.lemmas.Merging.{merged_valid, under_some}
+use Rattle.dtype_types.proofs.lemmas.Merging.{merged_least, merged_valid, under_some}
 use Rattle.dtype_types.proofs.lemmas.ValidParts.{fields_of_pairs}
 use Rattle.dtype_types.proofs.lemmas.Validity.{set_valid}
 use Rattle.dtype_merging.specs.Filled.{filled}
-use Rattle.dtype_merging.specs.ReadsAs.{HaveNoReader, IsLeastReader, ReadsAs, SameColumns}
-use Rattle.dtype_merging.specs.MergedColumns.{can_be_variants, column, columns_merged, further, made_nullable, map_of_key, map_with, merged_beside, merged_by_name, no_repeats, prepend, struct_with, union_with}
-use Rattle.dtype_merging.proofs.lemmas.Beside.{beside_tags, beside_variants, items_of, name_or, of_items, type_or}
+use Rattle.dtype_merging.specs.ReadsAs.{HaveNoReader, IsLeastReader, ReadsAs, ReadsPlain, SameColumns, StaySorted}
+use Rattle.dtype_merging.specs.MergedColumns.{column, columns_merged, further, made_nullable, merged_beside, merged_by_name, no_repeats, stay_sorted, struct_with}
+use Rattle.dtype_merging.proofs.lemmas.Beside.{beside_tags, beside_variants, items_of}
 use Rattle.dtype_merging.proofs.lemmas.Columns.{further_kept, further_left, made_set}
 use Rattle.dtype_merging.proofs.lemmas.Filling.{of_filled}
-use Rattle.dtype_merging.proofs.lemmas.Finding.{Agrees, Pairs, agrees_first, agrees_rest, both_true, by_bool, by_name, by_option, finds_first, finds_later, no_repeats_rest, true_both}
-use Rattle.dtype_merging.proofs.lemmas.Merging.{above, above_beside, field_valid, if_some, least, map_made, mapped_some, pick_false, pick_true, plain_merged, prepended, union_made}
-use Rattle.dtype_merging.proofs.lemmas.Reading.{erased_kind, erased_lacks, reads_back, reads_more}
-use Rattle.dtype_merging.proofs.lemmas.Variants.{also_variants, tested_variants}
+use Rattle.dtype_merging.proofs.lemmas.Finding.{Pairs, by_bool, by_option}
+use Rattle.dtype_merging.proofs.lemmas.Merging.{above, above_beside, field_valid, if_some, least, map_made, mapped_some, pick_false, merged_with_null, pick_true, prepended, same_merged, union_made}
+use Rattle.dtype_merging.proofs.lemmas.Reading.{reads_back, reads_itself, reads_more, sub_reads}
+use Rattle.dtype_merging.proofs.lemmas.Variants.{also_variants}
 
 -- ---- valid types
 
@@ -54,14 +51,15 @@ joined_valid (p ∷ ps) qs h g = (h.0, joined_valid ps qs h.1 g)
 
 mutual
   pub merge_valid : (a b c : Tree) → columns_merged a b ≡ Some c → Valid a → Valid b → Valid c
+  merge_valid null b c e h g = subst Valid (same_Some (made_nullable b) c e) (made_valid b g)
+  merge_valid a null c e h g = subst Valid (same_Some (made_nullable a) c (sym (merged_with_null a) ∙ e)) (made_valid a h)
   merge_valid (list t m) (list u n) c e h g =
       let r = mapped_some (λ x. list x (either m n)) (columns_merged t u) c e in subst Valid r.2 (merge_valid t u r.0 r.1 h g)
   merge_valid (fixed_size_list t j m) (fixed_size_list u k n) c e h g =
       let s = if_some (j == k) (option_map (λ x. fixed_size_list x j (either m n)) (columns_merged t u)) c e in
       let r = mapped_some (λ x. fixed_size_list x j (either m n)) (columns_merged t u) c s.1 in subst Valid r.2 (h.0, merge_valid t u r.0 r.1 h.1 g.1)
   merge_valid (map_of t v x m) (map_of u w y n) c e h g =
-      let s = if_some (beq x y) (map_with (columns_merged t u) (columns_merged v w) x (either m n)) c e in
-      let r = map_made (columns_merged t u) (columns_merged v w) x (either m n) c s.1 in
+      let r = map_made (columns_merged t u) (columns_merged v w) (stay_sorted x t y u) (either m n) c e in
       subst Valid r.4 (r.5, merge_valid t u r.0 r.2 h.1 g.1, merge_valid v w r.1 r.3 h.2 g.2)
   merge_valid (struct fs m) (struct gs n) c e h g =
       let test = no_repeats (pairs fs) && no_repeats (pairs gs) in
@@ -79,7 +77,7 @@ mutual
       let r = union_made (merged_beside vs ws) (either m n) c e in
       let up = (above_beside vs ws r.0 r.1).0 in
       subst Valid r.3 (
-        also_variants vs r.0 (beside_variants Sub Allows IsNullable vs r.0 up) (beside_tags Sub Allows IsNullable vs r.0 up) h.0,
+        also_variants vs r.0 (beside_variants ReadsPlain Allows StaySorted IsNullable vs r.0 up) (beside_tags ReadsPlain Allows StaySorted IsNullable vs r.0 up) h.0,
         merge_valid_beside vs ws r.0 r.1 h.1 g.1,
       )
   merge_valid (extension i a t) (extension j b u) c e h g =
@@ -106,83 +104,13 @@ mutual
 
 -- ---- types that differ in nullabilities alone
 
--- no further columns, if the first list has each name of the second
-further_none : (fs gs : Pairs) → ((n : List ℕ) (u : Tree) → first_named gs n ≡ Some u → (t : Tree) × (first_named fs n ≡ Some t)) → further fs gs ≡ []
-further_none fs [] h = refl
-further_none fs (g ∷ gs) h =
-    let s = h g.0 g.1 (finds_first g.0 g.0 g.1 gs refl) in
-    further_left fs gs g s.0 s.1 ∙ further_none fs gs (λ n u is. by_name g.0 n (λ e. (s.0, sym (ap (first_named fs) e) ∙ s.1)) (λ ne. h n u (finds_later g.0 n g.1 gs ne ∙ is)))
-
-mutual
-  pub agree : (a b : Tree) → erase a ≡ erase b → Valid a → Valid b → columns_merged a b ≡ Some (merge either a b)
-  agree (list t m) (list u n) e h g = let f : erase t ≡ erase u = cc in ap (option_map (λ x. list x (either m n))) (agree t u f h g)
-  agree (list t m) b e h g = let k = erased_kind (list t m) b e in cc
-  agree (fixed_size_list t j m) (fixed_size_list u k n) e h g =
-      let f : erase t ≡ erase u = cc in
-      let size : j ≡ k = cc in
-      pick_true (j == k) (option_map (λ x. fixed_size_list x j (either m n)) (columns_merged t u)) None (eq-eqb j k size) ∙ ap (option_map (λ x. fixed_size_list x j (either m n))) (agree t u f h.1 g.1)
-  agree (fixed_size_list t j m) b e h g = let k = erased_kind (fixed_size_list t j m) b e in cc
-  agree (map_of t v x m) (map_of u w y n) e h g =
-      let f : erase t ≡ erase u = cc in
-      let d : erase v ≡ erase w = cc in
-      let sorted : x ≡ y = cc in
-      let valid = merged_valid (map_of t v x m) (map_of u w y n) (map_of (merge either t u) (merge either v w) x (either m n)) (under_some either (map_of t v x m) (map_of u w y n) e) h g in
-      pick_true (beq x y) (map_with (columns_merged t u) (columns_merged v w) x (either m n)) None ((booleans_Decides x y).1 sorted)
-      ∙ ap (λ o. map_with o (columns_merged v w) x (either m n)) (agree t u f h.1 g.1) ∙ ap (λ o. map_with (Some (merge either t u)) o x (either m n)) (agree v w d h.2 g.2)
-      ∙ ap (λ z. map_of_key z (merge either t u) (merge either v w) x (either m n)) valid.0
-  agree (map_of t v x m) b e h g = let k = erased_kind (map_of t v x m) b e in cc
-  agree (struct fs m) (struct gs n) e h g =
-      let f : erase_items fs ≡ erase_items gs = cc in
-      let test = no_repeats (pairs fs) && no_repeats (pairs gs) in
-      let more = further (pairs fs) (pairs gs) in
-      let named = struct_with (merged_by_name fs gs) more (either m n) in
-      let beside = option_map (λ hs. struct hs (either m n)) (merged_beside fs gs) in
-      let whole = merge_items either fs gs in
-      by_bool test
-      (λ tested.
-      let d = both_true (no_repeats (pairs fs)) (no_repeats (pairs gs)) tested in
-      let none : more ≡ [] = further_none (pairs fs) (pairs gs) (λ k u is. by_option (first_named (pairs fs) k) (λ lacks. let z = erased_lacks fs gs k f lacks in cc) (λ t at. (t, at))) in
-      pick_true test named beside tested ∙ ap (λ r. struct_with r more (either m n)) (agree_rows fs gs gs f d.1 (λ k u is. is) h g)
-      ∙ ap (λ qs. Some (struct (fields (pairs whole ++ qs)) (either m n))) none ∙ ap (λ qs. Some (struct (fields qs) (either m n))) (append-nil (pairs whole)) ∙ ap (λ hs. Some (struct hs (either m n))) (fields_of_pairs whole))
-      (λ differ. pick_false test named beside differ ∙ ap (option_map (λ hs. struct hs (either m n))) (agree_beside fs gs f h g))
-  agree (struct fs m) b e h g = let k = erased_kind (struct fs m) b e in cc
-  agree (union vs m) (union ws n) e h g =
-      let f : erase_items vs ≡ erase_items ws = cc in
-      let whole = merge_items either vs ws in
-      let valid = merged_valid (union vs m) (union ws n) (union whole (either m n)) (under_some either (union vs m) (union ws n) e) h g in
-      ap (λ o. union_with o (either m n)) (agree_beside vs ws f h.1 g.1) ∙ pick_true (can_be_variants whole) (Some (union whole (either m n))) None (tested_variants whole valid.0)
-  agree (union vs m) b e h g = let k = erased_kind (union vs m) b e in cc
-  agree (extension i a t) (extension j b u) e h g =
-      let f : erase t ≡ erase u = cc in
-      let id : i ≡ j = cc in
-      let metadata : a ≡ b = cc in
-      pick_true (bytes_eq i j && bytes_eq a b) (option_map (extension i a) (columns_merged t u)) None (true_both (bytes_eq i j) (bytes_eq a b) ((bytes_eq-Decides i j).1 id) ((bytes_eq-Decides a b).1 metadata))
-      ∙ ap (option_map (extension i a)) (agree t u f h.1 g.1)
-  agree (extension i a t) b e h g = let k = erased_kind (extension i a t) b e in cc
-  agree a b e h g = plain_merged a b refl ∙ under_some either a b e
-
-  agree_rows : (fs gs hs : Fields) → erase_items fs ≡ erase_items gs → no_repeats (pairs gs) ≡ true → Agrees (pairs gs) (pairs hs) → ValidItems fs → ValidItems gs
-      → merged_by_name fs hs ≡ Some (pairs (merge_items either fs gs))
-  agree_rows no_items no_items hs e d a h g = refl
-  agree_rows no_items (item n u _ gs) hs e d a h g = cc
-  agree_rows (item n t _ fs) no_items hs e d a h g = cc
-  agree_rows (item n t _ fs) (item k u _ gs) hs e d a h g =
-      let name : k ≡ n = cc in
-      let f : erase t ≡ erase u = cc in
-      let r = no_repeats_rest (k, u) (pairs gs) d in
-      let at : first_named (pairs hs) n ≡ Some u = sym (ap (first_named (pairs hs)) name) ∙ agrees_first k u (pairs gs) (pairs hs) a in
-      ap (λ o. prepend n (column t (λ u. columns_merged t u) o) (merged_by_name fs hs)) at ∙ ap (λ o. prepend n o (merged_by_name fs hs)) (agree t u f h.0 g.0)
-      ∙ ap (prepend n (Some (merge either t u))) (agree_rows fs gs hs (ap rest_of e) r.1 (agrees_rest k u (pairs gs) (pairs hs) r.0 a) h.1 g.1)
-
-  agree_beside : {h : Holder} (xs ys : Items h) → erase_items xs ≡ erase_items ys → ValidItems xs → ValidItems ys → merged_beside xs ys ≡ Some (merge_items either xs ys)
-  agree_beside no_items no_items e p q = refl
-  agree_beside (item m t f xs) (item n u g ys) e p q =
-      of_items m t f xs n u g ys (merge either t u) (merge_items either xs ys) (ap (name_or m) e) (ap (first_tag f) e) (agree t u (ap (type_or (erase t)) e) p.0 q.0) (agree_beside xs ys (ap rest_of e) p.1 q.1)
-  agree_beside no_items (item n u g ys) e p q = cc
-  agree_beside (item m t f xs) no_items e p q = cc
-
 pub as_by_nullability : (a b : Tree) → Valid a → Valid b → erase a ≡ erase b → columns_merged a b ≡ merged a b
-as_by_nullability a b h g e = agree a b e h g ∙ sym (under_some either a b e)
+as_by_nullability a b h g e =
+    let c = merge either a b in
+    let is = under_some either a b e in
+    let up = merged_least a b c is in
+    let r = least a b c (merged_valid a b c is h g) (sub_reads a c up.first) (sub_reads b c up.second) in
+    r.1 ∙ ap Some (sym (same_merged a b r.0 r.1 e)) ∙ sym is
 
 -- ---- in any order
 
@@ -227,6 +155,27 @@ from_the_right a b c z w h g k e f =
     let z_below = subst (λ t. ReadsAs t y.0) (same_Some z_again.0 z (sym z_again.1 ∙ e)) z_again.2 in
     let w_again = least a z y.0 valid_y (reads_more a x.0 y.0 at_x.0 at_y.0) z_below in
     (x.0, y.0, x.1, y.1, reads_back w y.0 (subst (λ t. ReadsAs t y.0) (same_Some w_again.0 w (sym w_again.1 ∙ f)) w_again.2) y.2)
+
+-- ---- with a type that has only nulls, and with what can be read as the type
+
+pub nulls_read : (t : Tree) → ReadsAs null t ↔ IsNullable t
+nulls_read t = (λ h. h, λ h. h)
+
+pub nulls_first : (t : Tree) → columns_merged null t ≡ set_null t Nullable
+nulls_first t = sym (made_set t)
+
+pub nulls_second : (t : Tree) → columns_merged t null ≡ set_null t Nullable
+nulls_second t = merged_with_null t ∙ sym (made_set t)
+
+pub ruleset with_nulls = (nulls_read, nulls_first, nulls_second)
+
+pub changes_nothing : (t u : Tree) → Valid t → ReadsAs u t → (c : Tree) × (columns_merged t u ≡ Some c) × SameColumns c t
+changes_nothing t u v h =
+    let r = least t u t v (reads_itself t) h in (r.0, r.1, reads_back r.0 t r.2 (above t u r.0 r.1).0)
+
+pub changes_nothing_turned : (t u : Tree) → Valid t → ReadsAs u t → (c : Tree) × (columns_merged u t ≡ Some c) × SameColumns c t
+changes_nothing_turned t u v h =
+    let r = least u t t v h (reads_itself t) in (r.0, r.1, reads_back r.0 t r.2 (above u t r.0 r.1).1)
 
 -- ---- of what a call returns
 

@@ -3,11 +3,9 @@
 
 -- What is merged of two types: both can be read as it, it can be read as each valid type as which both can be read, and
 -- there is one if there is such a valid type.
-use Rattle.std.proofs.Common.{◌≡◌, ◌≢◌, ◌==◌, ◌&&◌, ℕ, List, [], ◌∷◌, ◌++◌, Bool, true, false, Option, Some, None, if◌then◌else◌, refl, sym, ap, subst, ◌∙◌, inl, inr}
-use Rattle.std.specs.Cmp.{booleans_Decides}
-use Rattle.std.specs.Option.{option_map}
+use Rattle.std.proofs.Common.{◌≡◌, ◌≢◌, ◌==◌, ◌&&◌, ℕ, List, [], ◌∷◌, ◌++◌, Bool, true, false, Option, Some, None, if◌then◌else◌, refl, sym, ap, subst, ◌∙◌, inl, inr, append-nil}
+use Rattle.std.specs.Option.{is_some, option_map}
 use Rattle.std.specs.Str.{bytes_eq}
-use Rattle.std.proofs.Math.Bool.{beq}
 use Rattle.std.proofs.lemmas.Bool.{eq-eqb, eqb-true, false≢true}
 use Rattle.std.proofs.lemmas.Option.{same_Some}
 use Rattle.std.proofs.lemmas.Slice.Eq.{bytes_eq-Decides}
@@ -15,25 +13,28 @@ use Rattle.dtype_base.specs.Distinct.{Distinct}
 use Rattle.dtype_base.specs.Nullability.{either}
 use Rattle.dtype_base.specs.declared.nullability.Nullability.{Nullability}
 use Rattle.dtype_base.specs.declared.nullability.Nullability.TheVariants.{NonNullable, Nullable}
-use Rattle.dtype_types.specs.nullability.Merged.{merge, merged}
+use Rattle.dtype_types.specs.nullability.Merged.{merge, merge_items, merged}
 use Rattle.dtype_types.specs.nullability.Nullable.{IsNullable, nullability}
 use Rattle.dtype_types.specs.nullability.Sub.{Sub, Allows}
 use Rattle.dtype_types.specs.parts.Lookups.{first_named}
-use Rattle.dtype_types.specs.tree.Tree.{Tree, Fields, Variants, Holder, Items, no_items, item, pairs, fields, list, fixed_size_list, map_of, struct, union, extension}
+use Rattle.dtype_types.specs.declared.dtype.kinds.Kind.TheVariants as variants
+use Rattle.dtype_types.specs.tree.Erase.{erase, erase_items}
+use Rattle.dtype_types.specs.tree.Kinds.{kind}
+use Rattle.dtype_types.specs.tree.Tree.{Tree, Fields, Variants, Holder, Items, no_items, item, pairs, fields, null, list, fixed_size_list, map_of, struct, union, extension, rest_of}
 use Rattle.dtype_types.specs.tree.Valid.{Valid, ValidItems}
 use Rattle.dtype_types.proofs.lemmas.Bounds.{upwards}
 use Rattle.dtype_types.proofs.lemmas.JoinedFields.{named_behind}
-use Rattle.dtype_types.proofs.lemmas.Merging.{merged_least, under_some}
+use Rattle.dtype_types.proofs.lemmas.Merging.{merged_least, under_some, under_where}
 use Rattle.dtype_types.proofs.lemmas.NullValues.{allows_either}
 use Rattle.dtype_types.proofs.lemmas.Validity.{type_named_valid}
 use Rattle.dtype_types.proofs.lemmas.ValidParts.{fields_of_pairs}
-use Rattle.dtype_merging.specs.ReadsAs.{EachBeside, EachFound, NoRepeats, OnlyFurther, ReadsAs, tags}
-use Rattle.dtype_merging.specs.MergedColumns.{can_be_variants, column, columns_merged, further, made_nullable, map_of_key, map_with, merged_beside, merged_by_name, no_repeats, prepend, struct_with, union_with}
-use Rattle.dtype_merging.proofs.lemmas.Beside.{beside_names, beside_tags, beside_variants, items_of, of_items}
-use Rattle.dtype_merging.proofs.lemmas.Columns.{Rows, distinct_columns, found_before, found_behind, further_back, further_finds, further_repeats, further_skips, in_struct, joined_repeats, made_above, made_is, made_least, of_columns, row_at, row_back, row_none, row_repeats}
-use Rattle.dtype_merging.proofs.lemmas.Finding.{Pairs, both_true, by_bool, by_option, each_found, found, some_and, true_both}
-use Rattle.dtype_merging.proofs.lemmas.Order.{alike_plain, of_extension, of_fixed, of_list, of_map, of_struct, of_union, plain, plain_kind}
-use Rattle.dtype_merging.proofs.lemmas.Reading.{reads_kind, reads_nullable, sub_kind, sub_reads}
+use Rattle.dtype_merging.specs.ReadsAs.{EachBeside, EachFound, NoRepeats, OnlyFurther, ReadsAs, ReadsPlain, StaySorted, tags}
+use Rattle.dtype_merging.specs.MergedColumns.{can_be_variants, column, columns_merged, further, made_nullable, map_of_key, map_with, merged_beside, merged_by_name, no_repeats, others_merged, prepend, stay_sorted, struct_with, union_with}
+use Rattle.dtype_merging.proofs.lemmas.Beside.{beside_names, beside_tags, beside_variants, items_of, of_items, type_or}
+use Rattle.dtype_merging.proofs.lemmas.Columns.{Rows, distinct_columns, found_before, found_behind, further_back, further_finds, further_left, further_repeats, further_skips, in_struct, joined_repeats, made_above, made_is, made_least, of_columns, row_at, row_back, row_none, row_repeats}
+use Rattle.dtype_merging.proofs.lemmas.Finding.{Agrees, Pairs, agrees_first, agrees_rest, both_true, by_bool, by_name, by_option, each_found, finds_first, finds_later, found, no_repeats_rest, some_and, true_both}
+use Rattle.dtype_merging.proofs.lemmas.Order.{alike_plain, is_null, of_extension, of_fixed, of_list, of_map, of_struct, of_union, plain, plain_kind}
+use Rattle.dtype_merging.proofs.lemmas.Reading.{erased_kind, erased_lacks, not_null, plain_kinds, plain_sub, reads_kind, reads_nullable, sub_reads}
 use Rattle.dtype_merging.proofs.lemmas.Repeats.{distinct_tested, repeats_tested, tested_distinct}
 use Rattle.dtype_merging.proofs.lemmas.Variants.{also_variants, tested_variants, variants_tested}
 
@@ -78,11 +79,140 @@ key_kept Nullable k v s n sure = absurd (sure refl)
 behind : (ps qs : Pairs) (n : List ℕ) → first_named ps n ≡ None → first_named (ps ++ qs) n ≡ first_named qs n
 behind = named_behind
 
+-- ---- types that are equal except for nullabilities
+
+-- a type that is merged with `null` is made nullable
+pub merged_with_null : (a : Tree) → columns_merged a null ≡ Some (made_nullable a)
+merged_with_null null = refl
+merged_with_null _ = refl
+
+-- of what a call tells of two kinds
+pub others_first : (a b : Tree) → kind a ≡ variants.Null → others_merged a b ≡ Some (made_nullable b)
+others_first null b e = refl
+others_first a b e = cc
+
+pub others_second : (a b : Tree) → kind b ≡ variants.Null → others_merged a b ≡ Some (made_nullable a)
+others_second null null e = refl
+others_second a null e = refl
+others_second a b e = cc
+
+pub others_neither : (a b : Tree) → kind a ≢ variants.Null → kind b ≢ variants.Null → others_merged a b ≡ merged a b
+others_neither null b one other = absurd (one refl)
+others_neither a null one other = absurd (other refl)
+others_neither a b one other = refl
+
+pub ruleset merging_others = (others_first, others_second, others_neither)
+
+pub plain_merged : (a b : Tree) → plain a ≡ true → is_null a ≡ false → is_null b ≡ false → columns_merged a b ≡ merged a b
+plain_merged null b p s z = absurd (false≢true (sym s))
+plain_merged a null p s z = absurd (false≢true (sym z))
+plain_merged (list t m) b p s z = absurd (false≢true p)
+plain_merged (fixed_size_list t j m) b p s z = absurd (false≢true p)
+plain_merged (map_of t v x m) b p s z = absurd (false≢true p)
+plain_merged (struct fs m) b p s z = absurd (false≢true p)
+plain_merged (union vs m) b p s z = absurd (false≢true p)
+plain_merged (extension i a t) b p s z = absurd (false≢true p)
+plain_merged a b p s z = refl
+
+-- no further columns, if the first list has each name of the second
+further_none : (fs gs : Pairs) → ((n : List ℕ) (u : Tree) → first_named gs n ≡ Some u → (t : Tree) × (first_named fs n ≡ Some t)) → further fs gs ≡ []
+further_none fs [] h = refl
+further_none fs (g ∷ gs) h =
+    let s = h g.0 g.1 (finds_first g.0 g.0 g.1 gs refl) in
+    further_left fs gs g s.0 s.1 ∙ further_none fs gs (λ n u is. by_name g.0 n (λ e. (s.0, sym (ap (first_named fs) e) ∙ s.1)) (λ ne. h n u (finds_later g.0 n g.1 gs ne ∙ is)))
+
+sorted_alike : (x y : Bool) (t u : Tree) → x ≡ y → erase t ≡ erase u → stay_sorted x t y u ≡ x
+sorted_alike true true t u e f = (under_where either t u).1 f
+sorted_alike true false t u e f = cc
+sorted_alike false y t u e f = refl
+
+mutual
+  -- what is merged of them is their least upper bound by nullability
+  pub same_merged : (a b c : Tree) → columns_merged a b ≡ Some c → erase a ≡ erase b → merge either a b ≡ c
+  same_merged (list t m) (list u n) c e f =
+      let r = mapped_some (λ x. list x (either m n)) (columns_merged t u) c e in ap (λ x. list x (either m n)) (same_merged t u r.0 r.1 (cc)) ∙ r.2
+  same_merged (list t m) b c e f = let k = erased_kind (list t m) b f in cc
+  same_merged (fixed_size_list t j m) (fixed_size_list u k n) c e f =
+      let s = if_some (j == k) (option_map (λ x. fixed_size_list x j (either m n)) (columns_merged t u)) c e in
+      let r = mapped_some (λ x. fixed_size_list x j (either m n)) (columns_merged t u) c s.1 in ap (λ x. fixed_size_list x j (either m n)) (same_merged t u r.0 r.1 (cc)) ∙ r.2
+  same_merged (fixed_size_list t j m) b c e f = let k = erased_kind (fixed_size_list t j m) b f in cc
+  same_merged (map_of t v x m) (map_of u w y n) c e f =
+      let keys : erase t ≡ erase u = cc in
+      let values : erase v ≡ erase w = cc in
+      let flags : x ≡ y = cc in
+      let r = map_made (columns_merged t u) (columns_merged v w) (stay_sorted x t y u) (either m n) c e in
+      ap (λ k. map_of k (merge either v w) x (either m n)) (same_merged t u r.0 r.2 keys) ∙ ap (λ z. map_of r.0 z x (either m n)) (same_merged v w r.1 r.3 values)
+      ∙ ap (λ s. map_of r.0 r.1 s (either m n)) (sym (sorted_alike x y t u flags keys)) ∙ r.4
+  same_merged (map_of t v x m) b c e f = let k = erased_kind (map_of t v x m) b f in cc
+  same_merged (struct fs m) (struct gs n) c e f =
+      let same : erase_items fs ≡ erase_items gs = cc in
+      let test = no_repeats (pairs fs) && no_repeats (pairs gs) in
+      let more = further (pairs fs) (pairs gs) in
+      let named = struct_with (merged_by_name fs gs) more (either m n) in
+      let beside = option_map (λ hs. struct hs (either m n)) (merged_beside fs gs) in
+      let whole = merge_items either fs gs in
+      by_bool test
+      (λ tested.
+      let d = both_true (no_repeats (pairs fs)) (no_repeats (pairs gs)) tested in
+      let none : more ≡ [] = further_none (pairs fs) (pairs gs) (λ k u is. by_option (first_named (pairs fs) k) (λ lacks. let z = erased_lacks fs gs k same lacks in cc) (λ t at. (t, at))) in
+      let r = mapped_some (λ qs. struct (fields (qs ++ more)) (either m n)) (merged_by_name fs gs) c (sym (pick_true test named beside tested) ∙ e) in
+      let rows : fields (pairs whole) ≡ fields (r.0 ++ more) = ap fields (same_rows fs gs gs r.0 r.1 same d.1 (λ k u is. is) ∙ sym (append-nil r.0) ∙ ap (λ qs. r.0 ++ qs) (sym none)) in
+      ap (λ hs. struct hs (either m n)) (sym (fields_of_pairs whole) ∙ rows) ∙ r.2)
+      (λ differ.
+      let r = mapped_some (λ hs. struct hs (either m n)) (merged_beside fs gs) c (sym (pick_false test named beside differ) ∙ e) in
+      ap (λ hs. struct hs (either m n)) (same_items fs gs r.0 r.1 same) ∙ r.2)
+  same_merged (struct fs m) b c e f = let k = erased_kind (struct fs m) b f in cc
+  same_merged (union vs m) (union ws n) c e f =
+      let r = union_made (merged_beside vs ws) (either m n) c e in ap (λ us. union us (either m n)) (same_items vs ws r.0 r.1 (cc)) ∙ r.3
+  same_merged (union vs m) b c e f = let k = erased_kind (union vs m) b f in cc
+  same_merged (extension i a t) (extension j b u) c e f =
+      let s = if_some (bytes_eq i j && bytes_eq a b) (option_map (extension i a) (columns_merged t u)) c e in
+      let r = mapped_some (extension i a) (columns_merged t u) c s.1 in ap (extension i a) (same_merged t u r.0 r.1 (cc)) ∙ r.2
+  same_merged (extension i a t) b c e f = let k = erased_kind (extension i a t) b f in cc
+  same_merged null null c e f = same_Some null c e
+  same_merged null b c e f = let k = erased_kind null b f in cc
+  same_merged a b c e f = same_Some (merge either a b) c (sym (under_some either a b f) ∙ sym (plain_merged a b refl refl (not_null a b (erased_kind a b f) refl)) ∙ e)
+
+  -- the columns that the names find; `hs` is the whole struct of which `gs` are the last fields
+  same_rows : (fs gs hs : Fields) (ps : Pairs) → merged_by_name fs hs ≡ Some ps → erase_items fs ≡ erase_items gs → no_repeats (pairs gs) ≡ true → Agrees (pairs gs) (pairs hs)
+      → pairs (merge_items either fs gs) ≡ ps
+  same_rows no_items no_items hs ps e f d a = same_Some [] ps e
+  same_rows no_items (item n u _ gs) hs ps e f d a = cc
+  same_rows (item n t _ fs) no_items hs ps e f d a = cc
+  same_rows (item n t _ fs) (item k u _ gs) hs ps e f d a =
+      let name : k ≡ n = cc in
+      let type : erase t ≡ erase u = cc in
+      let r = no_repeats_rest (k, u) (pairs gs) d in
+      let at : first_named (pairs hs) n ≡ Some u = sym (ap (first_named (pairs hs)) name) ∙ agrees_first k u (pairs gs) (pairs hs) a in
+      let p = prepended n (column t (λ u. columns_merged t u) (first_named (pairs hs) n)) (merged_by_name fs hs) ps e in
+      let here : merge either t u ≡ p.0 = same_merged t u p.0 (sym (ap (column t (λ u. columns_merged t u)) at) ∙ p.2) type in
+      ap (λ x. (n, x) ∷ pairs (merge_items either fs gs)) here
+      ∙ ap (λ xs. (n, p.0) ∷ xs) (same_rows fs gs hs p.1 p.3 (ap rest_of f) r.1 (agrees_rest k u (pairs gs) (pairs hs) r.0 a)) ∙ p.4
+
+  same_items : {h : Holder} (xs ys zs : Items h) → merged_beside xs ys ≡ Some zs → erase_items xs ≡ erase_items ys → merge_items either xs ys ≡ zs
+  same_items no_items no_items zs e f = same_Some no_items zs e
+  same_items (item m t g xs) (item n u k ys) zs e f =
+      let r = items_of m t g xs n u k ys zs e in
+      ap (λ x. item m x g (merge_items either xs ys)) (same_merged t u r.0 r.4 (ap (type_or (erase t)) f)) ∙ ap (λ rest. item m r.0 g rest) (same_items xs ys r.1 r.5 (ap rest_of f)) ∙ r.6
+  same_items no_items (item n u k ys) zs e f = cc
+  same_items (item m t g xs) no_items zs e f = cc
+
+-- the keys of two maps whose merged keys are sorted: those of both maps are sorted, and they are the same keys
+keys_stay : (x y : Bool) (t u k : Tree) → columns_merged t u ≡ Some k → stay_sorted x t y u ≡ true → (x ≡ true) × (y ≡ true) × (erase t ≡ erase k) × (erase u ≡ erase k)
+keys_stay x y t u k made sorted =
+    let all = both_true (x && y) (is_some (merged t u)) sorted in
+    let flags = both_true x y all.0 in
+    let same = (under_where either t u).0 all.1 in
+    let up = merged_least t u k (under_some either t u same ∙ ap Some (same_merged t u k made same)) in (flags.0, flags.1, up.first.erased, up.second.erased)
+
 -- types that differ in nullabilities alone can be read as their least upper bound
 of_merged : (a b c : Tree) → merged a b ≡ Some c → ReadsAs a c × ReadsAs b c
 of_merged a b c e = let h = merged_least a b c e in (sub_reads a c h.first, sub_reads b c h.second)
 
 -- ---- both can be read as what is merged
+
+nulls_above : (b c : Tree) → Some (made_nullable b) ≡ Some c → ReadsAs null c × ReadsAs b c
+nulls_above b c e = let is = same_Some (made_nullable b) c e in (subst IsNullable is (made_is b), subst (ReadsAs b) is (made_above b))
 
 -- of a field and the column for it: what can be read as the column
 abbrev Above : Fields → List ℕ → Tree → Tree → Type 0
@@ -99,7 +229,7 @@ structs_above fs gs m n ps d e rows =
       inl (
         (distinct_tested (pairs fs) d, alone),
         allows_either m n,
-        each_found Sub Allows IsNullable fs (fields all) d (λ k t is. let r = row_at (Above gs) fs ps rows k t is in (r.0, in_struct all k (Some r.0) (found_before ps more k r.0 r.1), r.2.0)),
+        each_found ReadsPlain Allows StaySorted IsNullable fs (fields all) d (λ k t is. let r = row_at (Above gs) fs ps rows k t is in (r.0, in_struct all k (Some r.0) (found_before ps more k r.0 r.1), r.2.0)),
         λ k x none is. by_option (first_named ps k)
             (λ lacks. let b = further_back (pairs fs) (pairs gs) k x (sym (behind ps more k lacks) ∙ of_columns all k (Some x) is) in subst IsNullable (sym b.3) (made_is b.0))
             (λ y some. let r = row_back (Above gs) fs ps rows k y some in let at = r.1 in cc),
@@ -107,7 +237,7 @@ structs_above fs gs m n ps d e rows =
       inl (
         (distinct_tested (pairs gs) e, alone),
         upwards.second m n,
-        each_found Sub Allows IsNullable gs (fields all) e (λ k u is. by_option (first_named (pairs fs) k)
+        each_found ReadsPlain Allows StaySorted IsNullable gs (fields all) e (λ k u is. by_option (first_named (pairs fs) k)
             (λ none. (made_nullable u, in_struct all k (Some (made_nullable u)) (found_behind ps more k (made_nullable u) (row_none (Above gs) fs ps rows k none) (further_finds (pairs fs) (pairs gs) k u none is)), made_above u))
             (λ t some. let r = row_at (Above gs) fs ps rows k t some in (r.0, in_struct all k (Some r.0) (found_before ps more k r.0 r.1), r.2.1 u is))),
         λ k x none is. by_option (first_named ps k)
@@ -119,25 +249,27 @@ structs_above fs gs m n ps d e rows =
     )
 
 -- two structs, in one of which a name repeats, can be read as the struct of fields as which theirs can be read one by one
-repeating_above : (fs gs hs : Fields) (m n : Nullability) → (¬ NoRepeats fs gs) → EachBeside Sub Allows IsNullable fs hs × EachBeside Sub Allows IsNullable gs hs
+repeating_above : (fs gs hs : Fields) (m n : Nullability) → (¬ NoRepeats fs gs) → EachBeside ReadsPlain Allows StaySorted IsNullable fs hs × EachBeside ReadsPlain Allows StaySorted IsNullable gs hs
     → ReadsAs (struct fs m) (struct hs (either m n)) × ReadsAs (struct gs n) (struct hs (either m n))
 repeating_above fs gs hs m n repeat h =
-    let first = beside_names Sub Allows IsNullable fs hs h.0 in
-    let second = beside_names Sub Allows IsNullable gs hs h.1 in (
+    let first = beside_names ReadsPlain Allows StaySorted IsNullable fs hs h.0 in
+    let second = beside_names ReadsPlain Allows StaySorted IsNullable gs hs h.1 in (
       inr (λ d. repeat (d.0, subst Distinct (sym second) d.1), allows_either m n, h.0),
       inr (λ d. repeat (subst Distinct (sym first) d.1, d.0), upwards.second m n, h.1),
     )
 
 -- and so can two unions
-unions_above : (vs ws us : Variants) (m n : Nullability) → Distinct (tags us) → EachBeside Sub Allows IsNullable vs us × EachBeside Sub Allows IsNullable ws us
+unions_above : (vs ws us : Variants) (m n : Nullability) → Distinct (tags us) → EachBeside ReadsPlain Allows StaySorted IsNullable vs us × EachBeside ReadsPlain Allows StaySorted IsNullable ws us
     → ReadsAs (union vs m) (union us (either m n)) × ReadsAs (union ws n) (union us (either m n))
 unions_above vs ws us m n d h = (
-  (allows_either m n, h.0, inl (subst Distinct (sym (beside_tags Sub Allows IsNullable vs us h.0)) d)),
-  (upwards.second m n, h.1, inl (subst Distinct (sym (beside_tags Sub Allows IsNullable ws us h.1)) d)),
+  (allows_either m n, h.0, inl (subst Distinct (sym (beside_tags ReadsPlain Allows StaySorted IsNullable vs us h.0)) d)),
+  (upwards.second m n, h.1, inl (subst Distinct (sym (beside_tags ReadsPlain Allows StaySorted IsNullable ws us h.1)) d)),
 )
 
 mutual
   pub above : (a b c : Tree) → columns_merged a b ≡ Some c → ReadsAs a c × ReadsAs b c
+  above null b c e = nulls_above b c e
+  above a null c e = let h = nulls_above a c (sym (merged_with_null a) ∙ e) in (h.1, h.0)
   above (list t m) (list u n) c e =
       let r = mapped_some (λ x. list x (either m n)) (columns_merged t u) c e in
       let h = above t u r.0 r.1 in
@@ -148,11 +280,14 @@ mutual
       let h = above t u r.0 r.1 in
       subst (λ z. ReadsAs (fixed_size_list t j m) z × ReadsAs (fixed_size_list u k n) z) r.2 ((refl, allows_either m n, h.0), (sym (eqb-true j k s.0), upwards.second m n, h.1))
   above (map_of t v x m) (map_of u w y n) c e =
-      let s = if_some (beq x y) (map_with (columns_merged t u) (columns_merged v w) x (either m n)) c e in
-      let r = map_made (columns_merged t u) (columns_merged v w) x (either m n) c s.1 in
+      let s = stay_sorted x t y u in
+      let r = map_made (columns_merged t u) (columns_merged v w) s (either m n) c e in
       let h = above t u r.0 r.2 in
       let g = above v w r.1 r.3 in
-      subst (λ z. ReadsAs (map_of t v x m) z × ReadsAs (map_of u w y n) z) r.4 ((refl, allows_either m n, h.0, g.0), (sym ((booleans_Decides x y).0 s.0), upwards.second m n, h.1, g.1))
+      subst (λ z. ReadsAs (map_of t v x m) z × ReadsAs (map_of u w y n) z) r.4 (
+        (λ e. let k = keys_stay x y t u r.0 r.2 e in (k.0, k.2), allows_either m n, h.0, g.0),
+        (λ e. let k = keys_stay x y t u r.0 r.2 e in (k.1, k.3), upwards.second m n, h.1, g.1),
+      )
   above (struct fs m) (struct gs n) c e =
       let test = no_repeats (pairs fs) && no_repeats (pairs gs) in
       let more = further (pairs fs) (pairs gs) in
@@ -191,13 +326,13 @@ mutual
       (h.0, λ v at. subst (λ z. ReadsAs z x) (same_Some u v (sym some ∙ at)) h.1, λ none. cc)) in
       subst (Rows (Above gs) (item n t tt fs)) r.4 (refl, here, above_rows fs gs r.1 r.3)
 
-  pub above_beside : {h : Holder} (xs ys zs : Items h) → merged_beside xs ys ≡ Some zs → EachBeside Sub Allows IsNullable xs zs × EachBeside Sub Allows IsNullable ys zs
-  above_beside no_items no_items zs e = subst (λ z. EachBeside Sub Allows IsNullable no_items z × EachBeside Sub Allows IsNullable no_items z) (same_Some no_items zs e) (tt, tt)
+  pub above_beside : {h : Holder} (xs ys zs : Items h) → merged_beside xs ys ≡ Some zs → EachBeside ReadsPlain Allows StaySorted IsNullable xs zs × EachBeside ReadsPlain Allows StaySorted IsNullable ys zs
+  above_beside no_items no_items zs e = subst (λ z. EachBeside ReadsPlain Allows StaySorted IsNullable no_items z × EachBeside ReadsPlain Allows StaySorted IsNullable no_items z) (same_Some no_items zs e) (tt, tt)
   above_beside (item m t f xs) (item n u g ys) zs e =
       let r = items_of m t f xs n u g ys zs e in
       let h = above t u r.0 r.4 in
       let rest = above_beside xs ys r.1 r.5 in
-      subst (λ z. EachBeside Sub Allows IsNullable (item m t f xs) z × EachBeside Sub Allows IsNullable (item n u g ys) z) r.6 ((refl, refl, h.0, rest.0), (sym r.2, sym r.3, h.1, rest.1))
+      subst (λ z. EachBeside ReadsPlain Allows StaySorted IsNullable (item m t f xs) z × EachBeside ReadsPlain Allows StaySorted IsNullable (item n u g ys) z) r.6 ((refl, refl, h.0, rest.0), (sym r.2, sym r.3, h.1, rest.1))
   above_beside no_items (item n u g ys) zs e = cc
   above_beside (item m t f xs) no_items zs e = cc
 
@@ -207,7 +342,7 @@ mutual
 abbrev Below : Fields → List ℕ → Tree → Tree → Type 0
 Below hs n t x = (y : Tree) → first_named (pairs hs) n ≡ Some y → ReadsAs x y
 
-structs_below : (fs gs hs : Fields) (m n o : Nullability) (ps : Pairs) → NoRepeats fs hs → NoRepeats gs hs → Allows m o → Allows n o → EachFound Sub Allows IsNullable fs hs → EachFound Sub Allows IsNullable gs hs
+structs_below : (fs gs hs : Fields) (m n o : Nullability) (ps : Pairs) → NoRepeats fs hs → NoRepeats gs hs → Allows m o → Allows n o → EachFound ReadsPlain Allows StaySorted IsNullable fs hs → EachFound ReadsPlain Allows StaySorted IsNullable gs hs
     → OnlyFurther IsNullable fs hs → Rows (Below hs) fs ps → ReadsAs (struct (fields (ps ++ further (pairs fs) (pairs gs))) (either m n)) (struct hs o)
 structs_below fs gs hs m n o ps d e l r f g only rows =
     let more = further (pairs fs) (pairs gs) in
@@ -218,14 +353,14 @@ structs_below fs gs hs m n o ps d e l r f g only rows =
     inl (
       (distinct_columns all all_alone, d.1),
       upwards.least o m n l r,
-      each_found Sub Allows IsNullable (fields all) hs (tested_distinct (pairs (fields all)) (distinct_columns all all_alone)) (λ k x is. by_option (first_named ps k)
+      each_found ReadsPlain Allows StaySorted IsNullable (fields all) hs (tested_distinct (pairs (fields all)) (distinct_columns all all_alone)) (λ k x is. by_option (first_named ps k)
           (λ lacks.
           let b = further_back (pairs fs) (pairs gs) k x (sym (behind ps more k lacks) ∙ of_columns all k (Some x) is) in
-          let s = found Sub Allows IsNullable gs hs g k b.0 b.2 in
+          let s = found ReadsPlain Allows StaySorted IsNullable gs hs g k b.0 b.2 in
           (s.0, s.1, subst (λ z. ReadsAs z s.0) (sym b.3) (made_least b.0 s.0 s.2 (only k s.0 b.1 s.1))))
           (λ y some.
           let b = row_back (Below hs) fs ps rows k y some in
-          let s = found Sub Allows IsNullable fs hs f k b.0 b.1 in
+          let s = found ReadsPlain Allows StaySorted IsNullable fs hs f k b.0 b.1 in
           (s.0, s.1, subst (λ z. ReadsAs z s.0) (same_Some y x (sym (found_before ps more k y some) ∙ of_columns all k (Some x) is)) (b.2 s.0 s.1)))),
       λ k y none is. by_option (first_named (pairs fs) k)
           (λ lacks. only k y lacks is)
@@ -236,15 +371,6 @@ structs_below fs gs hs m n o ps d e l r f g only rows =
 abbrev pub MergedBelow : Tree → Tree → Tree → Type 0
 MergedBelow a b d = (c : Tree) × (columns_merged a b ≡ Some c) × ReadsAs c d
 
-pub plain_merged : (a b : Tree) → plain a ≡ true → columns_merged a b ≡ merged a b
-plain_merged (list t m) b p = absurd (false≢true p)
-plain_merged (fixed_size_list t j m) b p = absurd (false≢true p)
-plain_merged (map_of t v x m) b p = absurd (false≢true p)
-plain_merged (struct fs m) b p = absurd (false≢true p)
-plain_merged (union vs m) b p = absurd (false≢true p)
-plain_merged (extension i a t) b p = absurd (false≢true p)
-plain_merged a b p = refl
-
 -- of two subsets
 subs_below : (a b d : Tree) → Sub a d → Sub b d → (c : Tree) × (merged a b ≡ Some c) × ReadsAs c d
 subs_below a b d h g =
@@ -252,19 +378,19 @@ subs_below a b d h g =
     let is = under_some either a b same in
     let c = merge either a b in (c, is, sub_reads c d ((merged_least a b c is).least d h g))
 
-plain_below : (a b d : Tree) → plain a ≡ true → ReadsAs a d → ReadsAs b d → MergedBelow a b d
-plain_below a b d p h g =
-    let of_a = alike_plain Sub Allows IsNullable a d p h in
-    let of_b = alike_plain Sub Allows IsNullable b d (ap plain_kind (reads_kind b d g ∙ sym (reads_kind a d h)) ∙ p) g in
-    let s = subs_below a b d of_a of_b in (s.0, plain_merged a b p ∙ s.1, s.2)
+plain_below : (a b d : Tree) → plain a ≡ true → is_null a ≡ false → is_null b ≡ false → ReadsAs a d → ReadsAs b d → MergedBelow a b d
+plain_below a b d p x y h g =
+    let of_a = alike_plain ReadsPlain Allows StaySorted IsNullable a d p h in
+    let of_b = alike_plain ReadsPlain Allows StaySorted IsNullable b d (ap plain_kind (reads_kind b d y g ∙ sym (reads_kind a d x h)) ∙ p) g in
+    let s = subs_below a b d (plain_sub a d x of_a) (plain_sub b d y of_b) in (s.0, plain_merged a b p x y ∙ s.1, s.2)
 
 pub field_valid : (hs : Fields) (n : List ℕ) (y : Tree) → ValidItems hs → first_named (pairs hs) n ≡ Some y → Valid y
 field_valid hs n y v is = type_named_valid (pairs hs) n y is (subst ValidItems (sym (fields_of_pairs hs)) v)
 
 -- of two structs, from what is done with their fields
 structs_least : (fs gs hs : Fields) (m n o : Nullability)
-    → (EachFound Sub Allows IsNullable fs hs → EachFound Sub Allows IsNullable gs hs → OnlyFurther IsNullable gs hs → (ps : Pairs) × (merged_by_name fs gs ≡ Some ps) × Rows (Below hs) fs ps)
-    → (EachBeside Sub Allows IsNullable fs hs → EachBeside Sub Allows IsNullable gs hs → (xs : Fields) × (merged_beside fs gs ≡ Some xs) × EachBeside Sub Allows IsNullable xs hs)
+    → (EachFound ReadsPlain Allows StaySorted IsNullable fs hs → EachFound ReadsPlain Allows StaySorted IsNullable gs hs → OnlyFurther IsNullable gs hs → (ps : Pairs) × (merged_by_name fs gs ≡ Some ps) × Rows (Below hs) fs ps)
+    → (EachBeside ReadsPlain Allows StaySorted IsNullable fs hs → EachBeside ReadsPlain Allows StaySorted IsNullable gs hs → (xs : Fields) × (merged_beside fs gs ≡ Some xs) × EachBeside ReadsPlain Allows StaySorted IsNullable xs hs)
     → ReadsAs (struct fs m) (struct hs o) → ReadsAs (struct gs n) (struct hs o) → MergedBelow (struct fs m) (struct gs n) (struct hs o)
 structs_least fs gs hs m n o go also (inl h) (inl g) =
     let rows = go h.2 g.2 g.3 in
@@ -274,11 +400,11 @@ structs_least fs gs hs m n o go also (inl h) (inl g) =
       pick_true (no_repeats (pairs fs) && no_repeats (pairs gs)) (struct_with (merged_by_name fs gs) more (either m n)) (option_map (λ hs. struct hs (either m n)) (merged_beside fs gs)) tested ∙ ap (λ r. struct_with r more (either m n)) rows.1,
       structs_below fs gs hs m n o rows.0 h.0 g.0 h.1 g.1 h.2 g.2 h.3 rows.2,
     )
-structs_least fs gs hs m n o go also (inl h) (inr g) = absurd (g.0 (subst Distinct (sym (beside_names Sub Allows IsNullable gs hs g.2)) h.0.1, h.0.1))
-structs_least fs gs hs m n o go also (inr h) (inl g) = absurd (h.0 (subst Distinct (sym (beside_names Sub Allows IsNullable fs hs h.2)) g.0.1, g.0.1))
+structs_least fs gs hs m n o go also (inl h) (inr g) = absurd (g.0 (subst Distinct (sym (beside_names ReadsPlain Allows StaySorted IsNullable gs hs g.2)) h.0.1, h.0.1))
+structs_least fs gs hs m n o go also (inr h) (inl g) = absurd (h.0 (subst Distinct (sym (beside_names ReadsPlain Allows StaySorted IsNullable fs hs h.2)) g.0.1, g.0.1))
 structs_least fs gs hs m n o go also (inr h) (inr g) =
     let s = also h.2 g.2 in
-    let same = beside_names Sub Allows IsNullable fs hs h.2 in
+    let same = beside_names ReadsPlain Allows StaySorted IsNullable fs hs h.2 in
     let test = no_repeats (pairs fs) && no_repeats (pairs gs) in
     let differ : test ≡ false = by_bool test
     (λ tested. let d = distinct_tested (pairs fs) ((both_true (no_repeats (pairs fs)) (no_repeats (pairs gs)) tested).0) in absurd (h.0 (d, subst Distinct same d)))
@@ -291,11 +417,11 @@ structs_least fs gs hs m n o go also (inr h) (inr g) =
 
 -- of two unions
 unions_least : (vs ws us : Variants) (m n o : Nullability) → Valid (union us o)
-    → (EachBeside Sub Allows IsNullable vs us → EachBeside Sub Allows IsNullable ws us → (xs : Variants) × (merged_beside vs ws ≡ Some xs) × EachBeside Sub Allows IsNullable xs us)
+    → (EachBeside ReadsPlain Allows StaySorted IsNullable vs us → EachBeside ReadsPlain Allows StaySorted IsNullable ws us → (xs : Variants) × (merged_beside vs ws ≡ Some xs) × EachBeside ReadsPlain Allows StaySorted IsNullable xs us)
     → ReadsAs (union vs m) (union us o) → ReadsAs (union ws n) (union us o) → MergedBelow (union vs m) (union ws n) (union us o)
 unions_least vs ws us m n o v also h g =
     let s = also h.1 g.1 in
-    let can : can_be_variants s.0 ≡ true = tested_variants s.0 (also_variants us s.0 (sym (beside_variants Sub Allows IsNullable s.0 us s.2)) (sym (beside_tags Sub Allows IsNullable s.0 us s.2)) v.0) in (
+    let can : can_be_variants s.0 ≡ true = tested_variants s.0 (also_variants us s.0 (sym (beside_variants ReadsPlain Allows StaySorted IsNullable s.0 us s.2)) (sym (beside_tags ReadsPlain Allows StaySorted IsNullable s.0 us s.2)) v.0) in (
       union s.0 (either m n),
       ap (λ r. union_with r (either m n)) s.1 ∙ pick_true (can_be_variants s.0) (Some (union s.0 (either m n))) None can,
       (upwards.least o m n h.0 g.0, s.2, inl (variants_tested s.0 can)),
@@ -303,14 +429,16 @@ unions_least vs ws us m n o v also h g =
 
 mutual
   pub least : (a b d : Tree) → Valid d → ReadsAs a d → ReadsAs b d → MergedBelow a b d
+  least null b d v h g = (made_nullable b, refl, made_least b d g h)
+  least a null d v h g = (made_nullable a, merged_with_null a, made_least a d h g)
   least (list t m) (list u n) d v h g =
-      let i = of_list Sub Allows IsNullable sub_kind t m d h in
+      let i = of_list ReadsPlain Allows StaySorted IsNullable plain_kinds t m d h in
       let b = subst (ReadsAs (list u n)) i.2 g in
       let r = least t u i.0 (subst Valid i.2 v) i.4 b.1 in
       (list r.0 (either m n), ap (option_map (λ x. list x (either m n))) r.1, subst (ReadsAs (list r.0 (either m n))) (sym i.2) (upwards.least i.1 m n i.3 b.0, r.2))
-  least (list t m) b d v h g = let ha = reads_kind (list t m) d h in let hb = reads_kind b d g in cc
+  least (list t m) b d v h g = let ha = reads_kind (list t m) d refl h in let hb = reads_kind b d refl g in cc
   least (fixed_size_list t j m) (fixed_size_list u k n) d v h g =
-      let i = of_fixed Sub Allows IsNullable sub_kind t j m d h in
+      let i = of_fixed ReadsPlain Allows StaySorted IsNullable plain_kinds t j m d h in
       let b = subst (ReadsAs (fixed_size_list u k n)) i.2 g in
       let at = subst Valid i.2 v in
       let r = least t u i.0 at.1 i.4 b.2 in (
@@ -318,33 +446,38 @@ mutual
         pick_true (j == k) (option_map (λ x. fixed_size_list x j (either m n)) (columns_merged t u)) None (eq-eqb j k (sym b.0)) ∙ ap (option_map (λ x. fixed_size_list x j (either m n))) r.1,
         subst (ReadsAs (fixed_size_list r.0 j (either m n))) (sym i.2) (refl, upwards.least i.1 m n i.3 b.1, r.2),
       )
-  least (fixed_size_list t j m) b d v h g = let ha = reads_kind (fixed_size_list t j m) d h in let hb = reads_kind b d g in cc
+  least (fixed_size_list t j m) b d v h g = let ha = reads_kind (fixed_size_list t j m) d refl h in let hb = reads_kind b d refl g in cc
   least (map_of t p x m) (map_of u q y n) d v h g =
-      let i = of_map Sub Allows IsNullable sub_kind t p x m d h in
-      let b = subst (ReadsAs (map_of u q y n)) i.3 g in
-      let at = subst Valid i.3 v in
-      let k = least t u i.0 at.1 i.5 b.2 in
-      let w = least p q i.1 at.2 i.6 b.3 in
+      let i = of_map ReadsPlain Allows StaySorted IsNullable plain_kinds t p x m d h in
+      let b = subst (ReadsAs (map_of u q y n)) i.4 g in
+      let at = subst Valid i.4 v in
+      let k = least t u i.0 at.1 i.7 b.2 in
+      let w = least p q i.1 at.2 i.8 b.3 in
+      let s = stay_sorted x t y u in
+      let stay : StaySorted s k.0 i.2 i.0 = λ e.
+      let one = i.5 e in
+      let other = b.0 e in
+      let sorted : s ≡ true = true_both (x && y) (is_some (merged t u)) (true_both x y one.0 other.0) ((under_where either t u).1 (one.1 ∙ sym other.1)) in
+      (sorted, sym (keys_stay x y t u k.0 k.1 sorted).2 ∙ one.1) in
       let sure : nullability k.0 ≢ Nullable = λ e. let null = reads_nullable k.0 i.0 k.2 e in let key = at.0 in cc in (
-        map_of k.0 w.0 x (either m n),
-        pick_true (beq x y) (map_with (columns_merged t u) (columns_merged p q) x (either m n)) None ((booleans_Decides x y).1 (sym b.0))
-            ∙ ap (λ o. map_with o (columns_merged p q) x (either m n)) k.1 ∙ ap (λ o. map_with (Some k.0) o x (either m n)) w.1 ∙ key_kept (nullability k.0) k.0 w.0 x (either m n) sure,
-        subst (ReadsAs (map_of k.0 w.0 x (either m n))) (sym i.3) (refl, upwards.least i.2 m n i.4 b.1, k.2, w.2),
+        map_of k.0 w.0 s (either m n),
+        ap (λ o. map_with o (columns_merged p q) s (either m n)) k.1 ∙ ap (λ o. map_with (Some k.0) o s (either m n)) w.1 ∙ key_kept (nullability k.0) k.0 w.0 s (either m n) sure,
+        subst (ReadsAs (map_of k.0 w.0 s (either m n))) (sym i.4) (stay, upwards.least i.3 m n i.6 b.1, k.2, w.2),
       )
-  least (map_of t p x m) b d v h g = let ha = reads_kind (map_of t p x m) d h in let hb = reads_kind b d g in cc
+  least (map_of t p x m) b d v h g = let ha = reads_kind (map_of t p x m) d refl h in let hb = reads_kind b d refl g in cc
   least (struct fs m) (struct gs n) d v h g =
-      let i = of_struct Sub Allows IsNullable sub_kind fs m d h in
+      let i = of_struct ReadsPlain Allows StaySorted IsNullable plain_kinds fs m d h in
       let s = structs_least fs gs i.0 m n i.1 (rows_least fs gs i.0 (subst Valid i.2 v)) (beside_least fs gs i.0 (subst Valid i.2 v)) i.3 (subst (ReadsAs (struct gs n)) i.2 g) in
       (s.0, s.1, subst (ReadsAs s.0) (sym i.2) s.2)
-  least (struct fs m) b d v h g = let ha = reads_kind (struct fs m) d h in let hb = reads_kind b d g in cc
+  least (struct fs m) b d v h g = let ha = reads_kind (struct fs m) d refl h in let hb = reads_kind b d refl g in cc
   least (union vs m) (union ws n) d v h g =
-      let i = of_union Sub Allows IsNullable sub_kind vs m d h in
+      let i = of_union ReadsPlain Allows StaySorted IsNullable plain_kinds vs m d h in
       let valid = subst Valid i.2 v in
       let s = unions_least vs ws i.0 m n i.1 valid (beside_least vs ws i.0 valid.1) i.3 (subst (ReadsAs (union ws n)) i.2 g) in
       (s.0, s.1, subst (ReadsAs s.0) (sym i.2) s.2)
-  least (union vs m) b d v h g = let ha = reads_kind (union vs m) d h in let hb = reads_kind b d g in cc
+  least (union vs m) b d v h g = let ha = reads_kind (union vs m) d refl h in let hb = reads_kind b d refl g in cc
   least (extension i a t) (extension j b u) d v h g =
-      let p = of_extension Sub Allows IsNullable sub_kind i a t d h in
+      let p = of_extension ReadsPlain Allows StaySorted IsNullable plain_kinds i a t d h in
       let q = subst (ReadsAs (extension j b u)) p.1 g in
       let at = subst Valid p.1 v in
       let r = least t u p.0 at.1 p.2 q.2 in (
@@ -353,10 +486,10 @@ mutual
             ∙ ap (option_map (extension i a)) r.1,
         subst (ReadsAs (extension i a r.0)) (sym p.1) (refl, refl, r.2),
       )
-  least (extension i a t) b d v h g = let ha = reads_kind (extension i a t) d h in let hb = reads_kind b d g in cc
-  least a b d v h g = plain_below a b d refl h g
+  least (extension i a t) b d v h g = let ha = reads_kind (extension i a t) d refl h in let hb = reads_kind b d refl g in cc
+  least a b d v h g = plain_below a b d refl refl refl h g
 
-  rows_least : (fs gs hs : Fields) → ValidItems hs → EachFound Sub Allows IsNullable fs hs → EachFound Sub Allows IsNullable gs hs → OnlyFurther IsNullable gs hs
+  rows_least : (fs gs hs : Fields) → ValidItems hs → EachFound ReadsPlain Allows StaySorted IsNullable fs hs → EachFound ReadsPlain Allows StaySorted IsNullable gs hs → OnlyFurther IsNullable gs hs
       → (ps : Pairs) × (merged_by_name fs gs ≡ Some ps) × Rows (Below hs) fs ps
   rows_least no_items gs hs v f g only = ([], refl, tt)
   rows_least (item n t _ fs) gs hs v f g only =
@@ -366,7 +499,7 @@ mutual
       let cell : (x : Tree) × (column t (λ u. columns_merged t u) other ≡ Some x) × ReadsAs x y = by_option other
       (λ none. (made_nullable t, ap (column t (λ u. columns_merged t u)) none, made_least t y s.2 (only n y none s.1)))
       (λ u some.
-      let r = found Sub Allows IsNullable gs hs g n u some in
+      let r = found ReadsPlain Allows StaySorted IsNullable gs hs g n u some in
       let c = least t u y (field_valid hs n y v s.1) s.2 (subst (ReadsAs u) (same_Some r.0 y (sym r.1 ∙ s.1)) r.2) in
       (c.0, ap (column t (λ u. columns_merged t u)) some ∙ c.1, c.2)) in
       let rest = rows_least fs gs hs v f.1 g only in (
@@ -375,8 +508,8 @@ mutual
         (refl, λ z at. subst (ReadsAs cell.0) (same_Some y z (sym s.1 ∙ at)) cell.2, rest.2),
       )
 
-  beside_least : {h : Holder} (xs ys zs : Items h) → ValidItems zs → EachBeside Sub Allows IsNullable xs zs → EachBeside Sub Allows IsNullable ys zs
-      → (ws : Items h) × (merged_beside xs ys ≡ Some ws) × EachBeside Sub Allows IsNullable ws zs
+  beside_least : {h : Holder} (xs ys zs : Items h) → ValidItems zs → EachBeside ReadsPlain Allows StaySorted IsNullable xs zs → EachBeside ReadsPlain Allows StaySorted IsNullable ys zs
+      → (ws : Items h) × (merged_beside xs ys ≡ Some ws) × EachBeside ReadsPlain Allows StaySorted IsNullable ws zs
   beside_least no_items no_items no_items v p q = (no_items, refl, tt)
   beside_least (item m t f xs) (item n u g ys) (item k y e zs) v p q =
       let c = least t u y v.0 p.2 q.2 in

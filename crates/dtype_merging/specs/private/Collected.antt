@@ -2,22 +2,25 @@
 -- SPDX-FileCopyrightText: Copyright the Vortex contributors
 
 -- What the calls that merge two types collect on their way.
-use Rattle.std.specs.Prelude.{ℕ, List, [], ◌∷◌, map, Option, Some, None, if◌then◌else◌}
-use Rattle.std.proofs.Math.Bool.{beq}
+use Rattle.std.specs.Prelude.{ℕ, Bool, List, [], ◌∷◌, map, Option, Some, None}
 use Rattle.dtype_base.specs.declared.nullability.Nullability.{Nullability}
 use Rattle.dtype_types.specs.declared.field_dtype.FieldDType.{FieldDType}
 use Rattle.dtype_types.specs.parts.FieldTypes.{field_tree}
 use Rattle.dtype_types.specs.tree.Tree.{Tree}
 use Rattle.dtype_types.specs.tree.TreeOf.{MapParts}
-use Rattle.dtype_merging.specs.MergedColumns.{columns_merged, map_with}
+use Rattle.dtype_merging.specs.MergedColumns.{columns_merged, map_with, stay_sorted}
 
 -- the fields that are made from these pairs of a name and a field type
 abbrev pub collected : List (List ℕ × FieldDType) → List (List ℕ × Tree)
 collected cs = map (λ p. (p.0, field_tree p.1)) cs
 
+-- whether the keys of the merged type of two maps are sorted
+abbrev pub maps_stay_sorted : MapParts → MapParts → Bool
+maps_stay_sorted a b = stay_sorted a.2 a.0 b.2 b.0
+
 -- the merged type of two maps
 abbrev pub maps_merged : MapParts → MapParts → Nullability → Option Tree
-maps_merged a b n = if beq a.2 b.2 then map_with (columns_merged a.0 b.0) (columns_merged a.1 b.1) a.2 n else None
+maps_merged a b n = map_with (columns_merged a.0 b.0) (columns_merged a.1 b.1) (maps_stay_sorted a b) n
 
 -- the types `rest` after the type `t`, or None if there is no such type, or no such types
 abbrev pub type_first : Option Tree → Option (List Tree) → Option (List Tree)

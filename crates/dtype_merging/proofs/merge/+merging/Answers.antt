@@ -1,7 +1,7 @@
 -- SPDX-License-Identifier: Apache-2.0
 -- SPDX-FileCopyrightText: Copyright the Vortex contributors
 
-use Rattle.std.proofs.Common.{◌≡◌, ◌∙◌, ◌&&◌, ◌++◌, [], ◌∷◌, true, false, Some, None, inl, inr, length, map, ap, subst, sym, rules, arith}
+use Rattle.std.proofs.Common.{◌≡◌, ◌≢◌, ◌∙◌, ◌&&◌, ◌++◌, [], ◌∷◌, true, false, Some, None, inl, inr, length, map, ap, subst, sym, rules, arith}
 use Rattle.std.specs.Iterator.Adapters.{zip_first, zip_second}
 use Rattle.std.specs.List.{zip}
 use Rattle.std.specs.Option.{option_map}
@@ -17,8 +17,44 @@ use Rattle.dtype_merging.specs.MergedColumns.{column, columns_merged, no_repeats
 use Rattle.dtype_merging.specs.private.Collected.{types_merged}
 use Rattle.dtype_merging.proofs.Collecting.{keys_nullable, lighter, merged_more, merged_stops, structs_by_name, structs_by_position}
 use Rattle.dtype_merging.proofs.Ordered.{fields_count, fields_weigh, left_done, right_done, struct_apart, struct_made, struct_unmade, told_alike, told_apart, union_apart, union_some, union_unmade, variants_count, variants_weigh, weight_all}
+use Rattle.dtype_merging.proofs.Apart.{others_apart, plain_others}
+use Rattle.dtype_merging.proofs.lemmas.Order.{plain}
+use Rattle.dtype_types.specs.declared.dtype.DType.{fold_out-DType, fold-roll-DType, the_lemmas}
+use Rattle.dtype_types.specs.declared.dtype.kinds.Kind.TheVariants as variants
+use Rattle.dtype_types.specs.tree.Kinds.{kind}
 use Rattle.dtype_merging.proofs.merge.+merging.Goals as goal
-use Rattle.dtype_merging.proofs.merge.+merging.Goals.{merge_unions-then-ne-via-then-ne, merge_unions-then-ne-via-else-ne+then-ne-2}
+use Rattle.dtype_merging.proofs.merge.+merging.Goals.{merge-in_default-via-in-List+in_default, merge-in_default-via-in-FixedSizeList+in_default, merge-in_default-via-in-Map+in_default, merge-in_default-via-in-Struct+in_default, merge-in_default-via-in-Union+in_default, merge-in_default-via-in-Extension+in_default, merge-in_default-via-in_default, merge_unions-then-ne-via-then-ne, merge_unions-then-ne-via-else-ne+then-ne-2}
+
+pub merge-returns-in_default : goal.merge-returns-in_default
+merge-returns-in_default t c = elim c.in_default.branch [
+  | merge-in_default-via-in-List+in_default w ↦
+      let k : kind (tree c.args.a.now) ≡ variants.List = search (rules, the_lemmas, fold_out-DType, fold-roll-DType, w.in_default.is-0) in
+      let n : kind (tree c.args.b.now) ≢ variants.List = search (rules, the_lemmas, fold_out-DType, fold-roll-DType, w.in_default.not-List-1) in
+      subst (λ z. Makes c.merge_others.result (λ r. option_map tree r ≡ z)) (sym (others_apart (tree c.args.a.now) (tree c.args.b.now) (λ e. n (sym e ∙ k)))) c.merge_others.ensures
+  | merge-in_default-via-in-FixedSizeList+in_default w ↦
+      let k : kind (tree c.args.a.now) ≡ variants.FixedSizeList = search (rules, the_lemmas, fold_out-DType, fold-roll-DType, w.in_default.is-0) in
+      let n : kind (tree c.args.b.now) ≢ variants.FixedSizeList = search (rules, the_lemmas, fold_out-DType, fold-roll-DType, w.in_default.not-FixedSizeList-1) in
+      subst (λ z. Makes c.merge_others.result (λ r. option_map tree r ≡ z)) (sym (others_apart (tree c.args.a.now) (tree c.args.b.now) (λ e. n (sym e ∙ k)))) c.merge_others.ensures
+  | merge-in_default-via-in-Map+in_default w ↦
+      let k : kind (tree c.args.a.now) ≡ variants.Map = search (rules, the_lemmas, fold_out-DType, fold-roll-DType, w.in_default.is-0) in
+      let n : kind (tree c.args.b.now) ≢ variants.Map = search (rules, the_lemmas, fold_out-DType, fold-roll-DType, w.in_default.not-Map-1) in
+      subst (λ z. Makes c.merge_others.result (λ r. option_map tree r ≡ z)) (sym (others_apart (tree c.args.a.now) (tree c.args.b.now) (λ e. n (sym e ∙ k)))) c.merge_others.ensures
+  | merge-in_default-via-in-Struct+in_default w ↦
+      let k : kind (tree c.args.a.now) ≡ variants.Struct = search (rules, the_lemmas, fold_out-DType, fold-roll-DType, w.in_default.is-0) in
+      let n : kind (tree c.args.b.now) ≢ variants.Struct = search (rules, the_lemmas, fold_out-DType, fold-roll-DType, w.in_default.not-Struct-1) in
+      subst (λ z. Makes c.merge_others.result (λ r. option_map tree r ≡ z)) (sym (others_apart (tree c.args.a.now) (tree c.args.b.now) (λ e. n (sym e ∙ k)))) c.merge_others.ensures
+  | merge-in_default-via-in-Union+in_default w ↦
+      let k : kind (tree c.args.a.now) ≡ variants.Union = search (rules, the_lemmas, fold_out-DType, fold-roll-DType, w.in_default.is-0) in
+      let n : kind (tree c.args.b.now) ≢ variants.Union = search (rules, the_lemmas, fold_out-DType, fold-roll-DType, w.in_default.not-Union-1) in
+      subst (λ z. Makes c.merge_others.result (λ r. option_map tree r ≡ z)) (sym (others_apart (tree c.args.a.now) (tree c.args.b.now) (λ e. n (sym e ∙ k)))) c.merge_others.ensures
+  | merge-in_default-via-in-Extension+in_default w ↦
+      let k : kind (tree c.args.a.now) ≡ variants.Extension = search (rules, the_lemmas, fold_out-DType, fold-roll-DType, w.in_default.is-0) in
+      let n : kind (tree c.args.b.now) ≢ variants.Extension = search (rules, the_lemmas, fold_out-DType, fold-roll-DType, w.in_default.not-Extension-1) in
+      subst (λ z. Makes c.merge_others.result (λ r. option_map tree r ≡ z)) (sym (others_apart (tree c.args.a.now) (tree c.args.b.now) (λ e. n (sym e ∙ k)))) c.merge_others.ensures
+  | merge-in_default-via-in_default w ↦
+      let p : plain (tree c.args.a.now) ≡ true = search (rules, the_lemmas, fold_out-DType, fold-roll-DType, w.in_default.not-List-0, w.in_default.not-FixedSizeList-0, w.in_default.not-Map-0, w.in_default.not-Struct-0, w.in_default.not-Union-0, w.in_default.not-Extension-0) in
+      subst (λ z. Makes c.merge_others.result (λ r. option_map tree r ≡ z)) (sym (plain_others (tree c.args.a.now) (tree c.args.b.now) p)) c.merge_others.ensures
+]
 
 pub merge-returns-then-have_no_repeats : goal.merge-returns-then-have_no_repeats
 merge-returns-then-have_no_repeats t c =
@@ -54,10 +90,9 @@ pub merge_maps-returns-then-is_nullable : goal.merge_maps-returns-then-is_nullab
 merge_maps-returns-then-is_nullable t c =
     let a = map_shown c.args.a.now in
     let b = map_shown c.args.b.now in
-    let same : a.2 ≡ b.2 = search (rules, c.if-keys_sorted.false, c.keys_sorted-keys_sorted.ensures, c.keys_sorted.ensures) in
     let key : Some (tree c.in-Some.key) ≡ columns_merged a.0 b.0 = search (rules, c.in_ok-key.ensures, c.in-Some.is, c.key_dtype.ensures, c.key_dtype-2.ensures) in
     let nulls : IsNullable (tree c.in-Some.key) = search (rules, c.is_nullable.ensures, c.if-is_nullable.true) in
-    keys_nullable a b c.args.n (tree c.in-Some.key) same key nulls
+    keys_nullable a b c.args.n (tree c.in-Some.key) key nulls
 
 pub merge_in_order-returns-then-ne : goal.merge_in_order-returns-then-ne
 merge_in_order-returns-then-ne t c =

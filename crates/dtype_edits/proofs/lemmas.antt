@@ -1,0 +1,5 @@
+-- SPDX-License-Identifier: Apache-2.0
+-- SPDX-FileCopyrightText: Copyright the Vortex contributors
+
+-- Lemmas about the definitions, which a caller's proof may cite.
+pub mod Replacing

@@ -1,0 +1,68 @@
+// SPDX-License-Identifier: Apache-2.0
+// SPDX-FileCopyrightText: Copyright the Vortex contributors
+
+// Theorems about the definitions. Each function's contract is the theorem, and its body is empty.
+ghost use Rattle.std.specs.Prelude.{◌≡◌, ◌++◌, List, Some, option_and_then};
+ghost use Rattle.dtype_types.specs.tree.Tree.{Tree};
+ghost use Rattle.dtype_types.specs.tree.Valid.{Valid};
+ghost use Rattle.dtype_paths.specs.Along.{along};
+ghost use Rattle.dtype_paths.specs.At.{At, ExistsIn};
+ghost use Rattle.dtype_paths.specs.Overlaps.{Overlaps};
+ghost use Rattle.dtype_paths.specs.declared.field.Field.{Field};
+ghost use Rattle.dtype_edits.specs.Replaced.{replaced};
+
+/// For all types `t` and `u` and each path `p`, the part of `t` at `p` can be replaced by `u` exactly if there is a part
+/// at `p`. (It can be replaced if `replaced t p u` isn't `None`.) For example, `{a=i32}` has no part at `b`, so replacing
+/// it has no result. With this law a caller that has resolved a path knows that `with_type_at` returns a type.
+///
+/// About [`with_type_at`].
+#[tactic(auto, using(crate::proofs::lemmas::Replacing::replaced_where, crate::proofs::lemmas::Replacing::exists_where))]
+pub fn a_part_is_replaced_exactly_where_a_path_leads()
+    ensures there { (t x u : Tree) (p : List Field) → At t p x → (r : Tree) × (replaced t p u ≡ Some r) }
+    ensures only { (t r u : Tree) (p : List Field) → replaced t p u ≡ Some r → ExistsIn t p }
+{}
+
+/// Let `r` be `t` with the part at `p` replaced by `u`. The law says to which types paths lead in `r`:
+/// - `there`: the path `p` leads to `u`.
+/// - `beside`: a path that doesn't overlap `p` leads to the same type in `r` as in `t`, or to no type in both. Two paths
+///   overlap if one of them is a prefix of the other.
+/// - `above`: if `p` is `q` followed by `rest`, then `q` leads to the type at `q` in `t` with the part at `rest` replaced
+///   by `u`.
+///
+/// For example, let `r` be `{a={b=i32, c=u8}, d=utf8}` with the part at `a.b` replaced by `bool`. The path `a.b` leads to
+/// `bool`, `a.c` and `d` lead to `u8` and `utf8` as before, and `a` leads to `{b=bool, c=u8}`.
+///
+/// About [`with_type_at`].
+#[tactic(auto, using(crate::proofs::lemmas::Replacing::leads_there, crate::proofs::lemmas::Replacing::leads_beside, crate::proofs::lemmas::Replacing::leads_above))]
+pub fn only_paths_through_the_replaced_part_change()
+    ensures there { (t r u : Tree) (p : List Field) → replaced t p u ≡ Some r → along r p ≡ Some u }
+    ensures beside { (t r u : Tree) (p q : List Field) → replaced t p u ≡ Some r → ¬ (Overlaps p q)
+        → along r q ≡ along t q }
+    ensures above { (t r u : Tree) (q rest : List Field) → replaced t (q ++ rest) u ≡ Some r
+        → along r q ≡ option_and_then (λ x. replaced x rest u) (along t q) }
+{}
+
+/// For all types `t`, `u` and `v` and each path `p`, the following is true of replacing the part at `p`. With the law
+/// about the paths of the result, these are the laws of a lens.
+/// - `itself`: if the type at `p` in `t` is `x`, then `t` with the part at `p` replaced by `x` is `t`.
+/// - `again`: if `r` is `t` with the part at `p` replaced by `u`, then replacing the part of `r` at `p` by `v` makes the
+///   same as replacing it in `t`.
+///
+/// For example, replacing the part of `{a=i32}` at `a` by `i32` makes `{a=i32}`. So nothing else of the type changes, such
+/// as its nullabilities, or the order of its fields.
+///
+/// About [`with_type_at`].
+#[tactic(auto, using(crate::proofs::lemmas::Replacing::replaced_by_itself, crate::proofs::lemmas::Replacing::replaced_again))]
+pub fn the_last_replacement_counts()
+    ensures itself { (t x : Tree) (p : List Field) → At t p x → replaced t p x ≡ Some t }
+    ensures again { (t r u v : Tree) (p : List Field) → replaced t p u ≡ Some r → replaced r p v ≡ replaced t p v }
+{}
+
+/// For all types `t` and `u` and each path `p`, if both types are valid, then `t` with the part at `p` replaced by `u` is
+/// valid. A path doesn't lead to the key type of a map, which mustn't be nullable, or into an extension.
+///
+/// About [`with_type_at`].
+#[tactic(auto, using(crate::proofs::lemmas::Replacing::replaced_valid))]
+pub fn a_valid_type_with_a_valid_part_is_valid()
+    ensures { (t r u : Tree) (p : List Field) → replaced t p u ≡ Some r → Valid t → Valid u → Valid r }
+{}

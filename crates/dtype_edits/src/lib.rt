@@ -1,0 +1,21 @@
+// SPDX-License-Identifier: Apache-2.0
+// SPDX-FileCopyrightText: Copyright the Vortex contributors
+
+//! Types made from other types by paths: a type with one part replaced.
+//!
+//! The following is proved of `with_type_at`:
+//! - It returns a type exactly if the path exists in the original type.
+//! - In the result, the path leads to the new type.
+//! - Each path that doesn't overlap the path resolves in the result as in the original type.
+//! - The result is valid if the original type and the new type are.
+//!
+//! The definitions are in `specs/`:
+//! - `Replaced`: a type with the part at a path replaced, by recursion on the path.
+//!
+//! `proofs/lemmas` contains the lemmas that callers may cite. `laws` states the theorems about the definitions.
+#![tactic(auto)]
+
+pub mod laws;
+mod replace;
+
+pub use replace::with_type_at;

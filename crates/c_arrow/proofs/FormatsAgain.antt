@@ -21,7 +21,7 @@ use Rattle.dtype_text.specs.Leaves.{front, past}
 use Rattle.dtype_text.specs.Read.{◌>>=◌, byte_at}
 use Rattle.c_arrow.specs.Faults.{Fault}
 use Rattle.c_arrow.specs.Formats.{format_of, word_of, word_in, nested_word_of, time_of, parametric_of, nested_of, union_of, or_else}
-use Rattle.c_arrow.specs.FormatsWritten.{letter_of, decimal_format, fixed_size_format, union_format, width_of, joined, is_id}
+use Rattle.c_arrow.specs.FormatsWritten.{letter_of, bytes_format, decimal_format, fixed_size_format, union_format, width_of, joined, is_id}
 use Rattle.c_arrow.specs.Ids.{ids_of, ids_after, ended, id_with}
 use Rattle.c_arrow.specs.Ids.{digits_value as value_of}
 use Rattle.c_arrow.specs.Numbers.{number_of, number_after, digit_after, small_of, signed_of, not_comma, is_width, decimal_parts}
@@ -143,6 +143,17 @@ fixed_again size format is = split (nat_le size 2147483647) refl where
       let lt : size < 2 ^ 32 = grind (arith, nat_tests) in
       let again = number_again size lt in
       ap format_of (sym (same_made (codes "+w:" ++ decimal size) format e)) ∙ with_parameters (codes "+w:" ++ decimal size) refl ∙ rw again refl
+
+pub bytes_again : (size : ℕ) (format : List ℕ) → bytes_format size ≡ Ok format → format_of format ≡ Some (f.FixedSizeBinary size)
+unfolding bytes_format word_of nested_word_of time_of parametric_of
+bytes_again size format is = split (nat_le size 2147483647) refl where
+  split : (c : Bool) → nat_le size 2147483647 ≡ c → format_of format ≡ Some (f.FixedSizeBinary size)
+  split false test = absurd (let e = rw test at is in cc)
+  split true test =
+      let e : made (codes "w:" ++ decimal size) ≡ made format = rw test at is in
+      let lt : size < 2 ^ 32 = grind (arith, nat_tests) in
+      let again = number_again size lt in
+      ap format_of (sym (same_made (codes "w:" ++ decimal size) format e)) ∙ with_parameters (codes "w:" ++ decimal size) refl ∙ rw again refl
 
 -- ---- decimals
 

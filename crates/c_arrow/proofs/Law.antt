@@ -93,11 +93,12 @@ child_same : (w : Inside) (v : Inner) → Alike w v → (parent : Field) (nullab
 unfolding child_by child_from inner_by named_by
 child_same full none_inner h parent nullable levels c left = refl
 child_same (inside part w) (inner made v) h parent nullable levels c left =
-    let named : named_by part (own c) nullable levels (below c left) ≡ with_left left (name_of (own c) >>= λ n. made c nullable levels >>= λ t. Ok (n, t)) =
-    then_ (name_of (own c)) left _ _ (λ n. after (part (own c) nullable levels (below c left)) (made c nullable levels) left left _ _ (h.0 c nullable levels left) (λ t. refl)) in
+    let is = nullable || is_nullable (own c).node.flags in
+    let named : named_by part (own c) nullable levels (below c left) ≡ with_left left (name_of (own c) >>= λ n. made c is levels >>= λ t. Ok (n, t)) =
+    then_ (name_of (own c)) left _ _ (λ n. after (part (own c) is levels (below c left)) (made c is levels) left left _ _ (h.0 c is levels left) (λ t. refl)) in
     ap (λ r. r >>= λ x. read_within x.0.name (named_by part x.0 nullable levels x.1)) (field_again c left)
     ∙ ap (read_within (own c).name) named
-    ∙ inside_name (own c).name left (name_of (own c) >>= λ n. made c nullable levels >>= λ t. Ok (n, t))
+    ∙ inside_name (own c).name left (name_of (own c) >>= λ n. made c is levels >>= λ t. Ok (n, t))
 child_same full (inner made v) h parent nullable levels c left = absurd h
 child_same (inside part w) none_inner h parent nullable levels c left = absurd h
 
@@ -287,7 +288,7 @@ module _ (w : Inside) (v : Inner) (alike : Alike w v) (flags : ℕ) (format name
 type_same : (w : Inside) (v : Inner) → Alike w v → IsSame (type_by w) (type_from v)
 unfolding type_by type_from sound
 type_same w v alike (schema flags format name metadata cs vs) nullable levels left =
-    then_ (keys_of (own (schema flags format name metadata cs vs))) left _ _ (λ k. keyed_same w v alike flags format name metadata cs vs (nullable || is_nullable flags) k.name k.metadata levels left)
+    then_ (keys_of (own (schema flags format name metadata cs vs))) left _ _ (λ k. keyed_same w v alike flags format name metadata cs vs nullable k.name k.metadata levels left)
 
 inside_same : (n : ℕ) → Alike (inside_at n) (inner_at n)
 inside_same zero = tt
@@ -302,9 +303,10 @@ unfolding read_flat from_arrow
 read_is_made s =
     let nodes = sym (append-nil (flat_nodes s)) in
     let texts = sym (append-nil (flat_texts s)) in
-    let step : Left → Result Tree Fault = λ l. field_at l >>= λ root. type_by (inside_at 299) root.0 false 128 root.1 >>= all_of in
+    let is = is_nullable (own s).node.flags in
+    let step : Left → Result Tree Fault = λ l. field_at l >>= λ root. type_by (inside_at 299) root.0 (is_nullable root.0.node.flags) 128 root.1 >>= all_of in
     ap (λ (ns : List ArrowNode). step (ns, flat_texts s)) nodes
     ∙ ap (λ (ts : List ℕ). step (flat_nodes s ++ [], ts)) texts
-    ∙ ap (λ r. r >>= λ root. type_by (inside_at 299) root.0 false 128 root.1 >>= all_of) (field_again s ([], []))
-    ∙ ap (λ r. r >>= all_of) (type_same (inside_at 299) (inner_at 299) (inside_same 299) s false 128 ([], []))
-    ∙ all_is (type_from (inner_at 299) s false 128)
+    ∙ ap (λ r. r >>= λ root. type_by (inside_at 299) root.0 (is_nullable root.0.node.flags) 128 root.1 >>= all_of) (field_again s ([], []))
+    ∙ ap (λ r. r >>= all_of) (type_same (inside_at 299) (inner_at 299) (inside_same 299) s is 128 ([], []))
+    ∙ all_is (type_from (inner_at 299) s is 128)

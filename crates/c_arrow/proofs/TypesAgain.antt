@@ -2,7 +2,7 @@
 -- SPDX-FileCopyrightText: Copyright the Vortex contributors
 
 -- The schema that is written of a type is read as this type.
-use Rattle.std.proofs.Common.{◌≡◌, ◌≢◌, ℕ, zero, suc, ◌+◌, ◌*◌, ◌<◌, ◌≤◌, Bool, true, false, ◌&&◌, ◌==◌, List, [], ◌∷◌, ◌++◌, length, drop, Option, Some, None, Result, Ok, Err, refl, sym, ap, subst, ◌∙◌, arith, inl, inr, map}
+use Rattle.std.proofs.Common.{◌≡◌, ◌≢◌, ℕ, zero, suc, ◌+◌, ◌*◌, ◌<◌, ◌≤◌, Bool, true, false, not, ◌&&◌, ◌==◌, List, [], ◌∷◌, ◌++◌, length, drop, Option, Some, None, Result, Ok, Err, refl, sym, ap, subst, ◌∙◌, arith, inl, inr, map}
 use Rattle.std.specs.Prelude.{codes, ◌⊎◌, nat_eq, nat_lt, ℤ, pos, ◌≤ℤ◌, ◌<ℤ◌, int_lt, if◌then◌else◌}
 use Rattle.std.specs.List.{list_any, IsDistinct, AllByRecursion}
 use Rattle.std.specs.Str.{is_utf8, bytes_eq}
@@ -11,6 +11,7 @@ use Rattle.dtype_base.specs.Decimals.{Decimal, IsValidDecimal}
 use Rattle.dtype_base.specs.Nullability.{nullability_of}
 use Rattle.dtype_base.specs.declared.nullability.Nullability.{Nullability}
 use Rattle.dtype_base.specs.declared.nullability.Nullability.TheVariants.{NonNullable, Nullable}
+use Rattle.dtype_base.specs.declared.ptype.PType.TheVariants as p
 use Rattle.dtype_types.specs.nullability.Nullable.{nullability}
 use Rattle.dtype_types.specs.tree.Tree as of
 use Rattle.dtype_types.specs.tree.Tree.{Tree, Holder, Tag, Items, Fields, Variants, triples, no_items, item, fields, extension}
@@ -30,19 +31,20 @@ use Rattle.c_arrow.specs.Again.{IsTemporal, both_said}
 use Rattle.c_arrow.specs.Faults.{Fault, ◌>>=◌, or_fault, read_within}
 use Rattle.c_arrow.specs.Flags.{is_nullable, has_sorted_keys}
 use Rattle.c_arrow.specs.Formats.{format_of}
-use Rattle.c_arrow.specs.FormatsWritten.{checked_nul, decimal_format, fixed_size_format, letter_of, union_format}
+use Rattle.c_arrow.specs.FormatsWritten.{bytes_format, checked_nul, decimal_format, fixed_size_format, letter_of, union_format}
 use Rattle.c_arrow.specs.FromArrow.{own, child_from, part_from, each, list_from, fixed_from, struct_from, union_from, map_from, map_of_entries, entries_from, format_from, storage_from, keyed_from, type_from, inner_at, from_arrow}
-use Rattle.c_arrow.specs.Keys.{said_in, nothing_said, extension_metadata}
-use Rattle.c_arrow.specs.Read.{Field, keys_of, name_of, or_refuse, decimal_of, map_of, union_of, tagged, is_entries, is_struct, date_of, time_of, timestamp_of}
+use Rattle.c_arrow.specs.Keys.{said_in, nothing_said, extension_metadata, is_tensor}
+use Rattle.c_arrow.specs.Read.{Field, bytes_of, keys_of, level, name_of, or_refuse, decimal_of, map_of, union_of, tagged, is_entries, is_struct, date_of, time_of, timestamp_of}
 use Rattle.c_arrow.specs.Schema.{Schema, schema, Schemas, no_schema, more, no_values}
 use Rattle.c_arrow.specs.Temporal.{Written, temporal_in, temporal_of, date_tree, time_tree, timestamp_tree}
-use Rattle.c_arrow.specs.Write.{Label, called, storage_called, nullable_flag, map_flags, leaf, parent, none, before, map_field, named, child, child_of, children_of, field_of, to_arrow, temporal, metadata_for, inner_extension, outer_extension, extension_at}
+use Rattle.c_arrow.specs.Write.{Label, called, storage_called, nullable_flag, map_flags, leaf, parent, none, before, byte_is, is_byte, are_bytes, bytes_field, fixed_field, map_field, named, child, child_of, children_of, field_of, to_arrow, temporal, metadata_for, inner_extension, outer_extension, extension_at}
 use Rattle.c_arrow.specs.declared.fault.Problem.TheVariants as problem
 use Rattle.c_arrow.specs.declared.format.Format.{Format}
 use Rattle.c_arrow.specs.declared.format.Format.TheVariants as f
 use Rattle.c_arrow.proofs.KeysAgain.{keys_again}
+use Rattle.c_arrow.proofs.Leaves.{both}
 use Rattle.c_arrow.proofs.TemporalAgain.{temporal_again}
-use Rattle.c_arrow.proofs.FormatsAgain.{ascii_utf8, words_again, letter_again, fixed_again, decimal_again, union_again}
+use Rattle.c_arrow.proofs.FormatsAgain.{ascii_utf8, words_again, letter_again, fixed_again, bytes_again, decimal_again, union_again}
 
 -- ---- results
 
@@ -107,7 +109,7 @@ IsStored k levels label s t = (flags : ℕ) × (format : List ℕ) × (cs : Sche
 
 -- the type of a field with this name
 abbrev IsRead : ℕ → ℕ → List ℕ → Schema → Tree → Type 0
-IsRead k levels name s t = (type_from (inner_at k) s false levels ≡ Ok t) × ((own s).name ≡ name)
+IsRead k levels name s t = (type_from (inner_at k) s (is_nullable (own s).node.flags) levels ≡ Ok t) × ((own s).name ≡ name)
 
 plain_keys : (field : Field) → field.metadata ≡ [] → keys_of field ≡ Ok nothing_said
 unfolding keys_of said_in
@@ -117,7 +119,7 @@ plain_read : (k levels : ℕ) (label : Label) (s : Schema) (t : Tree) → label.
 unfolding type_from keyed_from
 plain_read k levels label s t e (flags, format, cs, is, stored) =
     let field = own (whole flags format label cs) in
-    let read : type_from (inner_at k) (whole flags format label cs) false levels ≡ Ok t =
+    let read : type_from (inner_at k) (whole flags format label cs) (is_nullable flags) levels ≡ Ok t =
     ap (λ r. r >>= λ key. keyed_from (inner_at k) field key.name key.metadata (is_nullable flags) levels cs no_values) (plain_keys field e) ∙ stored in
     subst (λ x. IsRead k levels label.name x t) is (read, refl)
 
@@ -138,8 +140,9 @@ unfolding part_from child_from name_of
 part_again k levels below parent_ name c t is utf8 (read, called_) =
     let test : is_utf8 (own c).name ≡ true = ap is_utf8 called_ ∙ utf8 in
     let named_ : name_of (own c) ≡ Ok (own c).name = rw test refl in
-    let inside : (name_of (own c) >>= λ n. type_from (inner_at k) c false below >>= λ u. Ok (n, u)) ≡ Ok (name, t) =
-    ap (λ r. r >>= λ n. type_from (inner_at k) c false below >>= λ u. Ok (n, u)) named_ ∙ ap (λ r. r >>= λ u. Ok ((own c).name, u)) read ∙ ap (λ n. Ok (n, t)) called_ in
+    let is_ = is_nullable (own c).node.flags in
+    let inside : (name_of (own c) >>= λ n. type_from (inner_at k) c is_ below >>= λ u. Ok (n, u)) ≡ Ok (name, t) =
+    ap (λ r. r >>= λ n. type_from (inner_at k) c is_ below >>= λ u. Ok (n, u)) named_ ∙ ap (λ r. r >>= λ u. Ok ((own c).name, u)) read ∙ ap (λ n. Ok (n, t)) called_ in
     ap (λ (l : ℕ). part_from (inner_at (suc k)) parent_ l c) is ∙ ap (read_within (own c).name) inside
 
 -- what is read of the children of this type
@@ -177,7 +180,7 @@ module _ (k levels : ℕ) (label : Label) (s : Schema) (n : Nullability) where
       stored_by (suc k) levels label s (of.list t n) (nullable_flag n) (codes "+l") (more o.0 no_schema) f.List is words_again.4
       (ap (λ (r : Result (List ℕ × Tree) Fault). r >>= λ c. Ok (of.list c.1 (nullability_of (is_nullable (nullable_flag n))))) part ∙ ap (λ m. Ok (of.list t m)) (nullability_again n))
 
-  fixed_stored : (t : Tree) (size : ℕ) → Reads k levels t → field_of levels label (of.fixed_size_list t size n) ≡ Ok s → IsStored (suc k) levels label s (of.fixed_size_list t size n)
+  fixed_stored : (t : Tree) (size : ℕ) → Reads k levels t → fixed_field label (child_of levels (codes "item") t) size n ≡ Ok s → IsStored (suc k) levels label s (of.fixed_size_list t size n)
   unfolding format_from fixed_from
   fixed_stored t size reads e =
       let b = bind_ok (fixed_size_format size) (λ format. parent format (nullable_flag n) label (before (child_of levels (codes "item") t) none)) s e in
@@ -188,6 +191,33 @@ module _ (k levels : ℕ) (label : Label) (s : Schema) (n : Nullability) where
       let part = child_again k levels (codes "item") item_utf8 t reads o.0 o.1 field in
       stored_by (suc k) levels label s (of.fixed_size_list t size n) (nullable_flag n) b.0 (more o.0 no_schema) (f.FixedSizeList size) is (fixed_again size b.0 b.1)
       (ap (λ (r : Result (List ℕ × Tree) Fault). r >>= λ c. Ok (of.fixed_size_list c.1 size (nullability_of (is_nullable (nullable_flag n))))) part ∙ ap (λ m. Ok (of.fixed_size_list t size m)) (nullability_again n))
+
+the_byte : (t : Tree) → is_byte t ≡ true → t ≡ of.primitive p.U8 NonNullable
+unfolding is_byte byte_is
+the_byte (of.primitive p.U8 NonNullable) e = refl
+the_byte _ e = absurd cc
+
+module _ (k levels : ℕ) (label : Label) (s : Schema) (n : Nullability) (t : Tree) (size : ℕ) where
+  bytes_stored : is_byte t ≡ true → bytes_field levels label size n ≡ Ok s → IsStored k levels label s (of.fixed_size_list t size n)
+  unfolding bytes_field leaf format_from bytes_of
+  bytes_stored byte e =
+      let b = bind_ok (bytes_format size) (λ format. level levels >>= λ below. leaf format label n) s e in
+      let l = bind_ok (level levels) (λ below. leaf b.0 label n) s b.2 in
+      let m = nullability_of (is_nullable (nullable_flag n)) in
+      stored_by k levels label s (of.fixed_size_list t size n) (nullable_flag n) b.0 no_schema (f.FixedSizeBinary size) (ok_is _ _ l.2) (bytes_again size b.0 b.1)
+      (ap (λ (r : Result ℕ Fault). r >>= λ below. Ok (of.fixed_size_list (of.primitive p.U8 NonNullable) size m)) l.1
+      ∙ ap (λ x. Ok (of.fixed_size_list (of.primitive p.U8 NonNullable) size x)) (nullability_again n)
+      ∙ ap (λ x. Ok (of.fixed_size_list x size n)) (sym (the_byte t byte)))
+
+sized_stored : (k levels : ℕ) (label : Label) (s : Schema) (n : Nullability) (t : Tree) (size : ℕ) → Reads k levels t → field_of levels label (of.fixed_size_list t size n) ≡ Ok s → IsStored (suc k) levels label s (of.fixed_size_list t size n)
+unfolding are_bytes
+sized_stored k levels label s n t size reads e = split (is_byte t && not (is_tensor label.metadata)) refl where
+  by : Bool → Result Schema Fault
+  by c = if c then bytes_field levels label size n else fixed_field label (child_of levels (codes "item") t) size n
+
+  split : (c : Bool) → (is_byte t && not (is_tensor label.metadata)) ≡ c → IsStored (suc k) levels label s (of.fixed_size_list t size n)
+  split true is = bytes_stored (suc k) levels label s n t size (both (is_byte t) (not (is_tensor label.metadata)) is).0 (sym (ap by is) ∙ e)
+  split false is = fixed_stored k levels label s n t size reads (sym (ap by is) ∙ e)
 
 -- ---- structs and unions
 
@@ -383,7 +413,7 @@ keyed_read k below name m id bytes s storage said utf8 (flags, format, cs, is, s
     let field = own (whole flags format label cs) in
     let keyed : keyed_from (inner_at k) field (Some id) (Some bytes) (is_nullable flags) (suc below) cs no_values ≡ Ok (extension id bytes storage) =
     rw utf8 (ap (λ r. r >>= λ t. Ok (extension id bytes t)) stored) in
-    let read : type_from (inner_at k) (whole flags format label cs) false (suc below) ≡ Ok (extension id bytes storage) =
+    let read : type_from (inner_at k) (whole flags format label cs) (is_nullable flags) (suc below) ≡ Ok (extension id bytes storage) =
     ap (λ o. or_refuse field problem.Metadata o >>= λ key. keyed_from (inner_at k) field key.name key.metadata (is_nullable flags) (suc below) cs no_values) said ∙ keyed in
     subst (λ x. IsRead k (suc below) name x (extension id bytes storage)) is (read, refl)
 
@@ -457,7 +487,7 @@ mutual
       stored_both (suc k) levels label s (of.list t n) (list_stored k levels label s n t (λ below name c is made. (again t k below (called name) c (omega (arith, lt, is)) v x made).1 refl refl) e)
   again (of.fixed_size_list t size n) zero levels label s lt v x e = absurd (omega (arith, lt))
   again (of.fixed_size_list t size n) (suc k) levels label s lt v x e =
-      stored_both (suc k) levels label s (of.fixed_size_list t size n) (fixed_stored k levels label s n t size (λ below name c is made. (again t k below (called name) c (omega (arith, lt, is)) v.1 x made).1 refl refl) e)
+      stored_both (suc k) levels label s (of.fixed_size_list t size n) (sized_stored k levels label s n t size (λ below name c is made. (again t k below (called name) c (omega (arith, lt, is)) v.1 x made).1 refl refl) e)
   again (of.map_of a b sorted n) zero levels label s lt v x e = absurd (omega (arith, lt))
   again (of.map_of a b sorted n) (suc zero) levels label s lt v x e = absurd (omega (arith, lt))
   again (of.map_of a b sorted n) (suc (suc k)) levels label s lt v x e =

@@ -8,10 +8,11 @@ use Rattle.dtype_base.specs.declared.nullability.Nullability.TheVariants.{NonNul
 use Rattle.dtype_types.specs.tree.Tree.{Tree, fields, variants}
 use Rattle.c_arrow.specs.Added.{Out, with_node, with_field, with_fields}
 use Rattle.c_arrow.specs.Faults.{Fault, ◌>>=◌, read_within, too_deep, Stops}
-use Rattle.c_arrow.specs.FormatsWritten.{checked_nul}
+use Rattle.c_arrow.specs.FormatsWritten.{bytes_format, checked_nul}
+use Rattle.c_arrow.specs.Read.{level}
 use Rattle.c_arrow.specs.Schema.{Schema, Schemas, count, all_nodes, all_texts, flat_nodes, flat_texts}
 use Rattle.c_arrow.specs.Temporal.{Written}
-use Rattle.c_arrow.specs.Write.{Label, called, storage_called, no_type, nullable_flag, map_flags, leaf, parent, none, before, entries, map_field, named, child, child_of, children_of, temporal, inner_extension, outer_extension}
+use Rattle.c_arrow.specs.Write.{Label, called, storage_called, no_type, nullable_flag, map_flags, leaf, parent, none, before, entries, bytes_field, map_field, named, child, child_of, children_of, temporal, inner_extension, outer_extension}
 use Rattle.c_arrow.specs.declared.fault.ArrowFault.{ArrowFault}
 use Rattle.c_arrow.specs.declared.fault.Problem.TheVariants as problem
 use Rattle.c_arrow.specs.declared.node.ArrowNode.{ArrowNode}
@@ -157,6 +158,21 @@ inner_temporal levels label t lt =
 pub before_stops : {A : Type 0} (e : ArrowFault) (made : Result A Fault) (field : A → Result Schema Fault) (o : Out) → Stops e made → Stops e (with_field (made >>= field) o)
 unfolding with_field
 before_stops e made field o h = stops_all e made (with_field (made >>= field) o) h (λ f is. rw is refl)
+
+module _ (levels size : ℕ) (label : Label) (n : Nullability) (o : Out) where
+  pub bytes_stops : (e : ArrowFault) → Stops e (bytes_format size) → Stops e (with_field (bytes_field levels label size n) o)
+  unfolding bytes_field
+  bytes_stops e h = before_stops e (bytes_format size) (λ format. level levels >>= λ below. leaf format label n) o h
+
+  pub bytes_too_deep : (format : List ℕ) → bytes_format size ≡ Ok format → levels ≡ 0 → with_field (bytes_field levels label size n) o ≡ Err too_deep
+  unfolding with_field bytes_field
+  bytes_too_deep format made e = rw (made, e) refl
+
+  pub bytes_added : (format : List ℕ) → bytes_format size ≡ Ok format → 0 < levels → with_field (bytes_field levels label size n) o ≡ with_field (leaf format label n) o
+  unfolding bytes_field
+  bytes_added format made lt =
+      let e : levels ≡ suc (levels - 1) = omega arith in
+      rw made (ap (λ (l : ℕ). with_field (level l >>= λ below. leaf format label n) o) e)
 
 pub named_stops : (e : ArrowFault) (name : List ℕ) (field : Result Schema Fault) (o : Out) → Stops e (checked_nul name) → Stops e (with_field (named name field) o)
 unfolding named

@@ -2,7 +2,8 @@
 -- SPDX-FileCopyrightText: Copyright the Vortex contributors
 
 -- What the writer's functions return, by what the functions return that they call.
-use Rattle.std.proofs.Common.{◌≡◌, ℕ, List, [], ◌∷◌, length, codes, Option, None, Result, Ok, Err, refl, sym, ap, subst, ◌∙◌, rules}
+use Rattle.std.proofs.Common.{◌≡◌, ℕ, Bool, true, false, List, [], ◌∷◌, length, codes, Option, None, Result, Ok, Err, refl, sym, ap, subst, ◌∙◌, rules}
+use Rattle.std.specs.Prelude.{if◌then◌else◌}
 use Rattle.dtype_base.specs.declared.nullability.Nullability.{Nullability}
 use Rattle.dtype_types.proofs.lemmas.TreeLaws.{tree_struct, tree_map, tree_union, tree_extension, triples_variants}
 use Rattle.dtype_types.specs.declared.dtype.DType.{DType, List as ListOf, FixedSizeList, Map, Struct, Union, Variant, Extension, fold_out-DType, fold-roll-DType, the_lemmas}
@@ -20,16 +21,28 @@ use Rattle.c_arrow.specs.Added.{Out, Writes, with_node, with_field, with_fields}
 use Rattle.c_arrow.specs.Faults.{Fault, ◌>>=◌, Stops}
 use Rattle.c_arrow.specs.FormatsWritten.{checked_nul, fixed_size_format, union_format}
 use Rattle.c_arrow.specs.Schema.{Schema, Schemas}
-use Rattle.c_arrow.specs.Write.{Label, called, no_type, nullable_flag, parent, none, before, named, child_of, children_of, field_of}
+use Rattle.c_arrow.specs.Write.{Label, called, no_type, nullable_flag, parent, none, before, are_bytes, bytes_field, fixed_field, named, child_of, children_of, field_of}
 use Rattle.c_arrow.specs.declared.fault.ArrowFault.{ArrowFault}
 use Rattle.c_arrow.specs.declared.fault.Problem.TheVariants as problem
 use Rattle.c_arrow.proofs.Writing.{Counts, fields_count, variants_count, parent_added, one_added, none_added, first_stops, first_added, before_stops, named_ok}
 
 -- ---- kinds
 
+pub tree_list : (b : Box DType Global) (n : Nullability) → tree (ListOf b n) ≡ list (tree b.value) n
+tree_list b n = search (rules, the_lemmas, fold_out-DType, fold-roll-DType)
+
+pub tree_fixed : (b : Box DType Global) (k : ℕ) (n : Nullability) → tree (FixedSizeList b k n) ≡ fixed_size_list (tree b.value) k n
+tree_fixed b k n = search (rules, the_lemmas, fold_out-DType, fold-roll-DType)
+
+pub tree_variant : (n : Nullability) → tree (Variant n) ≡ variant n
+tree_variant n = search (rules, the_lemmas, fold_out-DType, fold-roll-DType)
+
 module _ (levels : ℕ) (label : Label) (d : DType) where
   pub map_kind : (m : MapDType) (n : Nullability) → d ≡ Map m n → field_of levels label (map_of (map_shown m).0 (map_shown m).1 (map_shown m).2 n) ≡ field_of levels label (tree d)
   map_kind m n e = sym (ap (λ x. field_of levels label (tree x)) e ∙ ap (field_of levels label) (tree_map m n))
+
+  pub fixed_kind : (b : Box DType Global) (k : ℕ) (n : Nullability) (element : DType) → d ≡ FixedSizeList b k n → element ≡ b.value → field_of levels label (fixed_size_list (tree element) k n) ≡ field_of levels label (tree d)
+  fixed_kind b k n element e item = ap (λ (x : DType). field_of levels label (fixed_size_list (tree x) k n)) item ∙ sym (ap (λ x. field_of levels label (tree x)) e ∙ ap (field_of levels label) (tree_fixed b k n))
 
   pub struct_kind : (s : StructFields) (n : Nullability) → d ≡ Struct s n → field_of levels label (struct (fields_of s) n) ≡ field_of levels label (tree d)
   struct_kind s n e = sym (ap (λ x. field_of levels label (tree x)) e ∙ ap (field_of levels label) (tree_struct s n))
@@ -41,15 +54,6 @@ module _ (levels : ℕ) (label : Label) (d : DType) where
   extension_kind x e = sym (ap (λ y. field_of levels label (tree y)) e ∙ ap (field_of levels label) (tree_extension x))
 
 pub ruleset kinds = (map_kind, struct_kind, union_kind, extension_kind)
-
-pub tree_list : (b : Box DType Global) (n : Nullability) → tree (ListOf b n) ≡ list (tree b.value) n
-tree_list b n = search (rules, the_lemmas, fold_out-DType, fold-roll-DType)
-
-pub tree_fixed : (b : Box DType Global) (k : ℕ) (n : Nullability) → tree (FixedSizeList b k n) ≡ fixed_size_list (tree b.value) k n
-tree_fixed b k n = search (rules, the_lemmas, fold_out-DType, fold-roll-DType)
-
-pub tree_variant : (n : Nullability) → tree (Variant n) ≡ variant n
-tree_variant n = search (rules, the_lemmas, fold_out-DType, fold-roll-DType)
 
 -- ---- values
 
@@ -86,12 +90,23 @@ module _ (result : Result Unit ArrowFault) (after middle start : Out) where
         (one_written (codes "+l") (codes "+l") (nullable_flag n) flag label (child_of levels (codes "item") (tree b.value)) refl flags node
         (subst (λ (x : DType). Writes result after (with_field (child_of levels (codes "item") (tree x)) middle)) item rest))
 
-    pub fixed_written : (k : ℕ) (format given : List ℕ) → d ≡ FixedSizeList b k n → fixed_size_format k ≡ Ok format → given ≡ format → flag ≡ nullable_flag n → element ≡ b.value → ok (with_node given flag label 1 start) ≡ ok middle → Writes result after (with_field (child_of levels (codes "item") (tree element)) middle) → Writes result after (with_field (field_of levels label (tree d)) start)
-    fixed_written k format given is made same flags item node rest =
-        subst (λ t. Writes result after (with_field (field_of levels label t) start)) (sym (ap tree is ∙ tree_fixed b k n))
-        (subst (λ (r : Result (List ℕ) Fault). Writes result after (with_field (r >>= λ f. parent f (nullable_flag n) label (before (child_of levels (codes "item") (tree b.value)) none)) start)) (sym made)
-        (one_written format given (nullable_flag n) flag label (child_of levels (codes "item") (tree b.value)) same flags node
-        (subst (λ (x : DType). Writes result after (with_field (child_of levels (codes "item") (tree x)) middle)) item rest)))
+  module _ (levels : ℕ) (label : Label) (t : Tree) (k : ℕ) (n : Nullability) where
+    abbrev as_list : Result Schema Fault
+    as_list = fixed_field label (child_of levels (codes "item") t) k n
+
+    by : Bool → Result Schema Fault
+    by c = if c then bytes_field levels label k n else as_list
+
+    pub bytes_written : (c : Bool) → c ≡ are_bytes label t → c ≡ true → Writes result after (with_field (bytes_field levels label k n) start) → Writes result after (with_field (field_of levels label (fixed_size_list t k n)) start)
+    unfolding by
+    bytes_written c is test rest = subst (λ (f : Result Schema Fault). Writes result after (with_field f start)) (ap by (sym test ∙ is)) rest
+
+    pub fixed_written : (c : Bool) (flag : ℕ) (format given : List ℕ) → c ≡ are_bytes label t → c ≡ false → fixed_size_format k ≡ Ok format → given ≡ format → flag ≡ nullable_flag n → ok (with_node given flag label 1 start) ≡ ok middle → Writes result after (with_field (child_of levels (codes "item") t) middle) → Writes result after (with_field (field_of levels label (fixed_size_list t k n)) start)
+    unfolding by
+    fixed_written c flag format given is test made same flags node rest =
+        subst (λ (f : Result Schema Fault). Writes result after (with_field f start)) (ap by (sym test ∙ is))
+        (subst (λ (r : Result (List ℕ) Fault). Writes result after (with_field (r >>= λ f. parent f (nullable_flag n) label (before (child_of levels (codes "item") t) none)) start)) (sym made)
+        (one_written format given (nullable_flag n) flag label (child_of levels (codes "item") t) same flags node rest))
 
   module _ (levels : ℕ) (label : Label) (n : Nullability) (flag count : ℕ) where
     pub struct_written : (s : StructFields) → flag ≡ nullable_flag n → count ≡ length (children s) → ok (with_node (codes "+s") flag label count start) ≡ ok middle → Writes result after (with_fields (children_of levels (fields_of s)) middle) → Writes result after (with_field (field_of levels label (struct (fields_of s) n)) start)
@@ -116,9 +131,11 @@ module _ (levels : ℕ) (label : Label) (o : Out) where
   unfolding with_field
   variant_refused d n is = ap (λ t. with_field (field_of levels label t) o) (ap tree is ∙ tree_variant n)
 
-  pub fixed_stops : (e : ArrowFault) (d : DType) (b : Box DType Global) (k : ℕ) (n : Nullability) → d ≡ FixedSizeList b k n → Stops e (fixed_size_format k) → Stops e (with_field (field_of levels label (tree d)) o)
-  fixed_stops e d b k n is h =
-      subst (λ t. Stops e (with_field (field_of levels label t) o)) (sym (ap tree is ∙ tree_fixed b k n)) (before_stops e (fixed_size_format k) _ o h)
+  pub fixed_stops : (e : ArrowFault) (c : Bool) (t : Tree) (k : ℕ) (n : Nullability) → c ≡ are_bytes label t → c ≡ false → Stops e (fixed_size_format k) → Stops e (with_field (field_of levels label (fixed_size_list t k n)) o)
+  fixed_stops e c t k n is test h =
+      let element = child_of levels (codes "item") t in
+      subst (λ (f : Result Schema Fault). Stops e (with_field f o)) (ap (λ (x : Bool). if x then bytes_field levels label k n else fixed_field label element k n) (sym test ∙ is))
+      (before_stops e (fixed_size_format k) (λ f. parent f (nullable_flag n) label (before element none)) o h)
 
   pub union_stops : (e : ArrowFault) (u : UnionVariants) (n : Nullability) (tags : List ℕ) → tags ≡ variant_tags (variant_list u) → Stops e (union_format tags) → Stops e (with_field (field_of levels label (union (variants_of u) n)) o)
   union_stops e u n tags are h =

@@ -41,6 +41,10 @@ no_schema what = Err (refused [] [] what)
 unfoldable pub fixed_size_format : ℕ → Result (List ℕ) Fault
 fixed_size_format size = if nat_le size 2147483647 then Ok (codes "+w:" ++ decimal size) else no_schema problem.Size
 
+-- The format of byte strings of one length. For example, it is `w:16` of strings of 16 bytes. The length is at most 2^31 - 1.
+unfoldable pub bytes_format : ℕ → Result (List ℕ) Fault
+bytes_format size = if nat_le size 2147483647 then Ok (codes "w:" ++ decimal size) else no_schema problem.Size
+
 -- Numbers with commas between them, the first behind this text. For example, they are `0,5` of 0 and 5 behind no text.
 abbrev pub joined : List ℕ → List ℕ → List ℕ
 joined before [] = []

@@ -40,7 +40,7 @@ with_none field (more c cs) made = refuse field problem.NoChildren
 -- the name and the type of a child
 unfoldable pub child_from : Inner → Field → Bool → ℕ → Schema → Result (List ℕ × Tree) Fault
 child_from none_inner parent nullable levels c = refuse parent problem.Nested
-child_from (inner part inside) parent nullable levels c = read_within (own c).name (name_of (own c) >>= λ n. part c nullable levels >>= λ t. Ok (n, t))
+child_from (inner part inside) parent nullable levels c = read_within (own c).name (name_of (own c) >>= λ n. part c (nullable || is_nullable (own c).node.flags) levels >>= λ t. Ok (n, t))
 
 -- the same of a child whose type is a part of the type
 unfoldable pub part_from : Inner → Field → ℕ → Schema → Result (List ℕ × Tree) Fault
@@ -136,7 +136,7 @@ keyed_from w field None metadata nullable levels cs vs = storage_from w field nu
 unfoldable pub type_from : Inner → Part
 type_from w (schema flags format name metadata cs vs) nullable levels =
     let field = own (schema flags format name metadata cs vs) in
-    keys_of field >>= λ k. keyed_from w field k.name k.metadata (nullable || is_nullable flags) levels cs vs
+    keys_of field >>= λ k. keyed_from w field k.name k.metadata nullable levels cs vs
 
 -- what makes the types of the fields inside a field, if so many more may be inside one another
 abbrev pub inner_at : ℕ → Inner
@@ -145,4 +145,4 @@ inner_at (suc n) = inner (type_from (inner_at n)) (inner_at n)
 
 -- The type of a schema. For example, it is `{a=i32?}` of a struct with the child `a`, which has the format `i` and the flag 2.
 unfoldable pub from_arrow : Schema → Result Tree Fault
-from_arrow s = type_from (inner_at 299) s false 128
+from_arrow s = type_from (inner_at 299) s (is_nullable (own s).node.flags) 128

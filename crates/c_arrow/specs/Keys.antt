@@ -3,7 +3,7 @@
 
 -- The metadata of a field: a count of pairs, and of each pair the key and the value, each with its length before it. The count
 -- and the lengths are four bytes, the lowest first.
-use Rattle.std.specs.Prelude.{ℕ, zero, suc, ◌^◌, List, [], ◌∷◌, ◌++◌, nat_lt, Option, Some, None, if◌then◌else◌, take, drop, length, codes}
+use Rattle.std.specs.Prelude.{ℕ, zero, suc, ◌^◌, List, [], ◌∷◌, ◌++◌, nat_lt, Bool, false, Option, Some, None, if◌then◌else◌, take, drop, length, codes}
 use Rattle.std.specs.Int.{from_le_bytes, to_le_bytes, w32}
 use Rattle.dtype_text.specs.Read.{◌>>=◌}
 use Rattle.dtype_text.specs.TypeParts.{is_text}
@@ -56,6 +56,19 @@ said_with said (suc n) bytes = text_at bytes >>= λ key. text_at key.1 >>= λ va
 unfoldable pub said_in : List ℕ → Option Said
 said_in [] = Some nothing_said
 said_in (b ∷ bytes) = count_at (b ∷ bytes) >>= λ n. said_with nothing_said n.0 n.1
+
+abbrev pub names_tensor : Option (List ℕ) → Bool
+names_tensor None = false
+names_tensor (Some id) = is_text id (codes "arrow.fixed_shape_tensor")
+
+abbrev pub tells_tensor : Option Said → Bool
+tells_tensor None = false
+tells_tensor (Some said) = names_tensor said.name
+
+-- Whether metadata names the extension `arrow.fixed_shape_tensor`, whose storage type is a fixed-size list in Arrow, also if its
+-- elements are bytes.
+unfoldable pub is_tensor : List ℕ → Bool
+is_tensor metadata = tells_tensor (said_in metadata)
 
 -- ---- what is written
 

@@ -157,8 +157,8 @@ union_of fs tags n =
     else if not (differ bytes_eq (map (λ f. f.0) fs)) then Err (library error.UnionNamesRepeat)
     else Ok (of.union (tagged fs tags) n)
 
--- ---- types. Each is read after the node of its field. `nullable` says whether a field makes it nullable whose type it is,
--- and `levels` how many levels it may have.
+-- ---- types. Each is read after the node of its field. `nullable` says whether the type is nullable, and `levels` how many
+-- levels it may have.
 
 -- a level less
 abbrev pub level : ℕ → Result ℕ Fault
@@ -180,11 +180,12 @@ abbrev pub with_left : {A : Type 0} → Left → Result A Fault → Result (A ×
 with_left left (Ok x) = Ok (x, left)
 with_left left (Err e) = Err e
 
--- the name and the type of a field
+-- The name and the type of a field. The type is nullable if the flags of the field say so, or if `nullable` does, which is the
+-- case for the values of a run-end encoded type that is nullable.
 unfoldable pub named_by : Part → Field → Bool → ℕ → Reader (List ℕ × Tree)
 named_by part field nullable levels left = do
   n ← name_of field
-  t ← part field nullable levels left
+  t ← part field (nullable || is_nullable field.node.flags) levels left
   Ok ((n, t.0), t.1)
 
 -- the next field, as its parent sees it
@@ -207,7 +208,8 @@ abbrev pub times : {A : Type 0} → ℕ → Reader A → Reader (List A)
 times zero item left = Ok ([], left)
 times (suc n) item left = item left >>= λ x. times n item x.1 >>= λ xs. Ok (x.0 ∷ xs.0, xs.1)
 
--- the type of the next field
+-- The type of the values of a dictionary, whose node is the next one. The flags of the dictionary's own field say whether it is
+-- nullable. Those of the values have no meaning, because a type under `dictionary` isn't a field.
 unfoldable pub value_by : Part → Bool → ℕ → Reader Tree
 value_by part nullable levels left = do
   v ← field_at left
@@ -331,7 +333,7 @@ unfoldable pub type_by : Inside → Part
 type_by within field nullable levels left = do
   u ← sound field
   k ← keys_of field
-  keyed_by within field k.name k.metadata (nullable || is_nullable field.node.flags) levels left
+  keyed_by within field k.name k.metadata nullable levels left
 
 -- what reads the fields inside a field, if so many more may be inside one another
 abbrev pub inside_at : ℕ → Inside
@@ -348,7 +350,7 @@ all_of (t, _) = Err out_of_range
 unfoldable pub read_flat : List ArrowNode → List ℕ → Result Tree Fault
 read_flat nodes texts = do
   root ← field_at (nodes, texts)
-  t ← type_by (inside_at 299) root.0 false 128 root.1
+  t ← type_by (inside_at 299) root.0 (is_nullable root.0.node.flags) 128 root.1
   all_of t
 
 -- ---- contracts

@@ -3,15 +3,18 @@
 
 -- The schema that is written of a type for Arrow's C data interface, or why there is none. A fault is the first that is met
 -- when the fields are written in the order of the flat form.
-use Rattle.std.specs.Prelude.{ℕ, zero, suc, List, [], ◌++◌, codes, Bool, true, false, Option, Some, None, Result, Ok, Err, if◌then◌else◌}
+use Rattle.std.specs.Prelude.{ℕ, zero, suc, List, [], ◌++◌, codes, Bool, true, false, not, ◌&&◌, Option, Some, None, Result, Ok, Err, if◌then◌else◌}
 use Rattle.dtype_base.specs.declared.nullability.Nullability.{Nullability}
 use Rattle.dtype_base.specs.declared.nullability.Nullability.TheVariants.{NonNullable, Nullable}
+use Rattle.dtype_base.specs.declared.ptype.PType.{PType}
+use Rattle.dtype_base.specs.declared.ptype.PType.TheVariants as p
 use Rattle.dtype_types.specs.parts.Lookups.{variant_tags}
 use Rattle.dtype_types.specs.tree.Tree.{Tree, Holder, Items, no_items, item, triples, null, bool, primitive, decimal, utf8, binary, list, fixed_size_list, map_of, struct, union, variant, extension}
 use Rattle.c_arrow.specs.Faults.{Fault, ◌>>=◌, or_fault, read_within, refused, too_deep}
 use Rattle.c_arrow.specs.Flags.{flags_of}
-use Rattle.c_arrow.specs.FormatsWritten.{checked_nul, decimal_format, fixed_size_format, letter_of, union_format}
-use Rattle.c_arrow.specs.Keys.{extension_metadata}
+use Rattle.c_arrow.specs.FormatsWritten.{bytes_format, checked_nul, decimal_format, fixed_size_format, letter_of, union_format}
+use Rattle.c_arrow.specs.Keys.{extension_metadata, is_tensor}
+use Rattle.c_arrow.specs.Read.{level}
 use Rattle.c_arrow.specs.Schema.{Schema, Schemas, schema, no_schema, more, no_values, flat}
 use Rattle.c_arrow.specs.Temporal.{Written, temporal_in}
 use Rattle.c_arrow.specs.declared.fault.Problem.{Problem}
@@ -66,6 +69,31 @@ before first rest = do
   cs ← rest
   Ok (more c cs)
 
+-- bytes that can't be null
+unfoldable pub byte_is : PType → Nullability → Bool
+byte_is p.U8 NonNullable = true
+byte_is _ _ = false
+
+unfoldable pub is_byte : Tree → Bool
+is_byte (primitive ptype n) = byte_is ptype n
+is_byte _ = false
+
+-- Whether a fixed-size list of these elements is written as byte strings of one length: if its elements are bytes that can't be
+-- null, and it isn't the storage type of a tensor. For example, so is `fixed_size_list(u8)[16]`, which a column of UUIDs has.
+unfoldable pub are_bytes : Label → Tree → Bool
+are_bytes label element = is_byte element && not (is_tensor label.metadata)
+
+-- byte strings of one length, which take a level as lists do
+unfoldable pub bytes_field : ℕ → Label → ℕ → Nullability → Result Schema Fault
+bytes_field levels label size n = do
+  format ← bytes_format size
+  below ← level levels
+  leaf format label n
+
+-- a fixed-size list with this element
+abbrev pub fixed_field : Label → Result Schema Fault → ℕ → Nullability → Result Schema Fault
+fixed_field label element size n = fixed_size_format size >>= λ format. parent format (nullable_flag n) label (before element none)
+
 -- the key and the value of a map
 abbrev pub entries : Result Schema Fault → Result Schema Fault → Result Schemas Fault
 entries key value = before key (before value none)
@@ -119,9 +147,8 @@ abbrev mutual
   field_of levels label (utf8 n) = leaf (codes "u") label n
   field_of levels label (binary n) = leaf (codes "z") label n
   field_of levels label (list t n) = parent (codes "+l") (nullable_flag n) label (before (child levels (codes "item") (λ below l. field_of below l t)) none)
-  field_of levels label (fixed_size_list t size n) = do
-    format ← fixed_size_format size
-    parent format (nullable_flag n) label (before (child levels (codes "item") (λ below l. field_of below l t)) none)
+  field_of levels label (fixed_size_list t size n) =
+      if are_bytes label t then bytes_field levels label size n else fixed_field label (child levels (codes "item") (λ below l. field_of below l t)) size n
   field_of levels label (map_of k v sorted n) = map_field label (entries (child levels (codes "key") (λ below l. field_of below l k)) (child levels (codes "value") (λ below l. field_of below l v))) sorted n
   field_of levels label (struct fs n) = parent (codes "+s") (nullable_flag n) label (children_of levels fs)
   field_of levels label (union vs n) = do

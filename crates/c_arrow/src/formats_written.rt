@@ -6,7 +6,7 @@ ghost use Rattle.std.specs.Prelude.{◌≡◌, ◌++◌, IfOk, string_bytes};
 ghost use Rattle.std.specs.Fmt.{decimal};
 ghost use Rattle.std.specs.List.{list_any};
 ghost use Rattle.c_arrow.specs.Faults.{Gives};
-ghost use Rattle.c_arrow.specs.FormatsWritten.{checked_nul, decimal_format as decimal_spec, fixed_size_format as fixed_size_spec, is_id as is_id_spec, is_nul as is_nul_spec, letter_of as letter_spec, union_format as union_spec};
+ghost use Rattle.c_arrow.specs.FormatsWritten.{bytes_format as bytes_spec, checked_nul, decimal_format as decimal_spec, fixed_size_format as fixed_size_spec, is_id as is_id_spec, is_nul as is_nul_spec, letter_of as letter_spec, union_format as union_spec};
 
 use crate::fault::{ArrowFault, Problem};
 use dtype_base::{DecimalDType, PType};
@@ -62,6 +62,17 @@ pub(crate) fn fixed_size_format(alloc: Global, size: u32) -> Result<String, Arro
         return Err(ArrowFault::refused(alloc, &[], Problem::Size));
     }
     Ok(format!(in alloc; "+w:{size}")?)
+}
+
+/// Returns the format of byte strings of one length, or refuses a length that Arrow doesn't have.
+#[tactic(auto, unfolding(crate::specs::FormatsWritten::bytes_format), using(crate::proofs::FaultFacts::faults))]
+pub(crate) fn bytes_format(alloc: Global, size: u32) -> Result<String, ArrowFault>
+    ensures { Gives string_bytes result (bytes_spec size) }
+{
+    if size > MAX_SIZE {
+        return Err(ArrowFault::refused(alloc, &[], Problem::Size));
+    }
+    Ok(format!(in alloc; "w:{size}")?)
 }
 
 /// Returns the format of a union with these tags, or refuses a tag that is no type id.

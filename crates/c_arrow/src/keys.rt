@@ -6,7 +6,7 @@
 // machine for which this library is built.
 ghost use Rattle.std.specs.Prelude.{◌≡◌, ◌++◌, IfOk};
 ghost use Rattle.dtype_text.specs.Read.{shown};
-ghost use Rattle.c_arrow.specs.Keys.{count_at, extension_metadata as metadata_spec, once as once_spec, said_in, said_with, short_text, text_at, with_pair};
+ghost use Rattle.c_arrow.specs.Keys.{count_at, extension_metadata as metadata_spec, once as once_spec, said_in, is_tensor as is_tensor_spec, said_with, short_text, text_at, with_pair};
 ghost use Rattle.c_arrow.specs.Views.{said};
 
 use std::alloc::{AllocError, Global};
@@ -15,6 +15,8 @@ use std::alloc::{AllocError, Global};
 pub(crate) const NAME_KEY: &[u8] = b"ARROW:extension:name";
 // The key of the metadata of an extension.
 pub(crate) const METADATA_KEY: &[u8] = b"ARROW:extension:metadata";
+// The extension whose storage type is a fixed-size list in Arrow, also if its elements are bytes.
+const TENSOR: &[u8] = b"arrow.fixed_shape_tensor";
 
 /// What the metadata of a field says of an extension.
 #[derive(Clone, Copy)]
@@ -71,6 +73,20 @@ impl<'a> Keys<'a> {
         } else {
             Some(self)
         }
+    }
+}
+
+/// Returns whether metadata names the extension of tensors.
+#[tactic(auto, unfolding(crate::specs::Keys::is_tensor))]
+pub(crate) fn is_tensor(metadata: &[u8]) -> bool
+    ensures { result ≡ is_tensor_spec metadata.now }
+{
+    let Some(keys) = Keys::of(metadata) else {
+        return false;
+    };
+    match keys.name {
+        Some(id) => id == TENSOR,
+        None => false,
     }
 }
 
@@ -145,7 +161,7 @@ fn length_of(text: &[u8]) -> Option<[u8; 4]>
     ensures { shown (λ b. b ++ text.now) result ≡ short_text text.now }
 {
     match i32::try_from(text.len()) {
-        Ok(length) => Some(length.to_le_bytes()),
+        Ok(length) => Some(i32::to_le_bytes(length)),
         Err(_) => None,
     }
 }

@@ -5,7 +5,7 @@
 ghost use Rattle.std.specs.Prelude.{◌≡◌, ℕ, ℤ, IfOk, IfSome, List, Ok, Some, drop};
 ghost use Rattle.c_arrow.specs.Again.{StandsFor, both_said};
 ghost use Rattle.c_arrow.specs.Formats.{format_of};
-ghost use Rattle.c_arrow.specs.FormatsWritten.{decimal_format, fixed_size_format, letter_of, union_format};
+ghost use Rattle.c_arrow.specs.FormatsWritten.{bytes_format, decimal_format, fixed_size_format, letter_of, union_format};
 ghost use Rattle.c_arrow.specs.FromArrow.{from_arrow};
 ghost use Rattle.c_arrow.specs.Ids.{ids_of};
 ghost use Rattle.c_arrow.specs.Keys.{extension_metadata, said_in};
@@ -42,8 +42,8 @@ pub fn types_that_are_written_are_read()
 {}
 
 /// The format that is written of a type is read as the format of this type: of a primitive type `t`, of a decimal with a
-/// precision `p` and a scale `s`, of a fixed-size list with a size, and of a union with these tags, where it has the tags
-/// behind its first four bytes.
+/// precision `p` and a scale `s`, of a fixed-size list and of byte strings with a size, and of a union with these tags, where it
+/// has the tags behind its first four bytes.
 ///
 /// For example, `d:40,2,256` is written of a decimal with the precision 40 and the scale 2, and it is read as a decimal with
 /// this precision and this scale. So reading a schema that was written loses no number.
@@ -51,6 +51,7 @@ pub fn formats_that_are_written_are_read()
     ensures primitive { (t : PType) → format_of (letter_of t) ≡ Some (format.Primitive t) }
     ensures decimal { (p : ℕ) (s : ℤ) → IsDecimalWithin greatest_precision p s → format_of (decimal_format p s) ≡ Some (format.Decimal p s) }
     ensures fixed_size_list { (size : ℕ) (w : List ℕ) → fixed_size_format size ≡ Ok w → format_of w ≡ Some (format.FixedSizeList size) }
+    ensures fixed_size_binary { (size : ℕ) (w : List ℕ) → bytes_format size ≡ Ok w → format_of w ≡ Some (format.FixedSizeBinary size) }
     ensures union { (tags w : List ℕ) → union_format tags ≡ Ok w → (format_of w ≡ Some format.Union) × (ids_of (drop 4 w) ≡ Some tags) }
 {}
 

@@ -25,8 +25,8 @@
 //! - Both functions return for all nodes, texts and types, without an overflow or an index out of range. At most 300 fields
 //!   are read inside one another.
 //!
-//! That these definitions say what Arrow means isn't proved. `tests_arrow` has schemas with the types and the messages that
-//! are expected of them.
+//! That these definitions say what Arrow means isn't proved. The tests of the Rust crate (`arrow_types`) have schemas with the
+//! types and the messages that are expected of them.
 #![tactic(auto)]
 
 pub use fault::{ArrowFault, Problem, Refusal};

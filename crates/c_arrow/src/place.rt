@@ -10,8 +10,8 @@ ghost use Rattle.c_arrow.specs.Read.{level};
 use crate::fault::ArrowFault;
 use dtype_base::Nullability;
 
-/// Where a field is: whether a field makes its type nullable whose type it is, how many levels the type may have, and how
-/// many fields may be inside this one.
+/// Where a field is: whether its type is nullable, how many levels the type may have, and how many fields may be inside this
+/// one.
 #[derive(Clone, Copy)]
 pub(crate) struct Place {
     pub(crate) nullable: bool,

@@ -51,7 +51,7 @@ pub fn dtype_of(alloc: Global, nodes: &[ArrowNode], texts: &[u8]) -> Result<DTyp
     let mut rest = Rest { nodes, texts };
     let root = rest.field()?;
     let place = Place {
-        nullable: false,
+        nullable: root.node.is_nullable(),
         levels: MAX_LEVELS,
         fields: MAX_FIELDS - 1,
     };
@@ -63,7 +63,7 @@ pub fn dtype_of(alloc: Global, nodes: &[ArrowNode], texts: &[u8]) -> Result<DTyp
     }
 }
 
-// Reads the type of a field, after its node.
+// Reads the type of a field, after its node. The place says whether the type is nullable.
 #[cycle(reading)]
 #[tactic(auto, unfolding(crate::specs::Read::type_by))]
 fn read(
@@ -77,7 +77,6 @@ fn read(
     ensures levels { IfOk result (λ d. levels_of (tree d) ≤ place.levels) }
 {
     field.check_fault(alloc)?;
-    let place = place.made_nullable(field.node.is_nullable());
     let keys = field.keys(alloc)?;
     match keys.name {
         Some(id) => read_extension(alloc, rest, field, id, keys.metadata, place),
@@ -183,7 +182,7 @@ fn read_values(
     read_value(alloc, rest, place.inner())
 }
 
-// Reads the type of the next field.
+// Reads the type of the next field, which isn't nullable by its own flags: those of a dictionary's values have no meaning.
 #[cycle(reading)]
 #[tactic(auto, unfolding(crate::specs::Read::value_by))]
 fn read_value(alloc: Global, rest: &mut Rest<'_>, place: Place) -> Result<DType, ArrowFault>
@@ -352,6 +351,7 @@ fn read_named<'a>(
     ensures levels { IfOk result (λ r. levels_of (tree r.1) ≤ place.levels) }
 {
     let name = field.name(alloc)?;
+    let place = place.made_nullable(field.node.is_nullable());
     Ok((name, read(alloc, rest, field, place)?))
 }
 

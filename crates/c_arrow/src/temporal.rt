@@ -125,7 +125,7 @@ pub(crate) fn timestamp(
     if !is_text(zone) {
         return Ok(None);
     }
-    let [low, high] = length.to_le_bytes();
+    let [low, high] = u16::to_le_bytes(length);
     let mut metadata = vec![in alloc; unit.byte(), low, high]?;
     metadata.extend_from_slice(zone)?;
     let storage = DType::Primitive(PType::I64, n);

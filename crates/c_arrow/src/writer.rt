@@ -4,7 +4,7 @@
 // Nodes and texts from types.
 ghost use Rattle.std.specs.Prelude.{◌≡◌, Ok};
 ghost use Rattle.dtype_text.specs.Read.{shown};
-ghost use Rattle.dtype_types.specs.tree.Tree.{struct as struct_tree, union as union_tree};
+ghost use Rattle.dtype_types.specs.tree.Tree.{fixed_size_list as fixed_tree, struct as struct_tree, union as union_tree};
 ghost use Rattle.dtype_types.specs.tree.TreeOf.{tree, extension_id, extension_metadata as metadata_bytes, extension_tree, fields_of, map_shown, variants_of};
 ghost use Rattle.c_arrow.specs.Added.{Writes, WritesField, WritesFields, label_of, out, with_node};
 ghost use Rattle.c_arrow.specs.Faults.{Gives};
@@ -14,13 +14,13 @@ ghost use Rattle.c_arrow.specs.Write.{nodes_and_texts};
 
 use crate::fault::{ArrowFault, Problem};
 use crate::formats_written::{
-    check_nul, decimal_format, fixed_size_format, letter_of, union_format,
+    bytes_format, check_nul, decimal_format, fixed_size_format, letter_of, union_format,
 };
-use crate::keys::extension_metadata;
+use crate::keys::{extension_metadata, is_tensor};
 use crate::node::{ArrowNode, flags_of};
 use crate::reader::MAX_LEVELS;
 use crate::temporal::Temporal;
-use dtype_base::Nullability;
+use dtype_base::{Nullability, PType};
 use dtype_types::{DType, ExtDTypeRef, MapDType, StructFields, UnionVariants};
 use std::alloc::Global;
 
@@ -72,6 +72,28 @@ impl<'a> Label<'a> {
             metadata: &[],
             is_storage: false,
         }
+    }
+
+    // Returns whether a fixed-size list of these elements is written as byte strings of one length.
+    #[tactic(auto, unfolding(crate::specs::Write::are_bytes))]
+    fn are_bytes(self, element: &DType) -> bool
+        ensures { result ≡ write.are_bytes (label_of self.entry) (tree element.now) }
+    {
+        is_byte(element) && !is_tensor(self.metadata)
+    }
+}
+
+// Returns whether values of this type are bytes that can't be null.
+#[tactic(auto, unfolding(crate::specs::Write::is_byte, crate::specs::Write::byte_is))]
+fn is_byte(dtype: &DType) -> bool
+    ensures { result ≡ write.is_byte (tree dtype.now) }
+{
+    let DType::Primitive(ptype, n) = dtype else {
+        return false;
+    };
+    match (*ptype, *n) {
+        (PType::U8, Nullability::NonNullable) => true,
+        _ => false,
     }
 }
 
@@ -144,9 +166,7 @@ impl Flat {
                 self.child(alloc, b"item", element, levels)
             }
             DType::FixedSizeList(element, size, n) => {
-                let format = fixed_size_format(alloc, *size)?;
-                self.node(label, format.as_bytes(), nullable_flag(*n), 1)?;
-                self.child(alloc, b"item", element, levels)
+                self.fixed(alloc, label, element, *size, *n, levels)
             }
             DType::Map(map, n) => self.map(alloc, label, map, *n, levels),
             DType::Struct(fields, n) => self.structure(alloc, label, fields, *n, levels),
@@ -154,6 +174,46 @@ impl Flat {
             DType::Variant(_) => Err(ArrowFault::refused(alloc, &[], Problem::Variant)),
             DType::Extension(extension) => self.extension(alloc, label, extension, levels),
         }
+    }
+
+    // Adds a fixed-size list of these elements.
+    #[cycle(writing)]
+    fn fixed(
+        &mut self,
+        alloc: Global,
+        label: Label<'_>,
+        element: &DType,
+        size: u32,
+        n: Nullability,
+        levels: u32,
+    ) -> Result<(), ArrowFault>
+        ensures { WritesField result self.old self.new (write.field_of levels (label_of label.entry) (fixed_tree (tree element.now) size n)) }
+    {
+        if label.are_bytes(element) {
+            return self.bytes(alloc, label, size, n, levels);
+        }
+        let format = fixed_size_format(alloc, size)?;
+        self.node(label, format.as_bytes(), nullable_flag(n), 1)?;
+        self.child(alloc, b"item", element, levels)
+    }
+
+    // Adds byte strings of one length, which take a level as a list does.
+    #[tactic(auto, using(crate::proofs::Writing::bytes_stops, crate::proofs::Writing::bytes_too_deep, crate::proofs::Writing::bytes_added))]
+    fn bytes(
+        &mut self,
+        alloc: Global,
+        label: Label<'_>,
+        size: u32,
+        n: Nullability,
+        levels: u32,
+    ) -> Result<(), ArrowFault>
+        ensures { WritesField result self.old self.new (write.bytes_field levels (label_of label.entry) size n) }
+    {
+        let format = bytes_format(alloc, size)?;
+        if levels == 0 {
+            return Err(ArrowFault::TooDeep);
+        }
+        self.leaf(label, format.as_bytes(), n)
     }
 
     // Adds a child with this name and of this type, a level deeper. The name may be that of a field of a struct.

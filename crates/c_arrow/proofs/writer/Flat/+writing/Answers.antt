@@ -1,30 +1,37 @@
 -- SPDX-License-Identifier: Apache-2.0
 -- SPDX-FileCopyrightText: Copyright the Vortex contributors
 
-use Rattle.std.proofs.Common.{rules}
+use Rattle.std.proofs.Common.{rules, subst}
 use Rattle.std.proofs.lemmas.Result.{err_from_is_err_and}
 use Rattle.dtype_types.specs.parts.Lists.{borrowed_pair, borrowed_triple}
-use Rattle.c_arrow.specs.Added.{label_of, out}
+use Rattle.dtype_types.specs.tree.TreeOf.{tree}
+use Rattle.c_arrow.specs.Added.{Writes, label_of, out, with_field}
 use Rattle.c_arrow.proofs.FaultFacts.{stops_from_fault}
 use Rattle.c_arrow.proofs.Writing.{named_stops}
-use Rattle.c_arrow.proofs.WritingCalls.{list_written, fixed_written, struct_written, union_written, named_written, variant_refused, fixed_stops, union_stops, fields_stop, fields_more, fields_end, variants_stop, variants_more, variants_end, none_left}
+use Rattle.c_arrow.proofs.WritingCalls.{list_written, fixed_kind, fixed_written, struct_written, union_written, named_written, variant_refused, fixed_stops, union_stops, fields_stop, fields_more, fields_end, variants_stop, variants_more, variants_end, none_left}
 use Rattle.c_arrow.proofs.writer.Flat.+writing.Goals as goal
-
-pub field-returns-in_err-format-in-FixedSizeList : goal.field-returns-in_err-format-in-FixedSizeList
-field-returns-in_err-format-in-FixedSizeList t c =
-    let p = err_from_is_err_and c.from_residual-in_err-format-in-FixedSizeList.result c.from_residual-in_err-format-in-FixedSizeList.ensures.1 in
-    rw (p.1, p.2) (fixed_stops c.args.levels (label_of c.args.label) (out c.args.self.now) _ c.args.dtype.now _ _ _ c.in-FixedSizeList.is c.in_err-format-in-FixedSizeList.ensures)
 
 pub field-returns-in_ok-node-in-List : goal.field-returns-in_ok-node-in-List
 field-returns-in_ok-node-in-List t c =
     list_written c.child.result (out c.child.new.self) (out c.node.new.self) (out c.args.self.now) c.args.levels (label_of c.args.label) c.args.dtype.now c.in-List.element c.in-List.n c.nullable_flag.result c.deref.result.now
     c.in-List.is c.nullable_flag.ensures (search rules) c.in_ok-node-in-List.ensures c.child.ensures
 
-pub field-returns-in_ok-node-in-FixedSizeList : goal.field-returns-in_ok-node-in-FixedSizeList
-field-returns-in_ok-node-in-FixedSizeList t c =
-    fixed_written c.child-in-FixedSizeList.result (out c.child-in-FixedSizeList.new.self) (out c.node-in-FixedSizeList.new.self) (out c.args.self.now) c.args.levels (label_of c.args.label) c.args.dtype.now c.in-FixedSizeList.element c.in-FixedSizeList.n c.nullable_flag-in-FixedSizeList.result c.deref-in-FixedSizeList.result.now
-    c.in-FixedSizeList.size _ c.as_bytes-in-FixedSizeList.result.now
-    c.in-FixedSizeList.is c.in_ok-format-in-FixedSizeList.ensures (search rules) c.nullable_flag-in-FixedSizeList.ensures (search rules) c.in_ok-node-in-FixedSizeList.ensures c.child-in-FixedSizeList.ensures
+pub field-returns-in-FixedSizeList : goal.field-returns-in-FixedSizeList
+field-returns-in-FixedSizeList t c =
+    subst (λ f. Writes c.fixed.result (out c.fixed.new.self) (with_field f (out c.args.self.now)))
+    (fixed_kind c.args.levels (label_of c.args.label) c.args.dtype.now c.in-FixedSizeList.element c.in-FixedSizeList.size c.in-FixedSizeList.n c.deref-in-FixedSizeList.result.now c.in-FixedSizeList.is (search rules))
+    c.fixed.ensures
+
+pub fixed-returns-in_err-format : goal.fixed-returns-in_err-format
+fixed-returns-in_err-format t c =
+    let p = err_from_is_err_and c.from_residual.result c.from_residual.ensures.1 in
+    rw (p.1, p.2) (fixed_stops c.args.levels (label_of c.args.label) (out c.args.self.now) _ c.are_bytes.result (tree c.args.element.now) c.args.size c.args.n c.are_bytes.ensures c.if-are_bytes.false c.in_err-format.ensures)
+
+pub fixed-returns : goal.fixed-returns
+fixed-returns t c =
+    fixed_written c.child.result (out c.child.new.self) (out c.node.new.self) (out c.args.self.now) c.args.levels (label_of c.args.label) (tree c.args.element.now) c.args.size c.args.n
+    c.are_bytes.result c.nullable_flag.result _ c.as_bytes.result.now
+    c.are_bytes.ensures c.if-are_bytes.false c.in_ok-format.ensures (search rules) c.nullable_flag.ensures c.in_ok-node.ensures c.child.ensures
 
 pub field-returns-in-Variant : goal.field-returns-in-Variant
 field-returns-in-Variant t c =

@@ -20,6 +20,9 @@ decreases-extension l = l.levels * 8 + 5
 abbrev pub decreases-outer_extension : goal.decreases-outer_extension
 decreases-outer_extension l = l.levels * 8 + 4
 
+abbrev pub decreases-fixed : goal.decreases-fixed
+decreases-fixed l = l.levels * 8 + 5
+
 abbrev pub decreases-map : goal.decreases-map
 decreases-map l = l.levels * 8 + 5
 

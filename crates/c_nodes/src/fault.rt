@@ -6,7 +6,7 @@ ghost use Rattle.c_nodes.specs.declared.fault.NodeFault.TheVariants.{OutOfMemory
 
 use std::alloc::{AllocError, AllocFailed};
 
-/// Why `message_of` or `nodes_of` failed.
+/// Why `message_of` failed.
 #[derive(Clone, Copy, Debug, PartialEq, Eq)]
 pub enum NodeFault {
     /// An allocation failed.
@@ -15,8 +15,7 @@ pub enum NodeFault {
     NotUtf8,
     /// A message is nested in more than 128 others.
     TooDeep,
-    /// For `message_of`: the nodes and texts aren't those of one message. For `nodes_of`: a number of names, tags,
-    /// types or bytes is above 2^32 - 1.
+    /// The nodes and texts aren't those of one message.
     OutOfRange,
 }
 

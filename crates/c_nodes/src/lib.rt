@@ -18,13 +18,14 @@
 //!   these nodes and texts ([`laws`]).
 //! - The nodes and the texts that `nodes_of` returns are exactly those of the message. Unless an allocation fails, it
 //!   returns a fault exactly if a message is nested in more than 128 others, which is the fault `TooDeep`, or if none is
-//!   and a number of names, tags, types or bytes is above 2^32 - 1.
+//!   and a number of names, tags, types or bytes is above 2^32 - 1, which is the fault `OutOfRange`.
 #![tactic(auto)]
 
 pub use fault::NodeFault;
 pub use kind::NodeKind;
 pub use node::Node;
 pub use reader::message_of;
+pub use write_fault::WriteFault;
 pub use writer::nodes_of;
 
 mod depth;
@@ -33,4 +34,5 @@ mod kind;
 pub mod laws;
 mod node;
 mod reader;
+mod write_fault;
 mod writer;

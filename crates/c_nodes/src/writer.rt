@@ -10,11 +10,11 @@ ghost use Rattle.c_nodes.specs.Flat.{GrowsBy, flat_nodes, flat_texts, part_nodes
 ghost use Rattle.c_nodes.specs.Depth.{depth, depth_all, depth_child};
 ghost use Rattle.c_nodes.specs.Greatest.{bytes_count, greatest, greatest_all, greatest_child, longest, most_in_node};
 ghost use Rattle.c_nodes.specs.Written.{WritesNodes, WritesTexts};
-ghost use Rattle.c_nodes.specs.declared.fault.NodeFault.TheVariants.{OutOfRange, TooDeep};
+ghost use Rattle.c_nodes.specs.declared.write_fault.WriteFault.TheVariants.{OutOfRange, TooDeep};
 
 use crate::depth::fits;
 use crate::reader::MAX_LEVELS;
-use crate::{Node, NodeFault, node};
+use crate::{Node, WriteFault, node};
 use dtype_messages::pb;
 use std::alloc::Global;
 use std::string::String;
@@ -33,7 +33,7 @@ struct Flat {
 /// - `TooDeep`: a message is nested in more than 128 others.
 /// - `OutOfRange`: no message is, and a number of names, tags, types or bytes is above 2^32 - 1.
 /// - `OutOfMemory`: an allocation fails.
-pub fn nodes_of(alloc: Global, proto: &pb::DType) -> Result<(Vec<Node>, Vec<u8>), NodeFault>
+pub fn nodes_of(alloc: Global, proto: &pb::DType) -> Result<(Vec<Node>, Vec<u8>), WriteFault>
     ensures nodes { IfOk result (λ r. r.0.items ≡ flat_nodes (message proto.now)) }
     ensures texts { IfOk result (λ r. r.1.items ≡ flat_texts (message proto.now)) }
     ensures depth { IfOk result (λ _. depth (message proto.now) ≤ 128) }
@@ -48,14 +48,14 @@ pub fn nodes_of(alloc: Global, proto: &pb::DType) -> Result<(Vec<Node>, Vec<u8>)
     };
     match flat.message(proto, MAX_LEVELS) {
         Ok(()) => Ok((flat.nodes, flat.texts)),
-        Err(NodeFault::OutOfRange) if !fits(proto, MAX_LEVELS) => Err(NodeFault::TooDeep),
+        Err(WriteFault::OutOfRange) if !fits(proto, MAX_LEVELS) => Err(WriteFault::TooDeep),
         Err(fault) => Err(fault),
     }
 }
 
 impl Flat {
     // Adds a node.
-    fn node(&mut self, node: Node) -> Result<(), NodeFault>
+    fn node(&mut self, node: Node) -> Result<(), WriteFault>
         ensures nodes { IfOk result (λ _. GrowsBy (node ∷ []) self.old.nodes.items self.new.nodes.items) }
         ensures texts { self.new.texts.items ≡ self.old.texts.items }
         ensures errors { IfErr result (λ e. e ≢ TooDeep) }
@@ -66,7 +66,7 @@ impl Flat {
     }
 
     // Adds a text with its node.
-    fn text(&mut self, text: &[u8]) -> Result<(), NodeFault>
+    fn text(&mut self, text: &[u8]) -> Result<(), WriteFault>
         ensures nodes { IfOk result (λ _. GrowsBy (text_node text.now ∷ []) self.old.nodes.items self.new.nodes.items) }
         ensures texts { IfOk result (λ _. GrowsBy text.now self.old.texts.items self.new.texts.items) }
         ensures fits { IfOk result (λ _. length text.now ≤ most_in_node) }
@@ -80,7 +80,7 @@ impl Flat {
 
     // Adds names with their nodes.
     #[tactic(auto, using(std::proofs::lemmas::Grind::common_steps, crate::proofs::Lists::longest_push))]
-    fn names(&mut self, names: &[String]) -> Result<(), NodeFault>
+    fn names(&mut self, names: &[String]) -> Result<(), WriteFault>
         ensures nodes { IfOk result (λ _. GrowsBy (map text_node (map string_bytes names.now)) self.old.nodes.items self.new.nodes.items) }
         ensures texts { IfOk result (λ _. GrowsBy (flat_map (λ n. n) (map string_bytes names.now)) self.old.texts.items self.new.texts.items) }
         ensures fits { IfOk result (λ _. longest (map string_bytes names.now) ≤ most_in_node) }
@@ -94,7 +94,7 @@ impl Flat {
     }
 
     // Adds tags.
-    fn tags(&mut self, tags: &[i32]) -> Result<(), NodeFault>
+    fn tags(&mut self, tags: &[i32]) -> Result<(), WriteFault>
         ensures nodes { IfOk result (λ _. GrowsBy (map tag_node tags.now) self.old.nodes.items self.new.nodes.items) }
         ensures texts { IfOk result (λ _. self.new.texts.items ≡ self.old.texts.items) }
         ensures errors { IfErr result (λ e. e ≢ TooDeep) }
@@ -107,7 +107,7 @@ impl Flat {
     }
 
     // Adds the metadata of an extension, if there is any.
-    fn metadata(&mut self, metadata: &Option<Vec<u8>>) -> Result<(), NodeFault>
+    fn metadata(&mut self, metadata: &Option<Vec<u8>>) -> Result<(), WriteFault>
         ensures nodes { IfOk result (λ _. GrowsBy (bytes_nodes (bytes_of metadata.now)) self.old.nodes.items self.new.nodes.items) }
         ensures texts { IfOk result (λ _. GrowsBy (bytes_texts (bytes_of metadata.now)) self.old.texts.items self.new.texts.items) }
         ensures fits { IfOk result (λ _. bytes_count (bytes_of metadata.now) ≤ most_in_node) }
@@ -122,7 +122,7 @@ impl Flat {
 
     // Adds a message, with at most so many levels below it.
     #[cycle(writing)]
-    fn message(&mut self, proto: &pb::DType, levels: u32) -> Result<(), NodeFault>
+    fn message(&mut self, proto: &pb::DType, levels: u32) -> Result<(), WriteFault>
         ensures nodes { WritesNodes result (message proto.now) self.old.nodes.items self.new.nodes.items }
         ensures texts { WritesTexts result (message proto.now) self.old.texts.items self.new.texts.items }
         ensures depth { IfOk result (λ _. depth (message proto.now) ≤ levels) }
@@ -138,7 +138,7 @@ impl Flat {
 
     // Adds the message of a kind.
     #[cycle(writing)]
-    fn kind(&mut self, kind: &pb::DtypeType, levels: u32) -> Result<(), NodeFault>
+    fn kind(&mut self, kind: &pb::DtypeType, levels: u32) -> Result<(), WriteFault>
         ensures nodes { WritesNodes result (kind_message kind.now) self.old.nodes.items self.new.nodes.items }
         ensures texts { WritesTexts result (kind_message kind.now) self.old.texts.items self.new.texts.items }
         ensures depth { IfOk result (λ _. depth (kind_message kind.now) ≤ levels) }
@@ -202,7 +202,7 @@ impl Flat {
         keys_sorted: bool,
         nullable: bool,
         levels: u32,
-    ) -> Result<(), NodeFault>
+    ) -> Result<(), WriteFault>
         ensures nodes { WritesNodes result (map_with key.now value.now keys_sorted nullable) self.old.nodes.items self.new.nodes.items }
         ensures texts { WritesTexts result (map_with key.now value.now keys_sorted nullable) self.old.texts.items self.new.texts.items }
         ensures depth { IfOk result (λ _. depth (map_with key.now value.now keys_sorted nullable) ≤ levels) }
@@ -226,7 +226,7 @@ impl Flat {
         dtypes: &[pb::DType],
         nullable: bool,
         levels: u32,
-    ) -> Result<(), NodeFault>
+    ) -> Result<(), WriteFault>
         ensures nodes { WritesNodes result (struct_of names.now dtypes.now nullable) self.old.nodes.items self.new.nodes.items }
         ensures texts { WritesTexts result (struct_of names.now dtypes.now nullable) self.old.texts.items self.new.texts.items }
         ensures depth { IfOk result (λ _. depth (struct_of names.now dtypes.now nullable) ≤ levels) }
@@ -251,7 +251,7 @@ impl Flat {
         dtypes: &[pb::DType],
         nullable: bool,
         levels: u32,
-    ) -> Result<(), NodeFault>
+    ) -> Result<(), WriteFault>
         ensures nodes { WritesNodes result (union_of names.now type_ids.now dtypes.now nullable) self.old.nodes.items self.new.nodes.items }
         ensures texts { WritesTexts result (union_of names.now type_ids.now dtypes.now nullable) self.old.texts.items self.new.texts.items }
         ensures depth { IfOk result (λ _. depth (union_of names.now type_ids.now dtypes.now nullable) ≤ levels) }
@@ -277,7 +277,7 @@ impl Flat {
         metadata: &Option<Vec<u8>>,
         storage: &Option<Box<pb::DType>>,
         levels: u32,
-    ) -> Result<(), NodeFault>
+    ) -> Result<(), WriteFault>
         ensures nodes { WritesNodes result (extension_of id.now metadata.now storage.now) self.old.nodes.items self.new.nodes.items }
         ensures texts { WritesTexts result (extension_of id.now metadata.now storage.now) self.old.texts.items self.new.texts.items }
         ensures depth { IfOk result (λ _. depth (extension_of id.now metadata.now storage.now) ≤ levels) }
@@ -295,7 +295,7 @@ impl Flat {
 
     // Adds a part, a level deeper.
     #[cycle(writing)]
-    fn part(&mut self, proto: &pb::DType, levels: u32) -> Result<(), NodeFault>
+    fn part(&mut self, proto: &pb::DType, levels: u32) -> Result<(), WriteFault>
         ensures nodes { WritesNodes result (message proto.now) self.old.nodes.items self.new.nodes.items }
         ensures texts { WritesTexts result (message proto.now) self.old.texts.items self.new.texts.items }
         ensures depth { IfOk result (λ _. depth (message proto.now) < levels) }
@@ -305,13 +305,13 @@ impl Flat {
     {
         match levels.checked_sub(1) {
             Some(levels) => self.message(proto, levels),
-            None => Err(NodeFault::TooDeep),
+            None => Err(WriteFault::TooDeep),
         }
     }
 
     // Adds a part, if there is one, a level deeper.
     #[cycle(writing)]
-    fn child(&mut self, child: &Option<Box<pb::DType>>, levels: u32) -> Result<(), NodeFault>
+    fn child(&mut self, child: &Option<Box<pb::DType>>, levels: u32) -> Result<(), WriteFault>
         ensures nodes { IfOk result (λ _. GrowsBy (part_nodes (child_message child.now)) self.old.nodes.items self.new.nodes.items) }
         ensures texts { IfOk result (λ _. GrowsBy (part_texts (child_message child.now)) self.old.texts.items self.new.texts.items) }
         ensures depth { IfOk result (λ _. depth_child (child_message child.now) ≤ levels) }
@@ -328,7 +328,7 @@ impl Flat {
     // Adds messages, a level deeper.
     #[cycle(writing)]
     #[tactic(auto, using(std::proofs::lemmas::Grind::common_steps, crate::proofs::Lists::parts_of_lists))]
-    fn all(&mut self, protos: &[pb::DType], levels: u32) -> Result<(), NodeFault>
+    fn all(&mut self, protos: &[pb::DType], levels: u32) -> Result<(), WriteFault>
         ensures nodes { IfOk result (λ _. GrowsBy (all_nodes (messages (map message protos.now))) self.old.nodes.items self.new.nodes.items) }
         ensures texts { IfOk result (λ _. GrowsBy (all_texts (messages (map message protos.now))) self.old.texts.items self.new.texts.items) }
         ensures depth { IfOk result (λ _. depth_all (messages (map message protos.now)) ≤ levels) }
@@ -344,7 +344,7 @@ impl Flat {
 }
 
 // Returns the number, if it fits 32 bits.
-fn number_of(number: usize) -> Result<u32, NodeFault>
+fn number_of(number: usize) -> Result<u32, WriteFault>
     ensures number { IfOk result (λ n. n ≡ number) }
     ensures fits { IfOk result (λ _. number ≤ most_in_node) }
     ensures errors { IfErr result (λ e. e ≢ TooDeep) }
@@ -352,6 +352,6 @@ fn number_of(number: usize) -> Result<u32, NodeFault>
 {
     match u32::try_from(number) {
         Ok(number) => Ok(number),
-        Err(_) => Err(NodeFault::OutOfRange),
+        Err(_) => Err(WriteFault::OutOfRange),
     }
 }

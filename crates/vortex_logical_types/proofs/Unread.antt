@@ -2,17 +2,19 @@
 -- SPDX-FileCopyrightText: Copyright the Vortex contributors
 
 -- An error of the reader of a text is the reason that is stored, in the words of the export.
-use Rattle.std.proofs.Common.{◌≡◌, ℕ, List, length, Option, Some, None, Err, inl, inr}
+use Rattle.std.proofs.Common.{◌≡◌, ℕ, List, length, Option, Some, None, Err, inl, inr, subst, sym}
 use Rattle.c_objects.specs.declared.failure.Failure.{Failure}
 use Rattle.c_objects.specs.declared.failure.Failure.TheVariants.{Library, Text, Deep, Arrow}
 use Rattle.c_objects.specs.declared.object.Object.{Object}
 use Rattle.dtype_paths.specs.declared.field.Field.{Field}
-use Rattle.dtype_text.specs.Grammar.{IsReadAs, IsSpelled}
+use Rattle.dtype_text.specs.Grammar.{IsReadAs, IsSpelled, Refuses}
 use Rattle.dtype_text.specs.PathGrammar.{StandsForPath}
 use Rattle.dtype_text.specs.Paths.{IsPathError}
 use Rattle.dtype_text.specs.declared.text_error.TextError.{TextError}
 use Rattle.dtype_text.specs.declared.text_error.TextError.TheVariants.{OutOfMemory, Refused, TooDeep, Misread}
+use Rattle.dtype_base.specs.declared.vortex_error.VortexError.{VortexError}
 use Rattle.dtype_types.specs.tree.Tree.{Tree}
+use Rattle.dtype_types.specs.tree.Valid.{Valid}
 use Rattle.vortex_logical_types.specs.Slots.{error_in, path_in, type_in}
 use Rattle.vortex_logical_types.specs.Texts.{IsReasonOf, IsUnreadPath, IsUnreadType, StoresUnread, reads_path, reads_type}
 use Rattle.vortex_logical_types.specs.Vocabulary.{OfThe, PutsOr, failure_code, unless_memory}
@@ -24,7 +26,7 @@ changed P Q to code (Some f) h = (h.0, to f h.1)
 
 type_reason : (text : List ℕ) (why : TextError) → ((t : Tree) → IsSpelled t text → IsReadAs t (Err why)) → (f : Failure) → IsReasonOf why (length text) f → IsUnreadType text f
 type_reason text OutOfMemory read f h = absurd h
-type_reason text (Refused e) read (Library g) h = read
+type_reason text (Refused e) read (Library g) h = λ t spelled. subst (λ (v : VortexError). (Valid t → ⊥) × Refuses t v) (sym h) (read t spelled)
 type_reason text (Refused e) read (Text at message) h = absurd h
 type_reason text (Refused e) read (Deep at) h = absurd h
 type_reason text (Refused e) read (Arrow message) h = absurd h

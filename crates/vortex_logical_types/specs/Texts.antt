@@ -7,7 +7,7 @@ use Rattle.c_objects.specs.declared.failure.Failure.{Failure}
 use Rattle.c_objects.specs.declared.failure.Failure.TheVariants.{Library, Text, Deep, Arrow}
 use Rattle.c_objects.specs.declared.object.Object.{Object}
 use Rattle.dtype_paths.specs.declared.field.Field.{Field}
-use Rattle.dtype_text.specs.Grammar.{IsSpelled, Stands, levels}
+use Rattle.dtype_text.specs.Grammar.{IsSpelled, Refuses, Stands, levels}
 use Rattle.dtype_text.specs.PathGrammar.{StandsForPath}
 use Rattle.dtype_text.specs.declared.text_error.TextError.{TextError}
 use Rattle.dtype_text.specs.declared.text_error.TextError.TheVariants as of
@@ -19,11 +19,12 @@ use Rattle.vortex_logical_types.specs.Vocabulary.{Failed, Outcome}
 abbrev pub IsPlace : ℕ → ℕ → Type 0
 IsPlace size at = (1 ≤ at) × (at ≤ size + 1)
 
--- Why a text isn't read as a type: no type is spelled so; or a type is, and it isn't valid; or it has more than 128 levels. For
--- example, of `{a=decimal(0,0)}` the reason is `Library (PrecisionZero 76)`, and no valid type is spelled so.
+-- Why a text isn't read as a type: no type is spelled so; or a type is, and it isn't valid, for this error of its own or of a
+-- part; or it has more than 128 levels. For example, of `{a=decimal(0,0)}` the reason is `Library (PrecisionZero 76)`, which the
+-- library returns for the decimal type, and no valid type is spelled so.
 abbrev pub IsUnreadType : List ℕ → Failure → Type 0
 IsUnreadType text (Text at message) = IsPlace (length text) at × ((t : Tree) → IsSpelled t text → ⊥)
-IsUnreadType text (Library e) = (t : Tree) → IsSpelled t text → Valid t → ⊥
+IsUnreadType text (Library e) = (t : Tree) → IsSpelled t text → (Valid t → ⊥) × Refuses t e
 IsUnreadType text (Deep at) = IsPlace (length text) at × ((t : Tree) → IsSpelled t text → 128 < levels t)
 IsUnreadType text (Arrow message) = ⊥
 

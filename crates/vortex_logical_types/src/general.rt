@@ -10,12 +10,12 @@ use crate::errors::OK;
 use c_objects::{Object, Slot};
 use std::alloc::Global;
 
-/// Returns the version of this interface, which is 2.
+/// Returns the version of this interface, which is 3.
 #[unsafe(no_mangle)]
 pub extern "C" fn vlt_core_abi_version() -> u32
-    ensures { result ≡ 2 }
+    ensures { result ≡ 3 }
 {
-    2
+    3
 }
 
 /// Drops the object in the slot, if there is one, and leaves the slot empty.

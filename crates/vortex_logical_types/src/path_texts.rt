@@ -2,8 +2,9 @@
 // SPDX-FileCopyrightText: Copyright the Vortex contributors
 
 // Paths in the text form that can be read back.
-ghost use Rattle.std.specs.Prelude.{◌≡◌, string_bytes};
+ghost use Rattle.std.specs.Prelude.{◌≡◌, IfSome, OnOk, string_bytes};
 ghost use Rattle.dtype_base.specs.Errors.{Makes};
+ghost use Rattle.dtype_text.specs.PathGrammar.{StandsForPath};
 ghost use Rattle.dtype_text.specs.PathSource.{path_source};
 ghost use Rattle.vortex_logical_types.specs.Slots.{path_in};
 ghost use Rattle.vortex_logical_types.specs.Texts.{reads_path};
@@ -66,6 +67,8 @@ pub extern "C" fn vlt_core_path_to_text(
     ensures fills { Fills
         (on (path_in path.old.value) (λ p. unless_memory (gives (path_source p))))
         result (buffer.old, length.old) (buffer.new, length.new) }
+    // The text stands for the path.
+    ensures again { result ≡ 0 → IfSome (path_in path.old.value) (λ p. StandsForPath p (path_source p)) }
     ensures kept { path.new.value ≡ path.old.value }
 {
     let Some(path) = as_path(path) else {
@@ -78,7 +81,8 @@ pub extern "C" fn vlt_core_path_to_text(
 }
 
 fn written(alloc: Global, path: &FieldPath) -> VortexResult<String>
-    ensures { Makes result (λ s. string_bytes s ≡ path_source path.now) }
+    ensures written { Makes result (λ s. string_bytes s ≡ path_source path.now) }
+    ensures again { OnOk result (StandsForPath path.now (path_source path.now)) }
 {
     let mut text = String::new(alloc);
     write_path(&mut text, path)?;

@@ -2,8 +2,9 @@
 // SPDX-FileCopyrightText: Copyright the Vortex contributors
 
 // Types in the text form that can be read back.
-ghost use Rattle.std.specs.Prelude.{◌≡◌, length, string_bytes};
+ghost use Rattle.std.specs.Prelude.{◌≡◌, IfSome, OnOk, length, string_bytes};
 ghost use Rattle.dtype_base.specs.Errors.{Makes};
+ghost use Rattle.dtype_text.specs.Grammar.{AreTexts};
 ghost use Rattle.dtype_text.specs.Source.{source};
 ghost use Rattle.dtype_types.specs.tree.TreeOf.{tree};
 ghost use Rattle.vortex_logical_types.specs.Slots.{type_in};
@@ -99,6 +100,8 @@ pub extern "C" fn vlt_core_dtype_to_text(
     ensures fills { Fills
         (on (type_in dtype.old.value) (λ t. unless_memory (gives (source t))))
         result (buffer.old, length.old) (buffer.new, length.new) }
+    // The names and the ids in the type are UTF-8, so that the text stands for it if it is valid and has at most 128 levels.
+    ensures texts { result ≡ 0 → IfSome (type_in dtype.old.value) AreTexts }
     ensures kept { dtype.new.value ≡ dtype.old.value }
 {
     let Some(dtype) = as_dtype(dtype) else {
@@ -111,7 +114,8 @@ pub extern "C" fn vlt_core_dtype_to_text(
 }
 
 fn written(alloc: Global, dtype: &DType) -> VortexResult<String>
-    ensures { Makes result (λ s. string_bytes s ≡ source (tree dtype.now)) }
+    ensures written { Makes result (λ s. string_bytes s ≡ source (tree dtype.now)) }
+    ensures texts { OnOk result (AreTexts (tree dtype.now)) }
 {
     let mut text = String::new(alloc);
     write_dtype(alloc, &mut text, dtype)?;

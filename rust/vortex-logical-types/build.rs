@@ -1,0 +1,30 @@
+// SPDX-License-Identifier: Apache-2.0
+// SPDX-FileCopyrightText: Copyright the Vortex contributors
+
+//! Erases the Rattle sources of the libraries and of the demo into `OUT_DIR`, and writes the files by which `src` names
+//! their modules. A published crate has the erased sources in place of this script (`tools/shared/rust_package.py`).
+
+use erase::{LIBRARIES, Layout, erase, write_modules};
+use std::env;
+use std::error::Error;
+use std::path::PathBuf;
+
+const DEMO: [&str; 1] = ["dtype_demo"];
+
+fn main() -> Result<(), Box<dyn Error>> {
+    let here = PathBuf::from(env::var("CARGO_MANIFEST_DIR")?);
+    let out = PathBuf::from(env::var("OUT_DIR")?);
+    let crates = here.join("../../crates");
+    let folder = out.join("erased");
+    let libraries = Layout::one_crate(&crates, &LIBRARIES);
+    let demo = Layout::above(&crates, &DEMO, "vortex_logical_types", &LIBRARIES);
+    for layout in [libraries, demo] {
+        for source in layout.sources.iter().filter(|source| source.is_written) {
+            println!("cargo:rerun-if-changed={}", source.folder.display());
+        }
+        erase(&layout)?.write(&folder)?;
+    }
+    write_modules(&folder, &LIBRARIES, &out.join("libraries.rs"))?;
+    write_modules(&folder, &DEMO, &out.join("demo.rs"))?;
+    Ok(())
+}

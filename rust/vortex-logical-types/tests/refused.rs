@@ -1,0 +1,149 @@
+// SPDX-License-Identifier: Apache-2.0
+// SPDX-FileCopyrightText: Copyright the Vortex contributors
+
+//! Memory runs out in the calls that the crate has by hand and that return an error then: each allocation of each call is
+//! refused in turn. The call returns the error, and nothing is left of what it made.
+
+mod refusing;
+
+use refusing::{each_refused, each_refused_on};
+use std::fmt::Debug;
+use std::sync::Arc;
+use vortex_logical_types::Nullability::{NonNullable, Nullable};
+use vortex_logical_types::time::{Date, TimeUnit, Timestamp};
+use vortex_logical_types::{
+    DType, DTypeSession, Error, FieldNames, FieldPath, FieldPathSet, NativeDType, PType,
+    UnionVariants, VortexError, pb,
+};
+
+const ORDERS: &str =
+    "{id=u64, customer={city=utf8?}, lines=list({sku=utf8, price=decimal(10,2)?})}";
+
+fn dtype(text: &str) -> DType {
+    text.parse()
+        .unwrap_or_else(|error| panic!("{text}: {error}"))
+}
+
+fn path(text: &str) -> FieldPath {
+    text.parse()
+        .unwrap_or_else(|error| panic!("{text}: {error}"))
+}
+
+/// Refuses each allocation of a call, of which there must be some, and returns what it returns if none is refused.
+fn refuse<T, E: Into<Error> + Debug>(call: impl Fn() -> Result<T, E>) -> T {
+    let (value, count) = each_refused(|| {
+        call().map_err(|error| assert_eq!(error.into(), Error::from(VortexError::OutOfMemory)))
+    });
+    assert!(count > 0, "the call allocates");
+    value
+}
+
+#[test]
+fn texts() {
+    assert_eq!(refuse(|| ORDERS.parse::<DType>()), dtype(ORDERS));
+    assert_eq!(
+        refuse(|| "lines.[].sku".parse::<FieldPath>()),
+        path("lines.[].sku")
+    );
+    assert_eq!(refuse(|| FieldPathSet::parse(["a.b", "a"])).len(), 2);
+    let (orders, steps) = (dtype(ORDERS), path("lines.[].\"a b\""));
+    assert_eq!(refuse(|| orders.try_to_source()), ORDERS);
+    assert_eq!(refuse(|| steps.try_to_source()), "lines.[].\"a b\"");
+}
+
+#[test]
+fn paths_and_sets() {
+    let (steps, orders) = (path("lines.[].sku"), dtype(ORDERS));
+    assert_eq!(
+        refuse(|| steps.try_join(&steps)),
+        path("lines.[].sku.lines.[].sku")
+    );
+    assert_eq!(refuse(|| steps.try_parent()), Some(path("lines.[]")));
+    let set = FieldPathSet::from([steps, path("lines"), path("id")]);
+    assert_eq!(refuse(|| set.try_cover()).len(), 2);
+    let part = dtype("{id=u64, lines=list({sku=utf8, price=decimal(10,2)?})}");
+    assert_eq!(refuse(|| orders.try_project_paths(&set)), Some(part));
+}
+
+#[test]
+fn merging() {
+    let (one, other) = (dtype("{a={b=i32, c=utf8?}}"), dtype("{a={b=i32?, c=utf8}}"));
+    let above = refuse(|| one.try_merge_nullability(&other));
+    assert_eq!(above, Some(dtype("{a={b=i32?, c=utf8?}}")));
+    let below = refuse(|| one.try_intersect_nullability(&other));
+    assert_eq!(below, Some(dtype("{a={b=i32, c=utf8}}")));
+    let wider = dtype("{a={c=utf8, d=i8}, e=i8}");
+    let both = dtype("{a={b=i32?, c=utf8?, d=i8?}, e=i8?}");
+    assert_eq!(refuse(|| one.try_merge_columns(&wider)), Some(both));
+    let wrong = dtype("{a={b=utf8}}");
+    assert_eq!(
+        refuse(|| one.try_merge_conflict(&wrong)).map(|it| it.path),
+        Some(path("a.b"))
+    );
+    assert_eq!(
+        refuse(|| DType::try_merge_all([&one, &wider, &wrong])).map_err(|it| it.index),
+        Err(2)
+    );
+}
+
+#[test]
+fn messages() {
+    let session = DTypeSession::default();
+    let paid = dtype("{paid=vortex.timestamp[0x010300555443](i64), born=vortex.date[0x04](i32?)}");
+    let message = refuse(|| paid.try_to_proto());
+    assert_eq!(refuse(|| DType::from_proto(&message, &session)), paid);
+    assert_eq!(refuse(|| pb::DType::try_from(&paid)), message);
+    let part = pb::Field {
+        field_type: Some(pb::FieldType::Name("a".into())),
+    };
+    let message = pb::FieldPath {
+        path: vec![part].into(),
+    };
+    assert_eq!(refuse(|| FieldPath::try_from(&message)), path("a"));
+}
+
+/// What a union is made of, until it is.
+type Parts = Option<(FieldNames, Vec<DType>, Vec<u8>)>;
+
+#[test]
+fn constructors() {
+    let zone: Arc<str> = "UTC".into();
+    let paid =
+        refuse(|| Timestamp::try_new_with_tz(TimeUnit::Seconds, Some(Arc::clone(&zone)), Nullable));
+    assert_eq!(
+        refuse(|| paid.try_with_nullability(NonNullable)).nullability(),
+        NonNullable
+    );
+    assert_eq!(
+        refuse(|| Date::try_new(TimeUnit::Days, Nullable)?.try_erased()).metadata_bytes(),
+        [4]
+    );
+    assert_eq!(
+        refuse(Vec::<Option<String>>::try_dtype),
+        dtype("list(utf8?)")
+    );
+    let make = || -> Parts {
+        Some((
+            ["a", "b"].into(),
+            vec![PType::I8.into(), DType::Null],
+            vec![5, 9],
+        ))
+    };
+    let call = |parts: &mut Parts| {
+        let (names, dtypes, tags) = parts.take().expect("each call has parts of its own");
+        UnionVariants::try_new(names, dtypes, tags)
+    };
+    let ((variants, _), count) = each_refused_on(make, call, Option::is_none);
+    assert_eq!(
+        (variants.to_string().as_str(), count > 0),
+        ("a@5=i8, b@9=null", true)
+    );
+}
+
+#[cfg(feature = "arrow")]
+#[test]
+fn arrow() {
+    let orders = dtype(ORDERS);
+    let schema = refuse(|| orders.to_arrow());
+    assert_eq!(refuse(|| DType::from_arrow(&schema)), orders);
+}

@@ -6,8 +6,10 @@
  * understands no format and no metadata: it copies strings, measures metadata, counts fields and bounds how many there
  * are. It isn't proved, but tested (bindings/c/tests). tools/bindings/bindings writes the declarations of the two proved
  * functions. */
+#define _GNU_SOURCE
 #include "vortex_logical_types.h"
 
+#include <dlfcn.h>
 #include <string.h>
 
 /* begin of what tools/bindings writes */
@@ -34,6 +36,7 @@ typedef struct {
     uint32_t fault;
 } vlt_arrow_node;
 
+#pragma GCC visibility push(hidden)
 uint32_t vlt_core_dtype_from_arrow_nodes(
         const vlt_arrow_node *nodes, size_t nodes_len, const uint8_t *texts, size_t texts_len, vlt_slot *out,
         vlt_slot *error);
@@ -41,6 +44,7 @@ uint32_t vlt_core_dtype_to_arrow_nodes(
         vlt_slot *dtype, vlt_arrow_node *nodes, size_t nodes_len, size_t *node_count, uint8_t *texts, size_t texts_len,
         size_t *text_length, vlt_slot *error);
 void vlt_core_free(vlt_slot *slot);
+#pragma GCC visibility pop
 /* end of what tools/bindings writes */
 
 /* The heap of the library. */
@@ -52,12 +56,16 @@ typedef struct {
 rattle_tried rattle_alloc(size_t size, size_t align);
 void rattle_dealloc(void *at);
 
-/* The alignment of all blocks, and the room on the stack for the nodes and the texts of a small schema. */
-enum { ALIGNMENT = 16, FEW_NODES = 32, FEW_BYTES = 1024 };
+/* Keeps the name of an argument that is wrong, and returns the result that says so (argument.c). */
+__attribute__((visibility("hidden"))) vlt_result vlt_is_wrong(const char *name, vlt_result result);
 
-/* How many fields may be inside one another, and how many there may be in all. A field that has two parents counts twice,
- * so the second number also bounds the time that a walk takes. If there are more, none of them is stored. */
+/* The alignment of all blocks, and the room on the stack for the nodes and the texts of a small schema. */
+enum { ALIGNMENT = 16, FEW_NODES = 128, FEW_BYTES = 4096 };
+
+/* How many fields may be inside one another, how many there may be in all, and how many bytes their texts may have. A field
+ * that has two parents counts twice, and so do its texts, so the numbers also bound the time that a walk takes. */
 enum { MOST_NESTED = 300, MOST_FIELDS = 1 << 24 };
+#define MOST_BYTES ((size_t)1 << 31)
 
 /* What can be wrong with a struct, so that nothing more of it is read. */
 enum {
@@ -79,11 +87,17 @@ static inline bool are_same(const vlt_slot *one, const vlt_slot *other) {
     return one == other || (one->at == other->at && one->at);
 }
 
-/* The nodes and the texts of the fields that were walked. A first walk only counts: it has no room for them. */
+/* Items that were appended. They are on the stack until the room there is full, and then in a block. */
 typedef struct {
-    vlt_arrow_node *nodes;
-    uint8_t *texts;
-    size_t node_count, text_length;
+    uint8_t *at;
+    size_t length, room;
+    bool is_block;
+} buffer;
+
+/* The nodes and the texts of the fields that were walked, both in bytes, and whether memory ran out. */
+typedef struct {
+    buffer nodes, texts;
+    bool is_out_of_memory;
 } walk;
 
 /* Writes the number of bytes that the metadata has in memory, and returns whether no number in it is negative. Metadata is
@@ -106,11 +120,30 @@ static bool measure(const char *metadata, size_t *length) {
     return true;
 }
 
-/* Appends bytes to the texts. (If they are more than memory can have, there is no second walk.) */
-static void append(walk *to, const char *bytes, size_t length) {
-    if (to->nodes && length)
-        memcpy(to->texts + to->text_length, bytes, length);
-    to->text_length = length > SIZE_MAX - to->text_length ? SIZE_MAX : to->text_length + length;
+/* Appends bytes, or returns false if memory ran out. The room at least doubles, so each byte is moved about once. */
+static bool append(buffer *to, const void *bytes, size_t length) {
+    if (length > to->room - to->length) {
+        size_t room = 2 * to->room > to->length + length ? 2 * to->room : to->length + length;
+        rattle_tried block = rattle_alloc(room, ALIGNMENT);
+        if (!block.ok)
+            return false;
+        memcpy(block.at, to->at, to->length);
+        if (to->is_block)
+            rattle_dealloc(to->at);
+        to->at = (uint8_t *)block.at;
+        to->room = room;
+        to->is_block = true;
+    }
+    if (length)
+        memcpy(to->at + to->length, bytes, length);
+    to->length += length;
+    return true;
+}
+
+/* Frees the block of a buffer, if it has one. */
+static void drop_buffer(const buffer *it) {
+    if (it->is_block)
+        rattle_dealloc(it->at);
 }
 
 /* Returns what is wrong with a field. It is inside of `around` others, and `before` fields were counted before it. The
@@ -135,10 +168,10 @@ static uint32_t fault_of(const struct ArrowSchema *field, size_t around, size_t 
     return NO_FAULT;
 }
 
-/* Returns the node of a field, and appends its strings to the texts. */
-static vlt_arrow_node node_of(walk *to, const struct ArrowSchema *field, size_t around) {
+/* Returns the node of a field, whose texts have at most `room` bytes. */
+static vlt_arrow_node node_of(const struct ArrowSchema *field, size_t around, size_t before, size_t room) {
     vlt_arrow_node node = {0};
-    node.fault = fault_of(field, around, to->node_count);
+    node.fault = fault_of(field, around, before);
     if (node.fault == RELEASED)
         return node;
     if (!node.fault && field->metadata && !measure(field->metadata, &node.metadata_length))
@@ -146,10 +179,14 @@ static vlt_arrow_node node_of(walk *to, const struct ArrowSchema *field, size_t 
     node.flags = (uint64_t)field->flags;
     node.format_length = field->format ? strlen(field->format) : 0;
     node.name_length = field->name ? strlen(field->name) : 0;
-    append(to, field->format, node.format_length);
-    append(to, field->name, node.name_length);
-    if (!node.fault) {
-        append(to, field->metadata, node.metadata_length);
+    if (node.format_length > room || node.name_length > room - node.format_length
+        || node.metadata_length > room - node.format_length - node.name_length) {
+        node.fault = WRONG_COUNT;
+        node.format_length = node.name_length = 0;
+    }
+    if (node.fault) {
+        node.metadata_length = 0;
+    } else {
         node.child_count = (size_t)field->n_children;
         node.has_dictionary = field->dictionary != NULL;
     }
@@ -159,12 +196,15 @@ static vlt_arrow_node node_of(walk *to, const struct ArrowSchema *field, size_t 
 /* Walks through a field and all that is in it, in pre-order: the field, its children, its dictionary. Returns the first
  * fault, whose node is the last one. */
 static uint32_t walk_through(walk *to, const struct ArrowSchema *field, size_t around) {
-    const vlt_arrow_node node = node_of(to, field, around);
+    const vlt_arrow_node node = node_of(field, around, to->nodes.length / sizeof node, MOST_BYTES - to->texts.length);
     uint32_t fault = node.fault;
     size_t at;
-    if (to->nodes)
-        to->nodes[to->node_count] = node;
-    to->node_count++;
+    if (!append(&to->nodes, &node, sizeof node) || !append(&to->texts, field->format, node.format_length)
+        || !append(&to->texts, field->name, node.name_length)
+        || !append(&to->texts, field->metadata, node.metadata_length)) {
+        to->is_out_of_memory = true;
+        return TOO_MANY;
+    }
     for (at = 0; !fault && at < node.child_count; at++)
         fault = walk_through(to, field->children[at], around + 1);
     return !fault && node.has_dictionary ? walk_through(to, field->dictionary, around + 1) : fault;
@@ -176,19 +216,24 @@ static rattle_tried block_for(size_t nodes, size_t texts) {
     return rattle_alloc(texts > SIZE_MAX - size ? SIZE_MAX : size + texts, ALIGNMENT);
 }
 
+/* Drops the error that an earlier call left in a slot. */
+static void empty(vlt_slot *slot) {
+    if (slot->at)
+        vlt_core_free(slot);
+}
+
 /* Returns the result of a call, and drops the error in a slot that the caller didn't pass. */
 static vlt_result with_error_dropped(uint32_t result, vlt_slot *unwanted) {
-    if (unwanted->at)
-        vlt_core_free(unwanted);
+    empty(unwanted);
     return (vlt_result)result;
 }
 
 /* Returns what the proved function returns of a schema with this fault, of which nothing else is told. */
-static vlt_result refused_as_a_whole(uint32_t fault, vlt_slot *out, vlt_slot *told, vlt_slot *unwanted) {
+static uint32_t refused_as_a_whole(uint32_t fault, vlt_slot *out, vlt_slot *told) {
     vlt_arrow_node node = {0};
     uint8_t nothing = 0;
     node.fault = fault;
-    return with_error_dropped(vlt_core_dtype_from_arrow_nodes(&node, 1, &nothing, 0, out, told), unwanted);
+    return vlt_core_dtype_from_arrow_nodes(&node, 1, &nothing, 0, out, told);
 }
 
 vlt_result vlt_dtype_from_arrow(const struct ArrowSchema *schema, vlt_dtype *out, vlt_error *error) {
@@ -196,29 +241,23 @@ vlt_result vlt_dtype_from_arrow(const struct ArrowSchema *schema, vlt_dtype *out
     uint8_t few_bytes[FEW_BYTES];
     vlt_slot unwanted = {0};
     vlt_slot *told = error ? &error->slot : &unwanted;
-    walk counted = {0}, stored = {few_nodes, few_bytes, 0, 0};
-    bool is_large;
+    walk walked = {{(uint8_t *)few_nodes, 0, sizeof few_nodes, false}, {few_bytes, 0, FEW_BYTES, false}, false};
     uint32_t fault, result;
-    if (!schema)
-        return VLT_RANGE;
     if (are_same(told, &out->slot))
-        return VLT_SAME_SLOT;
-    fault = walk_through(&counted, schema, 0);
-    if (fault == TOO_MANY)
-        return refused_as_a_whole(fault, &out->slot, told, &unwanted);
-    is_large = counted.node_count > FEW_NODES || counted.text_length > FEW_BYTES;
-    if (is_large) {
-        rattle_tried block = block_for(counted.node_count, counted.text_length);
-        if (!block.ok)
-            return VLT_LIBRARY;
-        stored.nodes = (vlt_arrow_node *)block.at;
-        stored.texts = (uint8_t *)(stored.nodes + counted.node_count);
-    }
-    (void)walk_through(&stored, schema, 0);
-    result = vlt_core_dtype_from_arrow_nodes(stored.nodes, stored.node_count, stored.texts, stored.text_length, &out->slot,
-                                             told);
-    if (is_large)
-        rattle_dealloc(stored.nodes);
+        return vlt_is_wrong("error", VLT_SAME_SLOT);
+    empty(told);
+    if (!schema)
+        return vlt_is_wrong("schema", VLT_RANGE);
+    fault = walk_through(&walked, schema, 0);
+    if (walked.is_out_of_memory)
+        result = VLT_LIBRARY;
+    else if (fault == TOO_MANY)
+        result = refused_as_a_whole(fault, &out->slot, told);
+    else
+        result = vlt_core_dtype_from_arrow_nodes((const vlt_arrow_node *)walked.nodes.at, walked.nodes.length / sizeof *few_nodes,
+                                                 walked.texts.at, walked.texts.length, &out->slot, told);
+    drop_buffer(&walked.nodes);
+    drop_buffer(&walked.texts);
     return with_error_dropped(result, &unwanted);
 }
 
@@ -308,10 +347,11 @@ vlt_result vlt_dtype_to_arrow(const vlt_dtype *dtype, struct ArrowSchema *out, v
     vlt_slot *slot = (vlt_slot *)&dtype->slot, *told = error ? &error->slot : &unwanted;
     size_t nodes = 0, bytes = 0;
     uint32_t result;
-    if (!out)
-        return VLT_RANGE;
     if (are_same(slot, told))
-        return VLT_SAME_SLOT;
+        return vlt_is_wrong("error", VLT_SAME_SLOT);
+    empty(told);
+    if (!out)
+        return vlt_is_wrong("out", VLT_RANGE);
     result = vlt_core_dtype_to_arrow_nodes(slot, few_nodes, FEW_NODES, &nodes, few_bytes, FEW_BYTES, &bytes, told);
     if (result == VLT_DONE) {
         result = make_whole(few_nodes, few_bytes, out);
@@ -326,19 +366,46 @@ vlt_result vlt_dtype_to_arrow(const vlt_dtype *dtype, struct ArrowSchema *out, v
             result = make_whole(many, texts, out);
         rattle_dealloc(many);
     }
+    if (result == VLT_KIND)
+        result = vlt_is_wrong("dtype", VLT_KIND);
     return with_error_dropped(result, &unwanted);
 }
 
-/* Python's functions for capsules. They are weak: a process without Python doesn't have them. */
+/* Python's functions for capsules. They are weak, because a process without Python doesn't have them. A program may also load
+ * Python after this library, and then they are found by their names when they are called. (A program that is linked
+ * statically has no dlsym.) */
 struct _object;
-__attribute__((weak)) struct _object *PyCapsule_New(void *pointer, const char *name, void (*destructor)(struct _object *));
-__attribute__((weak)) void *PyCapsule_GetPointer(struct _object *capsule, const char *name);
+typedef struct _object *new_capsule(void *pointer, const char *name, void (*destructor)(struct _object *));
+typedef void *pointer_of_capsule(struct _object *capsule, const char *name);
+__attribute__((weak)) new_capsule PyCapsule_New;
+__attribute__((weak)) pointer_of_capsule PyCapsule_GetPointer;
+#pragma weak dlsym
+
+/* The function with this name, which is null if the process has none. */
+static void *function_named(const char *name) {
+    return dlsym ? dlsym(RTLD_DEFAULT, name) : NULL;
+}
+
+static new_capsule *capsule_maker(void) {
+    new_capsule *found = PyCapsule_New;
+    if (!found)
+        *(void **)&found = function_named("PyCapsule_New");
+    return found;
+}
+
+static pointer_of_capsule *capsule_reader(void) {
+    pointer_of_capsule *found = PyCapsule_GetPointer;
+    if (!found)
+        *(void **)&found = function_named("PyCapsule_GetPointer");
+    return found;
+}
 
 static const char capsule_name[] = "arrow_schema";
 
 /* What Python calls when it drops a capsule. The schema has been released by then if a consumer moved it out. */
 static void drop(struct _object *capsule) {
-    struct ArrowSchema *schema = (struct ArrowSchema *)PyCapsule_GetPointer(capsule, capsule_name);
+    pointer_of_capsule *pointer_of = capsule_reader();
+    struct ArrowSchema *schema = pointer_of ? (struct ArrowSchema *)pointer_of(capsule, capsule_name) : NULL;
     if (!schema)
         return;
     if (schema->release)
@@ -347,15 +414,16 @@ static void drop(struct _object *capsule) {
 }
 
 void *vlt_arrow_capsule(struct ArrowSchema *schema) {
+    new_capsule *make_capsule = capsule_maker();
     rattle_tried block;
     struct _object *capsule;
-    if (!schema || !PyCapsule_New || !PyCapsule_GetPointer)
+    if (!schema || !make_capsule || !capsule_reader())
         return NULL;
     block = rattle_alloc(sizeof *schema, ALIGNMENT);
     if (!block.ok)
         return NULL;
     *(struct ArrowSchema *)block.at = *schema;
-    capsule = PyCapsule_New(block.at, capsule_name, drop);
+    capsule = make_capsule(block.at, capsule_name, drop);
     if (capsule)
         schema->release = NULL;
     else

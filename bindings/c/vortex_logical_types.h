@@ -21,30 +21,31 @@
  * frees the object that `out` contained before and stores the result there if it returns VLT_DONE. If it returns any
  * other number, `out` is unchanged. A slot that is passed as a pointer to const keeps its object.
  *
- * The slots of one call must be different, and have different objects. If two of them are the same slot or have the same
- * object, the call returns VLT_SAME_SLOT and changes nothing. This is also so for the slots of an array.
+ * One object may be passed twice to a call that only reads it: vlt_dtype_eq(&a, &a, &answer) writes true. Then the call
+ * copies it for a moment, and so it may return VLT_LIBRARY. All other slots of one call must be different, and have
+ * different objects, also those of an array. If two of them are the same slot or have the same object, the call returns
+ * VLT_SAME_SLOT and changes nothing.
  *
  * Results. Each call returns a vlt_result, except those that free an object, vlt_kind and vlt_abi_version. The last
  * sentence of a comment lists all results of the function, and the sentences before it say when they are returned, except
  * for these, which have the same meaning everywhere:
  *
- *     0 (VLT_DONE)         The call has succeeded. If it is a test, the answer is true.
- *     1 (VLT_NONE)         There is no result, for example because a struct has no field of a name. If the call is a
- *                          test, the answer is false.
- *     2 (VLT_KIND)         A slot is empty, or has an object of another kind than the function takes.
- *     7 (VLT_SMALL)        A buffer is too small.
- *     8 (VLT_SAME_SLOT)    Two slots are the same slot, or have the same object.
- *     9 (VLT_RANGE)        A pointer is null and its length isn't 0.
- *     100 (VLT_LIBRARY)    Memory ran out.
- *     100 + n              The library returned its error number n.
+ *     VLT_DONE         The call has succeeded. If it is a test, it has written its answer to `answer`, a bool.
+ *     VLT_NONE         There is no result, for example because a struct has no field of a name.
+ *     VLT_KIND         A slot is empty, or has an object of another kind than the function takes.
+ *     VLT_SMALL        A buffer is too small.
+ *     VLT_SAME_SLOT    Two slots are the same slot, or have the same object, and one of them isn't only read.
+ *     VLT_RANGE        A pointer is null and its length isn't 0.
+ *     VLT_LIBRARY      Memory ran out.
+ *     VLT_ERROR_..     The library returned this error.
  *
- * vlt_error_text writes what a number means.
+ * vlt_error_text writes what a number means, and vlt_wrong_argument returns which argument was wrong.
  *
- * Errors with their data. A function that can return 4, or 101 and above, has `error` as its last parameter. If it returns
- * such a number, `error` contains an error afterwards, which tells more than the number, for example the position in a
- * text at which reading failed. The same is true of 6 if the function reads a text. Any other result, also VLT_DONE,
- * leaves `error` as it was, so look at the result first. The pointer may be null if the error isn't wanted. If no memory
- * is left for the error, the function returns 100.
+ * Errors with their data. A function whose last parameter is `error` first empties this slot, and then stores an error in it
+ * if it returns VLT_UNREADABLE, VLT_ARROW, a VLT_ERROR_.., or VLT_DEEP for a text. The error tells more than the result,
+ * for example the position in a text at which reading failed. So after a call the slot is empty, or contains why this call
+ * failed. (If the call returns VLT_SAME_SLOT because `error` is another of its slots, nothing is changed.) The pointer may
+ * be null if the error isn't wanted. If no memory is left for the error, the function returns VLT_LIBRARY.
  *
  * Texts and bytes that are passed in. A call takes a pointer and a length, and copies the bytes. They may contain zero
  * bytes. The pointer may be null if the length is 0. Several names are passed as two arrays: `names` contains the bytes
@@ -76,7 +77,7 @@
  * What the caller must ensure, because no call can test it:
  *
  * - A pointer is valid for its length.
- * - A pointer to a slot, or to a place where a call writes a number, isn't null. No other argument of the call overlaps
+ * - A pointer to a slot, or to a place where a call writes a number or an answer, isn't null. No other argument of the call overlaps
  *   such a place or a buffer. Only an `error` that isn't wanted, and the argument of a function that ends in _free, may be
  *   null.
  * - A slot is empty, or it was filled by the library.
@@ -115,13 +116,13 @@ typedef struct {
 
 /* begin of what tools/bindings writes */
 /* The version of the interface that this header declares. vlt_abi_version returns that of the library. */
-#define VLT_ABI_VERSION 2u
+#define VLT_ABI_VERSION 3u
 
 /* What a call returns. From 101 on it is 100 and the number of the library's error. */
 typedef enum {
-    /* The call has succeeded, or the answer is yes. */
+    /* The call has succeeded. */
     VLT_DONE = 0,
-    /* There is no result, or the answer is no. */
+    /* There is no result. */
     VLT_NONE = 1,
     /* A slot is empty or contains an object of another kind than the call takes. */
     VLT_KIND = 2,
@@ -369,7 +370,7 @@ void vlt_fields_free(vlt_fields *fields);
 /* Drops the object in the slot, if there is one, and leaves the slot empty. The pointer may be null. */
 void vlt_error_free(vlt_error *error);
 
-/* Returns the version of this interface, which is 2. */
+/* Returns the version of this interface, which is 3. */
 uint32_t vlt_abi_version(void);
 
 /* Drops the object in the slot, if there is one, and leaves the slot empty. */
@@ -409,17 +410,18 @@ VLT_MUST_USE vlt_result vlt_dtype_binary(bool nullable, vlt_dtype *out);
 VLT_MUST_USE vlt_result vlt_dtype_variant(bool nullable, vlt_dtype *out);
 
 /* Stores in `out` a primitive type. The number is 0 for u8, 1 for u16, 2 for u32, 3 for u64, 4 for i8, 5 for i16, 6
- * for i32, 7 for i64, 8 for f16, 9 for f32 and 10 for f64. Returns 9 if the number is above 10. The type is nullable
- * if `nullable` is true.
+ * for i32, 7 for i64, 8 for f16, 9 for f32 and 10 for f64. Returns VLT_RANGE if the number is above 10. The type is
+ * nullable if `nullable` is true.
  *
  * Results: VLT_DONE, VLT_RANGE or VLT_LIBRARY. */
 VLT_MUST_USE vlt_result vlt_dtype_primitive(uint32_t number, bool nullable, vlt_dtype *out);
 
 /* Stores in `out` the decimal type of this precision and this scale. The type is nullable if `nullable` is true.
  *
- * Returns 101 if the precision is 0, 102 if the precision is above 76, 103 if the scale is above 76, and 104 if the
- * scale is above the precision. If several of these are so, it returns the first of these numbers. The error with its
- * numbers is in `error` then.
+ * Returns VLT_ERROR_PRECISION_ZERO if the precision is 0, VLT_ERROR_PRECISION_TOO_LARGE if the precision is above 76,
+ * VLT_ERROR_SCALE_TOO_LARGE if the scale is above 76, and VLT_ERROR_SCALE_ABOVE_PRECISION if the scale is above the
+ * precision. If several of these are so, it returns the first of these numbers. The error with its numbers is in
+ * `error` then.
  *
  * Results: VLT_DONE, VLT_SAME_SLOT, VLT_LIBRARY, VLT_ERROR_PRECISION_ZERO, VLT_ERROR_PRECISION_TOO_LARGE,
  * VLT_ERROR_SCALE_TOO_LARGE or VLT_ERROR_SCALE_ABOVE_PRECISION. */
@@ -427,20 +429,20 @@ VLT_MUST_USE vlt_result vlt_dtype_decimal(
         uint8_t precision, int8_t scale, bool nullable, vlt_dtype *out, vlt_error *error);
 
 /* Stores in `out` the list type with the element type in `element`. Its values are lists of any length. The list type
- * is nullable if `nullable` is true. Returns 6 if the element type has 128 levels.
+ * is nullable if `nullable` is true. Returns VLT_DEEP if the element type has 128 levels.
  *
  * Results: VLT_DONE, VLT_KIND, VLT_DEEP, VLT_SAME_SLOT or VLT_LIBRARY. */
 VLT_MUST_USE vlt_result vlt_dtype_list(const vlt_dtype *element, bool nullable, vlt_dtype *out);
 
 /* Stores in `out` the fixed-size list type with the element type in `element`. Its values are lists of exactly `size`
- * elements. The list type is nullable if `nullable` is true. Returns 6 if the element type has 128 levels.
+ * elements. The list type is nullable if `nullable` is true. Returns VLT_DEEP if the element type has 128 levels.
  *
  * Results: VLT_DONE, VLT_KIND, VLT_DEEP, VLT_SAME_SLOT or VLT_LIBRARY. */
 VLT_MUST_USE vlt_result vlt_dtype_fixed_size_list(
         const vlt_dtype *element, uint32_t size, bool nullable, vlt_dtype *out);
 
 /* Stores in `out` the struct type of these fields, in order. The struct type is nullable if `nullable` is true.
- * Returns 6 if the type of a field has 128 levels.
+ * Returns VLT_DEEP if the type of a field has 128 levels.
  *
  * Results: VLT_DONE, VLT_KIND, VLT_DEEP, VLT_SAME_SLOT or VLT_LIBRARY. */
 VLT_MUST_USE vlt_result vlt_dtype_struct(const vlt_fields *fields, bool nullable, vlt_dtype *out);
@@ -448,9 +450,10 @@ VLT_MUST_USE vlt_result vlt_dtype_struct(const vlt_fields *fields, bool nullable
 /* Stores in `out` the union type whose variants are these fields, in order, with these tags. The union type is
  * nullable if `nullable` is true.
  *
- * Returns 6 if the type of a field has 128 levels. Otherwise it returns the first of these numbers that applies, with
- * the error in `error`: 111 if there are more or fewer tags than fields, 112 if there are no fields, 113 if a tag
- * occurs twice, and 115 if a name occurs twice.
+ * Returns VLT_DEEP if the type of a field has 128 levels. Otherwise it returns the first of these numbers that
+ * applies, with the error in `error`: VLT_ERROR_UNION_TAGS_LENGTH if there are more or fewer tags than fields,
+ * VLT_ERROR_UNION_EMPTY if there are no fields, VLT_ERROR_UNION_TAGS_REPEAT if a tag occurs twice, and
+ * VLT_ERROR_UNION_NAMES_REPEAT if a name occurs twice.
  *
  * Results: VLT_DONE, VLT_KIND, VLT_DEEP, VLT_SAME_SLOT, VLT_RANGE, VLT_LIBRARY, VLT_ERROR_UNION_TAGS_LENGTH,
  * VLT_ERROR_UNION_EMPTY, VLT_ERROR_UNION_TAGS_REPEAT or VLT_ERROR_UNION_NAMES_REPEAT. */
@@ -461,9 +464,9 @@ VLT_MUST_USE vlt_result vlt_dtype_union(
 /* Stores in `out` the union type whose variants are these fields, in order, with the tags 0, 1, 2 and so on. The union
  * type is nullable if `nullable` is true.
  *
- * Returns 6 if the type of a field has 128 levels. Otherwise it returns the first of these numbers that applies, with
- * the error in `error`: 114 if there are more than 256 fields, 112 if there are no fields, and 115 if a name occurs
- * twice.
+ * Returns VLT_DEEP if the type of a field has 128 levels. Otherwise it returns the first of these numbers that
+ * applies, with the error in `error`: VLT_ERROR_UNION_TOO_MANY if there are more than 256 fields,
+ * VLT_ERROR_UNION_EMPTY if there are no fields, and VLT_ERROR_UNION_NAMES_REPEAT if a name occurs twice.
  *
  * Results: VLT_DONE, VLT_KIND, VLT_DEEP, VLT_SAME_SLOT, VLT_LIBRARY, VLT_ERROR_UNION_EMPTY, VLT_ERROR_UNION_TOO_MANY
  * or VLT_ERROR_UNION_NAMES_REPEAT. */
@@ -474,15 +477,18 @@ VLT_MUST_USE vlt_result vlt_dtype_union_consecutive(
  *
  * - A struct has the fields of the first type in their order, and then those that only the second has. A field that
  *   both have is merged by these rules. A field that only one of the two has is nullable.
- * - Lists, fixed-size lists of the same size, maps with the same `keys_sorted`, and extensions with the same id and
- *   the same metadata are merged by their parts. Maps whose merged key type would be nullable can't be merged.
+ * - `null` can be merged with every type, which is made nullable.
+ * - Lists, fixed-size lists of the same size, maps, and extensions with the same id and the same metadata are merged
+ *   by their parts. Maps whose merged key type would be nullable can't be merged. The merged map declares sorted keys
+ *   only if both maps do, and if their key types are equal except for nullabilities.
  * - Unions with the same names and tags in the same order are merged variant by variant. Structs in which a name
  *   repeats are merged field by field, if both have the same names in the same order, because their columns can't be
  *   told apart by name.
  * - All other types are merged as `vlt_dtype_merge_nullability` merges them.
  * - A type that isn't an extension is nullable if one of the two is, at every depth.
  *
- * For example, it is `{a=i32, b=utf8?}` for `{a=i32}` and `{b=utf8, a=i32}`. Returns 1 if there is no such type.
+ * For example, it is `{a=i32, b=utf8?}` for `{a=i32}` and `{b=utf8, a=i32}`. Returns VLT_NONE if there is no such
+ * type.
  *
  * Results: VLT_DONE, VLT_NONE, VLT_KIND, VLT_SAME_SLOT or VLT_LIBRARY. */
 VLT_MUST_USE vlt_result vlt_dtype_merge_columns(const vlt_dtype *one, const vlt_dtype *other, vlt_dtype *out);
@@ -490,9 +496,9 @@ VLT_MUST_USE vlt_result vlt_dtype_merge_columns(const vlt_dtype *one, const vlt_
 /* Stores in `path` the path to the first place at which two types can't be merged by `vlt_dtype_merge_columns`, in
  * `left` the type at this place in the first type, and in `right` the type at this place in the second. The first
  * place is the first one in the order of the fields of the first type. A path leads only into structs, lists and
- * fixed-size lists, so if the keys or values of two maps can't be merged, it is the path to the maps. The same is
- * true of unions, extensions, and structs in which a name repeats. For example, the call stores `customer.id`, `u64`
- * and `utf8` for `{customer={id=u64}}` and `{customer={id=utf8}}`. Returns 1 if the types can be merged.
+ * fixed-size lists, so if the keys or values of two maps can't be merged, it is the path to the maps. The same is true
+ * of unions, extensions, and structs in which a name repeats. For example, the call stores `customer.id`, `u64` and
+ * `utf8` for `{customer={id=u64}}` and `{customer={id=utf8}}`. Returns VLT_NONE if the types can be merged.
  *
  * Results: VLT_DONE, VLT_NONE, VLT_KIND, VLT_SAME_SLOT or VLT_LIBRARY. */
 VLT_MUST_USE vlt_result vlt_dtype_merge_conflict(
@@ -504,10 +510,10 @@ VLT_MUST_USE vlt_result vlt_dtype_merge_conflict(
  * Results: VLT_DONE, VLT_KIND, VLT_SAME_SLOT or VLT_LIBRARY. */
 VLT_MUST_USE vlt_result vlt_dtype_to_message(const vlt_dtype *dtype, vlt_message *out);
 
-/* Stores in `out` the type with the outer nullability that `nullable` states: nullable if it is true, and
- * non-nullable if it is false. The types inside it keep their nullabilities. For example, `list(i32)` becomes
- * `list(i32)?` if `nullable` is true. For an extension, the outer nullability is that of its storage type. Returns 5
- * if `nullable` is false and the type can't be made non-nullable, which `vlt_dtype_can_be_nonnullable` tests.
+/* Stores in `out` the type with the outer nullability that `nullable` states: nullable if it is true, and non-nullable
+ * if it is false. The types inside it keep their nullabilities. For example, `list(i32)` becomes `list(i32)?` if
+ * `nullable` is true. For an extension, the outer nullability is that of its storage type. Returns VLT_CONDITION if
+ * `nullable` is false and the type can't be made non-nullable, which `vlt_dtype_can_be_nonnullable` tests.
  *
  * Results: VLT_DONE, VLT_KIND, VLT_CONDITION, VLT_SAME_SLOT or VLT_LIBRARY. */
 VLT_MUST_USE vlt_result vlt_dtype_with_nullability(const vlt_dtype *dtype, bool nullable, vlt_dtype *out);
@@ -531,70 +537,74 @@ VLT_MUST_USE vlt_result vlt_dtype_hash(const vlt_dtype *dtype, uint64_t *hash);
  * Results: VLT_DONE or VLT_KIND. */
 VLT_MUST_USE vlt_result vlt_dtype_hash_ignore_nullability(const vlt_dtype *dtype, uint64_t *hash);
 
-/* Stores in `out` the element type of a list or of a fixed-size list. Returns 1 if the type is of another kind.
+/* Stores in `out` the element type of a list or of a fixed-size list. Returns VLT_NONE if the type is of another kind.
  *
  * Results: VLT_DONE, VLT_NONE, VLT_KIND, VLT_SAME_SLOT or VLT_LIBRARY. */
 VLT_MUST_USE vlt_result vlt_dtype_element(const vlt_dtype *dtype, vlt_dtype *out);
 
-/* Stores in `out` the key type of a map. Returns 1 if the type isn't a map.
+/* Stores in `out` the key type of a map. Returns VLT_NONE if the type isn't a map.
  *
  * Results: VLT_DONE, VLT_NONE, VLT_KIND, VLT_SAME_SLOT or VLT_LIBRARY. */
 VLT_MUST_USE vlt_result vlt_dtype_key(const vlt_dtype *dtype, vlt_dtype *out);
 
-/* Stores in `out` the value type of a map. Returns 1 if the type isn't a map.
+/* Stores in `out` the value type of a map. Returns VLT_NONE if the type isn't a map.
  *
  * Results: VLT_DONE, VLT_NONE, VLT_KIND, VLT_SAME_SLOT or VLT_LIBRARY. */
 VLT_MUST_USE vlt_result vlt_dtype_value(const vlt_dtype *dtype, vlt_dtype *out);
 
-/* Stores in `out` the storage type of an extension. Returns 1 if the type isn't an extension.
+/* Stores in `out` the storage type of an extension. Returns VLT_NONE if the type isn't an extension.
  *
  * Results: VLT_DONE, VLT_NONE, VLT_KIND, VLT_SAME_SLOT or VLT_LIBRARY. */
 VLT_MUST_USE vlt_result vlt_dtype_storage(const vlt_dtype *dtype, vlt_dtype *out);
 
 /* Writes the number of a primitive type to `number`: 0 u8, 1 u16, 2 u32, 3 u64, 4 i8, 5 i16, 6 i32, 7 i64, 8 f16, 9
- * f32, 10 f64. Returns 1 if the type isn't primitive.
+ * f32, 10 f64. Returns VLT_NONE if the type isn't primitive.
  *
  * Results: VLT_DONE, VLT_NONE or VLT_KIND. */
 VLT_MUST_USE vlt_result vlt_dtype_ptype(const vlt_dtype *dtype, uint32_t *number);
 
-/* Writes the id of an extension to `buffer`. Returns 1 if the type isn't an extension.
+/* Writes the id of an extension to `buffer`. Returns VLT_NONE if the type isn't an extension.
  *
  * Results: VLT_DONE, VLT_NONE, VLT_KIND, VLT_SMALL or VLT_RANGE. */
 VLT_MUST_USE vlt_result vlt_dtype_id(const vlt_dtype *dtype, uint8_t *buffer, size_t buffer_len, size_t *length);
 
-/* Writes the metadata of an extension to `buffer`. Returns 1 if the type isn't an extension.
+/* Writes the metadata of an extension to `buffer`. Returns VLT_NONE if the type isn't an extension.
  *
  * Results: VLT_DONE, VLT_NONE, VLT_KIND, VLT_SMALL or VLT_RANGE. */
 VLT_MUST_USE vlt_result vlt_dtype_metadata(const vlt_dtype *dtype, uint8_t *buffer, size_t buffer_len, size_t *length);
 
-/* Writes the size of a fixed-size list to `size`. Returns 1 if the type isn't a fixed-size list.
+/* Writes the size of a fixed-size list to `size`. Returns VLT_NONE if the type isn't a fixed-size list.
  *
  * Results: VLT_DONE, VLT_NONE or VLT_KIND. */
 VLT_MUST_USE vlt_result vlt_dtype_fixed_size(const vlt_dtype *dtype, uint32_t *size);
 
-/* Writes the precision and the scale of a decimal to `precision` and `scale`. The precision is from 1 to 76. The
- * scale isn't above the precision, and it may be negative. Returns 1 if the type isn't a decimal.
+/* Writes the precision and the scale of a decimal to `precision` and `scale`. The precision is from 1 to 76. The scale
+ * isn't above the precision, and it may be negative. Returns VLT_NONE if the type isn't a decimal.
  *
  * Results: VLT_DONE, VLT_NONE or VLT_KIND. */
 VLT_MUST_USE vlt_result vlt_dtype_decimal_parts(const vlt_dtype *dtype, uint8_t *precision, int8_t *scale);
 
-/* Returns 0 if the keys of the map are declared to be sorted, 1 if they aren't, and 5 if the type isn't a map.
+/* Writes to `answer` whether the keys of the map are declared to be sorted. Returns VLT_CONDITION if the type isn't a
+ * map.
  *
- * Results: VLT_DONE, VLT_NONE, VLT_KIND or VLT_CONDITION. */
-VLT_MUST_USE vlt_result vlt_dtype_keys_sorted(const vlt_dtype *dtype);
+ * Results: VLT_DONE, VLT_KIND or VLT_CONDITION. */
+VLT_MUST_USE vlt_result vlt_dtype_keys_sorted(const vlt_dtype *dtype, bool *answer);
 
 /* Reads a type from its text, for example `{a=i32, b=list(utf8)?}`, and stores it in `out`. The text is written in the
  * form of `vlt_dtype_to_text`, and may contain blanks, ends of lines and comments.
  *
- * Returns 3 if the text isn't UTF-8. The other failures store an error in `error`:
+ * Returns VLT_UTF8 if the text isn't UTF-8. The other failures store an error in `error`:
  *
- * - 4 if the text isn't spelled like a type. `vlt_error_position` returns at which byte, counted from 1, something
- *   else was expected, and `vlt_error_message` what.
- * - 6 if types are nested more than 128 levels deep in the text, with the position of the first that is too deep.
- * - the number of the library's error if the text spells a type that can't be made: for a decimal 101 to 104, as
- *   `vlt_dtype_decimal` returns them; for a map 109 if its key type is nullable; and for a union 112 if it has no
- *   variants, 113 if a tag occurs twice, 114 if it has more than 256 variants without tags, and 115 if a name occurs
- *   twice. For example, it is 101 for `{a=decimal(0,0)}`.
+ * - VLT_UNREADABLE if the text isn't spelled like a type. `vlt_error_position` returns at which byte, counted from 1,
+ *   something else was expected, and `vlt_error_message` what.
+ * - VLT_DEEP if types are nested more than 128 levels deep in the text, with the position of the first that is too
+ *   deep.
+ * - the number of the library's error if the text spells a type that can't be made: for a decimal
+ *   VLT_ERROR_PRECISION_ZERO to VLT_ERROR_SCALE_ABOVE_PRECISION, as `vlt_dtype_decimal` returns them; for a map
+ *   VLT_ERROR_MAP_KEY_NULLABLE if its key type is nullable; and for a union VLT_ERROR_UNION_EMPTY if it has no
+ *   variants, VLT_ERROR_UNION_TAGS_REPEAT if a tag occurs twice, VLT_ERROR_UNION_TOO_MANY if it has more than 256
+ *   variants without tags, and VLT_ERROR_UNION_NAMES_REPEAT if a name occurs twice. For example, it is
+ *   VLT_ERROR_PRECISION_ZERO for `{a=decimal(0,0)}`.
  *
  * Results: VLT_DONE, VLT_UTF8, VLT_UNREADABLE, VLT_DEEP, VLT_SAME_SLOT, VLT_RANGE, VLT_LIBRARY,
  * VLT_ERROR_PRECISION_ZERO, VLT_ERROR_PRECISION_TOO_LARGE, VLT_ERROR_SCALE_TOO_LARGE,
@@ -621,39 +631,39 @@ VLT_MUST_USE vlt_result vlt_dtype_display(const vlt_dtype *dtype, uint8_t *buffe
  * Results: VLT_DONE, VLT_KIND, VLT_SAME_SLOT or VLT_LIBRARY. */
 VLT_MUST_USE vlt_result vlt_dtype_copy(const vlt_dtype *dtype, vlt_dtype *out);
 
-/* Returns 0 if the two types are equal, and 1 if they aren't.
+/* Writes to `answer` whether the two types are equal.
  *
- * Results: VLT_DONE, VLT_NONE, VLT_KIND or VLT_SAME_SLOT. */
-VLT_MUST_USE vlt_result vlt_dtype_eq(const vlt_dtype *one, const vlt_dtype *other);
+ * Results: VLT_DONE, VLT_KIND or VLT_LIBRARY. */
+VLT_MUST_USE vlt_result vlt_dtype_eq(const vlt_dtype *one, const vlt_dtype *other, bool *answer);
 
-/* Returns 0 if the two types are equal when every nullability in them is ignored, and 1 if they aren't. For example,
- * it returns 0 for `list(i32?)` and `list(i32)?`.
+/* Writes to `answer` whether the two types are equal when every nullability in them is ignored. For example, it is
+ * true for `list(i32?)` and `list(i32)?`.
  *
- * Results: VLT_DONE, VLT_NONE, VLT_KIND or VLT_SAME_SLOT. */
-VLT_MUST_USE vlt_result vlt_dtype_eq_ignore_nullability(const vlt_dtype *one, const vlt_dtype *other);
+ * Results: VLT_DONE, VLT_KIND or VLT_LIBRARY. */
+VLT_MUST_USE vlt_result vlt_dtype_eq_ignore_nullability(const vlt_dtype *one, const vlt_dtype *other, bool *answer);
 
-/* Returns 0 if the first type is a subset of the other, and 1 if it isn't. It is a subset if the two are equal except
- * for nullabilities, and the other is nullable in each place in which the first is. For example, `i32` is a subset of
+/* Writes to `answer` whether the first type is a subset of the other. It is a subset if the two are equal except for
+ * nullabilities, and the other is nullable in each place in which the first is. For example, `i32` is a subset of
  * `i32?`.
  *
- * Results: VLT_DONE, VLT_NONE, VLT_KIND or VLT_SAME_SLOT. */
-VLT_MUST_USE vlt_result vlt_dtype_nullability_subset(const vlt_dtype *one, const vlt_dtype *other);
+ * Results: VLT_DONE, VLT_KIND or VLT_LIBRARY. */
+VLT_MUST_USE vlt_result vlt_dtype_nullability_subset(const vlt_dtype *one, const vlt_dtype *other, bool *answer);
 
-/* Returns 0 if the other type is a subset of the first, and 1 if it isn't. It is a subset if the two are equal except
- * for nullabilities, and the first is nullable in each place in which the other is. For example, `i32` is a subset of
+/* Writes to `answer` whether the other type is a subset of the first. It is a subset if the two are equal except for
+ * nullabilities, and the first is nullable in each place in which the other is. For example, `i32` is a subset of
  * `i32?`.
  *
- * Results: VLT_DONE, VLT_NONE, VLT_KIND or VLT_SAME_SLOT. */
-VLT_MUST_USE vlt_result vlt_dtype_nullability_superset(const vlt_dtype *one, const vlt_dtype *other);
+ * Results: VLT_DONE, VLT_KIND or VLT_LIBRARY. */
+VLT_MUST_USE vlt_result vlt_dtype_nullability_superset(const vlt_dtype *one, const vlt_dtype *other, bool *answer);
 
 /* Stores in `out` the least type of which both types are subsets. It is nullable in each place in which one of the two
- * is. For example, it is `i32?` for `i32` and `i32?`. Returns 1 if the types differ in more than nullabilities.
+ * is. For example, it is `i32?` for `i32` and `i32?`. Returns VLT_NONE if the types differ in more than nullabilities.
  *
  * Results: VLT_DONE, VLT_NONE, VLT_KIND, VLT_SAME_SLOT or VLT_LIBRARY. */
 VLT_MUST_USE vlt_result vlt_dtype_merge_nullability(const vlt_dtype *one, const vlt_dtype *other, vlt_dtype *out);
 
 /* Stores in `out` the greatest type that is a subset of both types. It is nullable only in those places in which both
- * are. For example, it is `i32` for `i32` and `i32?`. Returns 1 if the types differ in more than nullabilities.
+ * are. For example, it is `i32` for `i32` and `i32?`. Returns VLT_NONE if the types differ in more than nullabilities.
  *
  * Results: VLT_DONE, VLT_NONE, VLT_KIND, VLT_SAME_SLOT or VLT_LIBRARY. */
 VLT_MUST_USE vlt_result vlt_dtype_intersect_nullability(const vlt_dtype *one, const vlt_dtype *other, vlt_dtype *out);
@@ -665,17 +675,17 @@ VLT_MUST_USE vlt_result vlt_dtype_intersect_nullability(const vlt_dtype *one, co
  * Results: VLT_DONE or VLT_KIND. */
 VLT_MUST_USE vlt_result vlt_dtype_kind(const vlt_dtype *dtype, uint32_t *number);
 
-/* Returns 0 if the type is nullable, so that its values may be null, and 1 if it isn't. The null type is always
- * nullable, and an extension is nullable if its storage type is.
+/* Writes to `answer` whether the type is nullable, so that its values may be null. The null type is always nullable,
+ * and an extension is nullable if its storage type is.
  *
- * Results: VLT_DONE, VLT_NONE or VLT_KIND. */
-VLT_MUST_USE vlt_result vlt_dtype_is_nullable(const vlt_dtype *dtype);
+ * Results: VLT_DONE or VLT_KIND. */
+VLT_MUST_USE vlt_result vlt_dtype_is_nullable(const vlt_dtype *dtype, bool *answer);
 
-/* Returns 0 if the type can be made non-nullable, and 1 if it can't. The null type can't, and an extension can't if
- * its storage type can't. Every other type can.
+/* Writes to `answer` whether the type can be made non-nullable. The null type can't, and an extension can't if its
+ * storage type can't. Every other type can.
  *
- * Results: VLT_DONE, VLT_NONE or VLT_KIND. */
-VLT_MUST_USE vlt_result vlt_dtype_can_be_nonnullable(const vlt_dtype *dtype);
+ * Results: VLT_DONE or VLT_KIND. */
+VLT_MUST_USE vlt_result vlt_dtype_can_be_nonnullable(const vlt_dtype *dtype, bool *answer);
 
 /* Writes the number of bytes that each value of the type takes to `size`:
  *
@@ -686,22 +696,23 @@ VLT_MUST_USE vlt_result vlt_dtype_can_be_nonnullable(const vlt_dtype *dtype);
  * - A fixed-size list takes its size times the bytes of its element type, a struct takes the sum of the bytes of its
  *   fields, and an extension takes the bytes of its storage type.
  *
- * Returns 1 if the type or a part of it is of variable width, which all other types are, for example `utf8`. Returns
- * 119, with the error in `error`, if the type is of fixed width and its width, or the width of a part of it, is above
- * 2^64 - 1.
+ * Returns VLT_NONE if the type or a part of it is of variable width, which all other types are, for example `utf8`.
+ * Returns VLT_ERROR_WIDTH_OVERFLOW, with the error in `error`, if the type is of fixed width and its width, or the
+ * width of a part of it, is above 2^64 - 1.
  *
  * Results: VLT_DONE, VLT_NONE, VLT_KIND, VLT_SAME_SLOT, VLT_LIBRARY or VLT_ERROR_WIDTH_OVERFLOW. */
 VLT_MUST_USE vlt_result vlt_dtype_element_size(const vlt_dtype *dtype, size_t *size, vlt_error *error);
 
 /* Stores in `out` the type of the entries of a map: the non-nullable struct with the fields `key` and `value`. Returns
- * 1 if the type isn't a map.
+ * VLT_NONE if the type isn't a map.
  *
  * Results: VLT_DONE, VLT_NONE, VLT_KIND, VLT_SAME_SLOT or VLT_LIBRARY. */
 VLT_MUST_USE vlt_result vlt_dtype_entries(const vlt_dtype *dtype, vlt_dtype *out);
 
 /* Stores in `out` the map type with the key type in `one` and the value type in `other`. `keys_sorted` declares that
- * the keys of each map are sorted, which nothing checks. The map type is nullable if `nullable` is true. Returns 6 if
- * one of the two types has 128 levels, and 109, with the error in `error`, if the key type is nullable.
+ * the keys of each map are sorted, which nothing checks. The map type is nullable if `nullable` is true. Returns
+ * VLT_DEEP if one of the two types has 128 levels, and VLT_ERROR_MAP_KEY_NULLABLE, with the error in `error`, if the
+ * key type is nullable.
  *
  * Results: VLT_DONE, VLT_KIND, VLT_DEEP, VLT_SAME_SLOT, VLT_LIBRARY or VLT_ERROR_MAP_KEY_NULLABLE. */
 VLT_MUST_USE vlt_result vlt_dtype_map(
@@ -709,7 +720,7 @@ VLT_MUST_USE vlt_result vlt_dtype_map(
         vlt_error *error);
 
 /* Stores in `out` the extension type with this id, this metadata and this storage type. It is nullable if the storage
- * type is. Returns 3 if the id isn't UTF-8, and 6 if the storage type has 128 levels.
+ * type is. Returns VLT_UTF8 if the id isn't UTF-8, and VLT_DEEP if the storage type has 128 levels.
  *
  * Results: VLT_DONE, VLT_KIND, VLT_UTF8, VLT_DEEP, VLT_SAME_SLOT, VLT_RANGE or VLT_LIBRARY. */
 VLT_MUST_USE vlt_result vlt_dtype_extension(
@@ -722,8 +733,8 @@ VLT_MUST_USE vlt_result vlt_dtype_extension(
 /* Writes the names of all fields of the struct. The bytes of the names go to the front of `buffer`, one name directly
  * after the other, and the number of bytes of each name goes to the front of `name_lengths`. The numbers of both go to
  * `length` and `count`. For example, for `{id=u64, city=utf8}` the call writes `idcity` and 6, and the lengths 2 and 4
- * and their number 2. If one of the two buffers is too small, the call returns 7 and writes only the two numbers.
- * Returns 5 if the type isn't a struct.
+ * and their number 2. If one of the two buffers is too small, the call returns VLT_SMALL and writes only the two
+ * numbers. Returns VLT_CONDITION if the type isn't a struct.
  *
  * Results: VLT_DONE, VLT_KIND, VLT_CONDITION, VLT_SMALL, VLT_RANGE or VLT_LIBRARY. */
 VLT_MUST_USE vlt_result vlt_struct_names(
@@ -731,24 +742,24 @@ VLT_MUST_USE vlt_result vlt_struct_names(
         size_t name_lengths_len, size_t *count);
 
 /* Stores the types of all fields of the struct in the first slots of `types`, in order, and writes their number to
- * `count`. The other slots keep their objects. If there are fewer slots than fields, the call returns 7 and writes
- * only the number. If the call returns another number than 0, each slot is as it was before. Returns 2 if `dtype`
- * contains no type, and 5 if the type isn't a struct.
+ * `count`. The other slots keep their objects. If there are fewer slots than fields, the call returns VLT_SMALL and
+ * writes only the number. If the call returns another number than VLT_DONE, each slot is as it was before. Returns
+ * VLT_KIND if `dtype` contains no type, and VLT_CONDITION if the type isn't a struct.
  *
  * Results: VLT_DONE, VLT_KIND, VLT_CONDITION, VLT_SMALL, VLT_SAME_SLOT, VLT_RANGE or VLT_LIBRARY. */
 VLT_MUST_USE vlt_result vlt_struct_types(const vlt_dtype *dtype, vlt_dtype *types, size_t types_len, size_t *count);
 
-/* Stores in `out` the struct without the field with this index, which is counted from 0. It is nullable if the
- * struct in `dtype` is. Returns 5 if the type isn't a struct, and 117 if the index isn't below the number of fields.
- * Then `error` contains the error with the index and the number of fields.
+/* Stores in `out` the struct without the field with this index, which is counted from 0. It is nullable if the struct
+ * in `dtype` is. Returns VLT_CONDITION if the type isn't a struct, and VLT_ERROR_INDEX_OUT_OF_BOUNDS if the index
+ * isn't below the number of fields. Then `error` contains the error with the index and the number of fields.
  *
  * Results: VLT_DONE, VLT_KIND, VLT_CONDITION, VLT_SAME_SLOT, VLT_LIBRARY or VLT_ERROR_INDEX_OUT_OF_BOUNDS. */
 VLT_MUST_USE vlt_result vlt_struct_without_field(
         const vlt_dtype *dtype, size_t index, vlt_dtype *out, vlt_error *error);
 
 /* Stores in `out` the struct that has the fields of the first struct followed by those of the other. It has the outer
- * nullability of the first. Returns 5 if one of the types isn't a struct, and 118, with the error in `error`, if a
- * name occurs in both structs, or twice in one of them.
+ * nullability of the first. Returns VLT_CONDITION if one of the types isn't a struct, and VLT_ERROR_DUPLICATE_NAMES,
+ * with the error in `error`, if a name occurs in both structs, or twice in one of them.
  *
  * Results: VLT_DONE, VLT_KIND, VLT_CONDITION, VLT_SAME_SLOT, VLT_LIBRARY or VLT_ERROR_DUPLICATE_NAMES. */
 VLT_MUST_USE vlt_result vlt_struct_disjoint_merge(
@@ -760,9 +771,9 @@ VLT_MUST_USE vlt_result vlt_struct_disjoint_merge(
  * `names` contains the bytes of all names, one name directly after the other, and `name_lengths` contains the number
  * of bytes of each name. For example, the names `id` and `city` are the bytes `idcity` with the lengths 2 and 4.
  *
- * Returns 3 if a name isn't UTF-8, 5 if the type isn't a struct, 9 if the lengths don't add up to the number of
- * bytes, and 116 if one of the names isn't the name of any field. Then `error` contains the error with the index of
- * the first such name among the names, counted from 0.
+ * Returns VLT_UTF8 if a name isn't UTF-8, VLT_CONDITION if the type isn't a struct, VLT_RANGE if the lengths don't add
+ * up to the number of bytes, and VLT_ERROR_FIELD_NOT_FOUND if one of the names isn't the name of any field. Then
+ * `error` contains the error with the index of the first such name among the names, counted from 0.
  *
  * Results: VLT_DONE, VLT_KIND, VLT_UTF8, VLT_CONDITION, VLT_SAME_SLOT, VLT_RANGE, VLT_LIBRARY or
  * VLT_ERROR_FIELD_NOT_FOUND. */
@@ -770,31 +781,31 @@ VLT_MUST_USE vlt_result vlt_struct_project(
         const vlt_dtype *dtype, const uint8_t *names, size_t names_len, const size_t *name_lengths,
         size_t name_lengths_len, vlt_dtype *out, vlt_error *error);
 
-/* Writes the number of fields of the struct to `count`. Returns 5 if the type isn't a struct.
+/* Writes the number of fields of the struct to `count`. Returns VLT_CONDITION if the type isn't a struct.
  *
  * Results: VLT_DONE, VLT_KIND or VLT_CONDITION. */
 VLT_MUST_USE vlt_result vlt_struct_nfields(const vlt_dtype *dtype, size_t *count);
 
-/* Stores in `out` the type of the field with this index, which is counted from 0. Returns 1 if the index isn't below
- * the number of fields, and 5 if the type isn't a struct.
+/* Stores in `out` the type of the field with this index, which is counted from 0. Returns VLT_NONE if the index isn't
+ * below the number of fields, and VLT_CONDITION if the type isn't a struct.
  *
  * Results: VLT_DONE, VLT_NONE, VLT_KIND, VLT_CONDITION, VLT_SAME_SLOT or VLT_LIBRARY. */
 VLT_MUST_USE vlt_result vlt_struct_field_by_index(const vlt_dtype *dtype, size_t index, vlt_dtype *out);
 
-/* Writes the index of the first field with this name, counted from 0, to `index`. Returns 1 if no field has the
- * name, 3 if the name isn't UTF-8, and 5 if the type isn't a struct.
+/* Writes the index of the first field with this name, counted from 0, to `index`. Returns VLT_NONE if no field has the
+ * name, VLT_UTF8 if the name isn't UTF-8, and VLT_CONDITION if the type isn't a struct.
  *
  * Results: VLT_DONE, VLT_NONE, VLT_KIND, VLT_UTF8, VLT_CONDITION or VLT_RANGE. */
 VLT_MUST_USE vlt_result vlt_struct_find(const vlt_dtype *dtype, const uint8_t *name, size_t name_len, size_t *index);
 
-/* Stores in `out` the type of the first field with this name. Returns 1 if no field has the name, 3 if the name isn't
- * UTF-8, and 5 if the type isn't a struct.
+/* Stores in `out` the type of the first field with this name. Returns VLT_NONE if no field has the name, VLT_UTF8 if
+ * the name isn't UTF-8, and VLT_CONDITION if the type isn't a struct.
  *
  * Results: VLT_DONE, VLT_NONE, VLT_KIND, VLT_UTF8, VLT_CONDITION, VLT_SAME_SLOT, VLT_RANGE or VLT_LIBRARY. */
 VLT_MUST_USE vlt_result vlt_struct_field(const vlt_dtype *dtype, const uint8_t *name, size_t name_len, vlt_dtype *out);
 
-/* Writes the name of the field with this index, which is counted from 0, to `buffer`. Returns 1 if the index isn't
- * below the number of fields, and 5 if the type isn't a struct.
+/* Writes the name of the field with this index, which is counted from 0, to `buffer`. Returns VLT_NONE if the index
+ * isn't below the number of fields, and VLT_CONDITION if the type isn't a struct.
  *
  * Results: VLT_DONE, VLT_NONE, VLT_KIND, VLT_CONDITION, VLT_SMALL or VLT_RANGE. */
 VLT_MUST_USE vlt_result vlt_struct_field_name(
@@ -803,8 +814,8 @@ VLT_MUST_USE vlt_result vlt_struct_field_name(
 /* Writes the fields of a struct to `buffer` as text over several lines. The first line is an opening brace, then each
  * field has a line that begins with two spaces, and the last line is a closing brace. For example, the text of
  * `{a=i32, b=utf8}` has the four lines `{`, `  a=i32,`, `  b=utf8` and `}`. A struct that is the type of a field, or
- * the element type of a list, is written over several lines too, with two more spaces. Returns 5 if the type isn't a
- * struct.
+ * the element type of a list, is written over several lines too, with two more spaces. Returns VLT_CONDITION if the
+ * type isn't a struct.
  *
  * Results: VLT_DONE, VLT_KIND, VLT_CONDITION, VLT_SMALL, VLT_RANGE or VLT_LIBRARY. */
 VLT_MUST_USE vlt_result vlt_struct_indented(const vlt_dtype *dtype, uint8_t *buffer, size_t buffer_len, size_t *length);
@@ -814,8 +825,8 @@ VLT_MUST_USE vlt_result vlt_struct_indented(const vlt_dtype *dtype, uint8_t *buf
 
 /* Writes the names of all variants of the union. The bytes of the names go to the front of `buffer`, one name directly
  * after the other, and the number of bytes of each name goes to the front of `name_lengths`. The numbers of both go to
- * `length` and `count`. If one of the two buffers is too small, the call returns 7 and writes only the two numbers.
- * Returns 5 if the type isn't a union.
+ * `length` and `count`. If one of the two buffers is too small, the call returns VLT_SMALL and writes only the two
+ * numbers. Returns VLT_CONDITION if the type isn't a union.
  *
  * Results: VLT_DONE, VLT_KIND, VLT_CONDITION, VLT_SMALL, VLT_RANGE or VLT_LIBRARY. */
 VLT_MUST_USE vlt_result vlt_union_names(
@@ -823,61 +834,61 @@ VLT_MUST_USE vlt_result vlt_union_names(
         size_t name_lengths_len, size_t *count);
 
 /* Stores the types of all variants of the union in the first slots of `types`, in order, and writes their number to
- * `count`. The other slots keep their objects. If there are fewer slots than variants, the call returns 7 and writes
- * only the number. If the call returns another number than 0, each slot is as it was before. Returns 2 if `dtype`
- * contains no type, and 5 if the type isn't a union.
+ * `count`. The other slots keep their objects. If there are fewer slots than variants, the call returns VLT_SMALL and
+ * writes only the number. If the call returns another number than VLT_DONE, each slot is as it was before. Returns
+ * VLT_KIND if `dtype` contains no type, and VLT_CONDITION if the type isn't a union.
  *
  * Results: VLT_DONE, VLT_KIND, VLT_CONDITION, VLT_SMALL, VLT_SAME_SLOT, VLT_RANGE or VLT_LIBRARY. */
 VLT_MUST_USE vlt_result vlt_union_types(const vlt_dtype *dtype, vlt_dtype *types, size_t types_len, size_t *count);
 
-/* Writes the number of variants of the union, which is from 1 to 256, to `count`. Returns 5 if the type isn't a
- * union.
+/* Writes the number of variants of the union, which is from 1 to 256, to `count`. Returns VLT_CONDITION if the type
+ * isn't a union.
  *
  * Results: VLT_DONE, VLT_KIND or VLT_CONDITION. */
 VLT_MUST_USE vlt_result vlt_union_len(const vlt_dtype *dtype, size_t *count);
 
-/* Stores in `out` the type of the variant with this index, which is counted from 0. Returns 1 if the index isn't
- * below the number of variants, and 5 if the type isn't a union.
+/* Stores in `out` the type of the variant with this index, which is counted from 0. Returns VLT_NONE if the index
+ * isn't below the number of variants, and VLT_CONDITION if the type isn't a union.
  *
  * Results: VLT_DONE, VLT_NONE, VLT_KIND, VLT_CONDITION, VLT_SAME_SLOT or VLT_LIBRARY. */
 VLT_MUST_USE vlt_result vlt_union_variant_by_index(const vlt_dtype *dtype, size_t index, vlt_dtype *out);
 
-/* Writes the index of the variant with this name, counted from 0, to `index`. Returns 1 if no variant has the name,
- * 3 if the name isn't UTF-8, and 5 if the type isn't a union.
+/* Writes the index of the variant with this name, counted from 0, to `index`. Returns VLT_NONE if no variant has the
+ * name, VLT_UTF8 if the name isn't UTF-8, and VLT_CONDITION if the type isn't a union.
  *
  * Results: VLT_DONE, VLT_NONE, VLT_KIND, VLT_UTF8, VLT_CONDITION or VLT_RANGE. */
 VLT_MUST_USE vlt_result vlt_union_find(const vlt_dtype *dtype, const uint8_t *name, size_t name_len, size_t *index);
 
-/* Stores in `out` the type of the variant with this name. Returns 1 if no variant has the name, 3 if the name isn't
- * UTF-8, and 5 if the type isn't a union.
+/* Stores in `out` the type of the variant with this name. Returns VLT_NONE if no variant has the name, VLT_UTF8 if the
+ * name isn't UTF-8, and VLT_CONDITION if the type isn't a union.
  *
  * Results: VLT_DONE, VLT_NONE, VLT_KIND, VLT_UTF8, VLT_CONDITION, VLT_SAME_SLOT, VLT_RANGE or VLT_LIBRARY. */
 VLT_MUST_USE vlt_result vlt_union_variant(const vlt_dtype *dtype, const uint8_t *name, size_t name_len, vlt_dtype *out);
 
-/* Writes the index of the variant with this tag, counted from 0, to `index`. Returns 1 if no variant has the tag,
- * and 5 if the type isn't a union.
+/* Writes the index of the variant with this tag, counted from 0, to `index`. Returns VLT_NONE if no variant has the
+ * tag, and VLT_CONDITION if the type isn't a union.
  *
  * Results: VLT_DONE, VLT_NONE, VLT_KIND or VLT_CONDITION. */
 VLT_MUST_USE vlt_result vlt_union_tag_to_child_index(const vlt_dtype *dtype, uint8_t tag, size_t *index);
 
-/* Writes the tag of the variant with this index, which is counted from 0, to `tag`. Returns 1 if the index isn't
- * below the number of variants, and 5 if the type isn't a union.
+/* Writes the tag of the variant with this index, which is counted from 0, to `tag`. Returns VLT_NONE if the index
+ * isn't below the number of variants, and VLT_CONDITION if the type isn't a union.
  *
  * Results: VLT_DONE, VLT_NONE, VLT_KIND or VLT_CONDITION. */
 VLT_MUST_USE vlt_result vlt_union_child_index_to_tag(const vlt_dtype *dtype, size_t index, uint8_t *tag);
 
-/* Writes the name of the variant with this index, which is counted from 0, to `buffer`. Returns 1 if the index isn't
- * below the number of variants, and 5 if the type isn't a union.
+/* Writes the name of the variant with this index, which is counted from 0, to `buffer`. Returns VLT_NONE if the index
+ * isn't below the number of variants, and VLT_CONDITION if the type isn't a union.
  *
  * Results: VLT_DONE, VLT_NONE, VLT_KIND, VLT_CONDITION, VLT_SMALL or VLT_RANGE. */
 VLT_MUST_USE vlt_result vlt_union_variant_name(
         const vlt_dtype *dtype, size_t index, uint8_t *buffer, size_t buffer_len, size_t *length);
 
-/* Returns 0 if the tags are 0, 1, 2 and so on in the order of the variants, 1 if they aren't, and 5 if the type isn't
- * a union.
+/* Writes to `answer` whether the tags are 0, 1, 2 and so on in the order of the variants. Returns VLT_CONDITION if the
+ * type isn't a union.
  *
- * Results: VLT_DONE, VLT_NONE, VLT_KIND or VLT_CONDITION. */
-VLT_MUST_USE vlt_result vlt_union_is_consecutive(const vlt_dtype *dtype);
+ * Results: VLT_DONE, VLT_KIND or VLT_CONDITION. */
+VLT_MUST_USE vlt_result vlt_union_is_consecutive(const vlt_dtype *dtype, bool *answer);
 
 
 /* == Fields == */
@@ -890,7 +901,7 @@ VLT_MUST_USE vlt_result vlt_union_is_consecutive(const vlt_dtype *dtype);
 VLT_MUST_USE vlt_result vlt_fields_new(vlt_fields *out);
 
 /* Adds a field with this name and a copy of this type to the end of the list. A list may contain a name several times.
- * If the call doesn't return 0, the list is unchanged. Returns 3 if the name isn't UTF-8.
+ * If the call doesn't return VLT_DONE, the list is unchanged. Returns VLT_UTF8 if the name isn't UTF-8.
  *
  * Results: VLT_DONE, VLT_KIND, VLT_UTF8, VLT_SAME_SLOT, VLT_RANGE or VLT_LIBRARY. */
 VLT_MUST_USE vlt_result vlt_fields_push(
@@ -901,9 +912,10 @@ VLT_MUST_USE vlt_result vlt_fields_push(
 
 /* Stores in `out` the path that the message of a path describes. The names of the parts of the message are passed in
  * the same way as to `vlt_path_from_steps`. The length 2^64 - 1 (`VLT_ELEMENT` in C) stands for a part without a kind.
- * Returns the number for the first fault of the names, in their order: 9 if fewer bytes are left than a length says, 3
- * if the name of a length isn't UTF-8, and 9 if bytes are left after the last name. If the names have no fault, a
- * message that has a part without a kind describes no path, and the call returns 136, with the error in `error`.
+ * Returns the number for the first fault of the names, in their order: VLT_RANGE if fewer bytes are left than a length
+ * says, VLT_UTF8 if the name of a length isn't UTF-8, and VLT_RANGE if bytes are left after the last name. If the
+ * names have no fault, a message that has a part without a kind describes no path, and the call returns
+ * VLT_ERROR_MESSAGE_PATH_PART_MISSING, with the error in `error`.
  *
  * Results: VLT_DONE, VLT_UTF8, VLT_SAME_SLOT, VLT_RANGE, VLT_LIBRARY or VLT_ERROR_MESSAGE_PATH_PART_MISSING. */
 VLT_MUST_USE vlt_result vlt_path_from_message(
@@ -913,9 +925,9 @@ VLT_MUST_USE vlt_result vlt_path_from_message(
 /* Reads a path from its text and stores it in `out`. For example, `a.[].b` is a path of three steps, and `.` is the
  * root. The text is written in the form of `vlt_path_to_text`, and blanks and comments may stand around it.
  *
- * Returns 3 if the text isn't UTF-8, and 4 if it isn't spelled like a path. Then `error` contains an error:
- * `vlt_error_position` returns at which byte, counted from 1, something else was expected, and `vlt_error_message`
- * what.
+ * Returns VLT_UTF8 if the text isn't UTF-8, and VLT_UNREADABLE if it isn't spelled like a path. Then `error` contains
+ * an error: `vlt_error_position` returns at which byte, counted from 1, something else was expected, and
+ * `vlt_error_message` what.
  *
  * Results: VLT_DONE, VLT_UTF8, VLT_UNREADABLE, VLT_SAME_SLOT, VLT_RANGE or VLT_LIBRARY. */
 VLT_MUST_USE vlt_result vlt_path_from_text(const uint8_t *text, size_t text_len, vlt_path *out, vlt_error *error);
@@ -937,16 +949,16 @@ VLT_MUST_USE vlt_result vlt_path_root(vlt_path *out);
  * Results: VLT_DONE or VLT_KIND. */
 VLT_MUST_USE vlt_result vlt_path_len(const vlt_path *path, size_t *count);
 
-/* Writes the step with this index, which is counted from 0. For a step to a field, it writes the bytes of the name
- * to `buffer` and their number to `length`. For the step to the element, it writes only a length, which is 2^64 - 1
- * (`VLT_ELEMENT` in C). Returns 1 if the index isn't below the number of steps.
+/* Writes the step with this index, which is counted from 0. For a step to a field, it writes the bytes of the name to
+ * `buffer` and their number to `length`. For the step to the element, it writes only a length, which is 2^64 - 1
+ * (`VLT_ELEMENT` in C). Returns VLT_NONE if the index isn't below the number of steps.
  *
  * Results: VLT_DONE, VLT_NONE, VLT_KIND, VLT_SMALL or VLT_RANGE. */
 VLT_MUST_USE vlt_result vlt_path_step(
         const vlt_path *path, size_t index, uint8_t *buffer, size_t buffer_len, size_t *length);
 
-/* Stores in `out` the path with one more step at its end: the step to the field with this name. Returns 3 if the name
- * isn't UTF-8.
+/* Stores in `out` the path with one more step at its end: the step to the field with this name. Returns VLT_UTF8 if
+ * the name isn't UTF-8.
  *
  * Results: VLT_DONE, VLT_KIND, VLT_UTF8, VLT_SAME_SLOT, VLT_RANGE or VLT_LIBRARY. */
 VLT_MUST_USE vlt_result vlt_path_push_name(const vlt_path *path, const uint8_t *name, size_t name_len, vlt_path *out);
@@ -956,7 +968,7 @@ VLT_MUST_USE vlt_result vlt_path_push_name(const vlt_path *path, const uint8_t *
  * Results: VLT_DONE, VLT_KIND, VLT_SAME_SLOT or VLT_LIBRARY. */
 VLT_MUST_USE vlt_result vlt_path_push_element(const vlt_path *path, vlt_path *out);
 
-/* Stores in `out` the path without its first step. Returns 1 if the path is the root, which has no steps.
+/* Stores in `out` the path without its first step. Returns VLT_NONE if the path is the root, which has no steps.
  *
  * Results: VLT_DONE, VLT_NONE, VLT_KIND, VLT_SAME_SLOT or VLT_LIBRARY. */
 VLT_MUST_USE vlt_result vlt_path_step_into(const vlt_path *path, vlt_path *out);
@@ -966,30 +978,30 @@ VLT_MUST_USE vlt_result vlt_path_step_into(const vlt_path *path, vlt_path *out);
  * Results: VLT_DONE, VLT_KIND, VLT_SAME_SLOT or VLT_LIBRARY. */
 VLT_MUST_USE vlt_result vlt_path_copy(const vlt_path *path, vlt_path *out);
 
-/* Returns 0 if the two paths are equal, and 1 if they aren't.
+/* Writes to `answer` whether the two paths are equal.
  *
- * Results: VLT_DONE, VLT_NONE, VLT_KIND or VLT_SAME_SLOT. */
-VLT_MUST_USE vlt_result vlt_path_eq(const vlt_path *one, const vlt_path *other);
+ * Results: VLT_DONE, VLT_KIND or VLT_LIBRARY. */
+VLT_MUST_USE vlt_result vlt_path_eq(const vlt_path *one, const vlt_path *other, bool *answer);
 
-/* Returns 0 if one of the two paths is a prefix of the other, and 1 if none is. For example, it returns 0 for `a` and
- * `a.b`, and for equal paths.
+/* Writes to `answer` whether one of the two paths is a prefix of the other. For example, it is true for `a` and `a.b`,
+ * and for equal paths.
  *
- * Results: VLT_DONE, VLT_NONE, VLT_KIND or VLT_SAME_SLOT. */
-VLT_MUST_USE vlt_result vlt_path_overlap(const vlt_path *one, const vlt_path *other);
+ * Results: VLT_DONE, VLT_KIND or VLT_LIBRARY. */
+VLT_MUST_USE vlt_result vlt_path_overlap(const vlt_path *one, const vlt_path *other, bool *answer);
 
 /* Stores in `out` the type at the path in the type `dtype`. The root leads to the whole type, a name to the first
  * field with this name in a struct, and the element to the element type of a list or of a fixed-size list. No step
  * leads into a type of another kind. The nullability of the types on the way doesn't matter. For example, the type at
- * `a.[]` in `{a=list(i32)?}` is `i32`. Returns 1 if there is no type at the path.
+ * `a.[]` in `{a=list(i32)?}` is `i32`. Returns VLT_NONE if there is no type at the path.
  *
  * Results: VLT_DONE, VLT_NONE, VLT_KIND, VLT_SAME_SLOT or VLT_LIBRARY. */
 VLT_MUST_USE vlt_result vlt_path_resolve(const vlt_dtype *dtype, const vlt_path *path, vlt_dtype *out);
 
-/* Returns 0 if there is a type at the path in the type `dtype`, and 1 if there is none. The comment of
- * `vlt_path_resolve` explains where a path leads.
+/* Writes to `answer` whether there is a type at the path in the type `dtype`. The comment of `vlt_path_resolve`
+ * explains where a path leads.
  *
- * Results: VLT_DONE, VLT_NONE, VLT_KIND or VLT_SAME_SLOT. */
-VLT_MUST_USE vlt_result vlt_path_exists_in(const vlt_dtype *dtype, const vlt_path *path);
+ * Results: VLT_DONE or VLT_KIND. */
+VLT_MUST_USE vlt_result vlt_path_exists_in(const vlt_dtype *dtype, const vlt_path *path, bool *answer);
 
 /* Writes the path to `buffer` as the library displays it, for example `$a.[].$b`. The text of the root is empty. This
  * isn't the form that `vlt_path_from_text` reads, which `vlt_path_to_text` writes.
@@ -997,12 +1009,13 @@ VLT_MUST_USE vlt_result vlt_path_exists_in(const vlt_dtype *dtype, const vlt_pat
  * Results: VLT_DONE, VLT_KIND, VLT_SMALL, VLT_RANGE or VLT_LIBRARY. */
 VLT_MUST_USE vlt_result vlt_path_display(const vlt_path *path, uint8_t *buffer, size_t buffer_len, size_t *length);
 
-/* Returns 0 if the first step of the path is the step to the field with this name. Returns 1 if it is the step to
- * another field, or if the path is the root. Returns 5 if it is the step to the element. The call doesn't test
- * whether the name is UTF-8, and no field has a name that isn't.
+/* Writes to `answer` whether the first step of the path is the step to the field with this name. It isn't if it is the
+ * step to another field, or if the path is the root. Returns VLT_CONDITION if it is the step to the element. The call
+ * doesn't test whether the name is UTF-8, and no field has a name that isn't.
  *
- * Results: VLT_DONE, VLT_NONE, VLT_KIND, VLT_CONDITION or VLT_RANGE. */
-VLT_MUST_USE vlt_result vlt_path_starts_with_name(const vlt_path *path, const uint8_t *name, size_t name_len);
+ * Results: VLT_DONE, VLT_KIND, VLT_CONDITION or VLT_RANGE. */
+VLT_MUST_USE vlt_result vlt_path_starts_with_name(
+        const vlt_path *path, const uint8_t *name, size_t name_len, bool *answer);
 
 /* Writes a hash of the path to `hash`. Equal paths have the same hash. The hash of a path may differ between versions
  * of the library.
@@ -1013,8 +1026,8 @@ VLT_MUST_USE vlt_result vlt_path_hash(const vlt_path *path, uint64_t *hash);
 /* Stores in `out` the path of these steps. `names` contains the bytes of all names, one name directly after the other,
  * and `name_lengths` contains the number of bytes of the name of each step. The length 2^64 - 1 (`VLT_ELEMENT` in C)
  * stands for the step to the element, which has no bytes in `names`. Returns the number for the first fault of the
- * names, in their order: 9 if fewer bytes are left than a length says, 3 if the name of a length isn't UTF-8, and 9 if
- * bytes are left after the last name.
+ * names, in their order: VLT_RANGE if fewer bytes are left than a length says, VLT_UTF8 if the name of a length isn't
+ * UTF-8, and VLT_RANGE if bytes are left after the last name.
  *
  * Results: VLT_DONE, VLT_UTF8, VLT_RANGE or VLT_LIBRARY. */
 VLT_MUST_USE vlt_result vlt_path_from_steps(
@@ -1026,36 +1039,36 @@ VLT_MUST_USE vlt_result vlt_path_from_steps(
 /* Writes how paths of the set continue after the path `path`. `is_end` is true if the path itself is in the set.
  * `has_element` is true if some path of the set continues with the step to the element. `name_count` is the number of
  * different names with which paths of the set continue. For example, for the set of `a`, `a.b` and `a.c` and the path
- * `a` the call writes true, false and 2. Returns 1 if no path of the set begins with the path.
+ * `a` the call writes true, false and 2. Returns VLT_NONE if no path of the set begins with the path.
  *
- * Results: VLT_DONE, VLT_NONE, VLT_KIND or VLT_SAME_SLOT. */
+ * Results: VLT_DONE, VLT_NONE or VLT_KIND. */
 VLT_MUST_USE vlt_result vlt_set_below(
         const vlt_path_set *paths, const vlt_path *path, bool *is_end, bool *has_element, size_t *name_count);
 
 /* Stores in `out` the list of the names with which paths of the set continue after the path `path`. The list contains
- * a path of one step for each name. Each name is in it once, in no particular order. For example, for the set of
- * `a.b` and `a.c` and the path `a` the list contains the paths `b` and `c`. Returns 1 if no path of the set begins
+ * a path of one step for each name. Each name is in it once, in no particular order. For example, for the set of `a.b`
+ * and `a.c` and the path `a` the list contains the paths `b` and `c`. Returns VLT_NONE if no path of the set begins
  * with the path.
  *
  * Results: VLT_DONE, VLT_NONE, VLT_KIND, VLT_SAME_SLOT or VLT_LIBRARY. */
 VLT_MUST_USE vlt_result vlt_set_names_below(const vlt_path_set *paths, const vlt_path *path, vlt_path_list *out);
 
-/* Returns 0 if the two sets contain the same paths, and 1 if they don't.
+/* Writes to `answer` whether the two sets contain the same paths.
  *
- * Results: VLT_DONE, VLT_NONE, VLT_KIND or VLT_SAME_SLOT. */
-VLT_MUST_USE vlt_result vlt_set_eq(const vlt_path_set *one, const vlt_path_set *other);
+ * Results: VLT_DONE, VLT_KIND or VLT_LIBRARY. */
+VLT_MUST_USE vlt_result vlt_set_eq(const vlt_path_set *one, const vlt_path_set *other, bool *answer);
 
-/* Returns 0 if each path of the first set is in the other one too, and 1 if one isn't. The paths themselves are
- * compared, and not what they select. For example, the set of `a.b` isn't a subset of the set of `a`.
+/* Writes to `answer` whether each path of the first set is in the other one too. The paths themselves are compared,
+ * and not what they select. For example, the set of `a.b` isn't a subset of the set of `a`.
  *
- * Results: VLT_DONE, VLT_NONE, VLT_KIND or VLT_SAME_SLOT. */
-VLT_MUST_USE vlt_result vlt_set_is_subset(const vlt_path_set *one, const vlt_path_set *other);
+ * Results: VLT_DONE, VLT_KIND or VLT_LIBRARY. */
+VLT_MUST_USE vlt_result vlt_set_is_subset(const vlt_path_set *one, const vlt_path_set *other, bool *answer);
 
-/* Returns 0 if no path is in both sets, and 1 if one is. The paths themselves are compared, and not what they select.
- * For example, the sets of `a` and of `a.b` are disjoint.
+/* Writes to `answer` whether no path is in both sets. The paths themselves are compared, and not what they select. For
+ * example, the sets of `a` and of `a.b` are disjoint.
  *
- * Results: VLT_DONE, VLT_NONE, VLT_KIND or VLT_SAME_SLOT. */
-VLT_MUST_USE vlt_result vlt_set_is_disjoint(const vlt_path_set *one, const vlt_path_set *other);
+ * Results: VLT_DONE, VLT_KIND or VLT_LIBRARY. */
+VLT_MUST_USE vlt_result vlt_set_is_disjoint(const vlt_path_set *one, const vlt_path_set *other, bool *answer);
 
 /* Stores in `out` the set of the paths that are in one of the two sets or in both.
  *
@@ -1067,16 +1080,16 @@ VLT_MUST_USE vlt_result vlt_set_union(const vlt_path_set *one, const vlt_path_se
  * Results: VLT_DONE or VLT_LIBRARY. */
 VLT_MUST_USE vlt_result vlt_set_new(vlt_path_set *out);
 
-/* Inserts a copy of the path into the set. If the set contains the path already, nothing changes, and the call
- * returns 0. If it doesn't return 0, the set is unchanged.
+/* Inserts a copy of the path into the set. If the set contains the path already, nothing changes, and the call returns
+ * VLT_DONE. If it doesn't return VLT_DONE, the set is unchanged.
  *
  * Results: VLT_DONE, VLT_KIND, VLT_SAME_SLOT or VLT_LIBRARY. */
 VLT_MUST_USE vlt_result vlt_set_insert(vlt_path_set *paths, const vlt_path *path);
 
-/* Returns 0 if the path is in the set, and 1 if it isn't.
+/* Writes to `answer` whether the path is in the set.
  *
- * Results: VLT_DONE, VLT_NONE, VLT_KIND or VLT_SAME_SLOT. */
-VLT_MUST_USE vlt_result vlt_set_contains(const vlt_path_set *paths, const vlt_path *path);
+ * Results: VLT_DONE or VLT_KIND. */
+VLT_MUST_USE vlt_result vlt_set_contains(const vlt_path_set *paths, const vlt_path *path, bool *answer);
 
 /* Stores in `out` a copy of the set.
  *
@@ -1107,15 +1120,15 @@ VLT_MUST_USE vlt_result vlt_set_unresolved(const vlt_path_set *paths, const vlt_
 VLT_MUST_USE vlt_result vlt_set_len(const vlt_path_set *paths, size_t *count);
 
 /* Inserts copies of the paths in these slots into the set, in order, and writes to `inserted` how many were inserted.
- * A path that the set contains already is counted too. If a slot contains no path, the call stops there and
- * returns 2. If memory runs out, it stops there and returns 100. In both cases the paths before it stay inserted, and
- * `inserted` is their number. If `set` contains no set, the call returns 2 and writes nothing.
+ * A path that the set contains already is counted too. If a slot contains no path, the call stops there and returns
+ * VLT_KIND. If memory runs out, it stops there and returns VLT_LIBRARY. In both cases the paths before it stay
+ * inserted, and `inserted` is their number. If `set` contains no set, the call returns VLT_KIND and writes nothing.
  *
  * Results: VLT_DONE, VLT_KIND, VLT_SAME_SLOT, VLT_RANGE or VLT_LIBRARY. */
 VLT_MUST_USE vlt_result vlt_set_extend(vlt_path_set *set, const vlt_path *paths, size_t paths_len, size_t *inserted);
 
-/* Inserts copies of the paths of the list into the set, in order. If memory runs out, the call stops there and
- * returns 100. In this case the paths that it inserted before stay in the set.
+/* Inserts copies of the paths of the list into the set, in order. If memory runs out, the call stops there and returns
+ * VLT_LIBRARY. In this case the paths that it inserted before stay in the set.
  *
  * Results: VLT_DONE, VLT_KIND, VLT_SAME_SLOT or VLT_LIBRARY. */
 VLT_MUST_USE vlt_result vlt_set_extend_from_list(vlt_path_set *paths, const vlt_path_list *list);
@@ -1125,7 +1138,8 @@ VLT_MUST_USE vlt_result vlt_set_extend_from_list(vlt_path_set *paths, const vlt_
 
 /* Takes the path with this index, which is counted from 0, out of the list, and stores it in `out`. The list has the
  * root in its place afterwards. So a program that goes through a list can own each path without copying it. Returns
- * 1 if the index isn't below the length of the list. If the call doesn't return 0, the list is unchanged.
+ * VLT_NONE if the index isn't below the length of the list. If the call doesn't return VLT_DONE, the list is
+ * unchanged.
  *
  * Results: VLT_DONE, VLT_NONE, VLT_KIND, VLT_SAME_SLOT or VLT_LIBRARY. */
 VLT_MUST_USE vlt_result vlt_paths_take(vlt_path_list *paths, size_t index, vlt_path *out);
@@ -1135,8 +1149,8 @@ VLT_MUST_USE vlt_result vlt_paths_take(vlt_path_list *paths, size_t index, vlt_p
  * Results: VLT_DONE or VLT_KIND. */
 VLT_MUST_USE vlt_result vlt_paths_len(const vlt_path_list *paths, size_t *count);
 
-/* Stores in `out` a copy of the path with this index in the list, counted from 0. Returns 1 if the index isn't below
- * the length of the list.
+/* Stores in `out` a copy of the path with this index in the list, counted from 0. Returns VLT_NONE if the index isn't
+ * below the length of the list.
  *
  * Results: VLT_DONE, VLT_NONE, VLT_KIND, VLT_SAME_SLOT or VLT_LIBRARY. */
 VLT_MUST_USE vlt_result vlt_paths_get(const vlt_path_list *paths, size_t index, vlt_path *out);
@@ -1147,7 +1161,7 @@ VLT_MUST_USE vlt_result vlt_paths_get(const vlt_path_list *paths, size_t index, 
 /* Stores in `out` the part of the type to which the paths of the set lead. It is the schema of the columns that a
  * reader of these paths has to open. The type at the end of a path is kept whole. A struct on the way keeps only the
  * fields to which a path leads, in its own order. For example, the part of `{a=i32, b={c=u8, d=u8}}` for the path
- * `b.c` is `{b={c=u8}}`. Returns 1 if no path of the set exists in the type.
+ * `b.c` is `{b={c=u8}}`. Returns VLT_NONE if no path of the set exists in the type.
  *
  * Results: VLT_DONE, VLT_NONE, VLT_KIND, VLT_SAME_SLOT or VLT_LIBRARY. */
 VLT_MUST_USE vlt_result vlt_project_paths(const vlt_dtype *dtype, const vlt_path_set *set, vlt_dtype *out);
@@ -1177,8 +1191,9 @@ VLT_MUST_USE vlt_result vlt_mask_exact(const vlt_path *path, vlt_mask *out);
  * Results: VLT_DONE or VLT_KIND. */
 VLT_MUST_USE vlt_result vlt_mask_kind(const vlt_mask *mask, uint32_t *kind);
 
-/* Stores in `out` the path of the mask. Returns 1 if the mask is the one of `vlt_mask_all`, which has no path. The
- * path of the mask that `vlt_mask_prefix` makes of the root is the root, although this mask also selects every path.
+/* Stores in `out` the path of the mask. Returns VLT_NONE if the mask is the one of `vlt_mask_all`, which has no path.
+ * The path of the mask that `vlt_mask_prefix` makes of the root is the root, although this mask also selects every
+ * path.
  *
  * Results: VLT_DONE, VLT_NONE, VLT_KIND, VLT_SAME_SLOT or VLT_LIBRARY. */
 VLT_MUST_USE vlt_result vlt_mask_path(const vlt_mask *mask, vlt_path *out);
@@ -1195,37 +1210,38 @@ VLT_MUST_USE vlt_result vlt_mask_copy(const vlt_mask *mask, vlt_mask *out);
  *   If the path has at most one step, it is the mask of `vlt_mask_all`.
  * - For a mask of `vlt_mask_exact`, it is the mask that `vlt_mask_exact` makes of the path without its first step.
  *
- * For example, for the mask that `vlt_mask_prefix` makes of `a.b`, it is the mask that `vlt_mask_prefix` makes of
- * `b`. Returns 120, with the error in `error`, if the mask selects only the root.
+ * For example, for the mask that `vlt_mask_prefix` makes of `a.b`, it is the mask that `vlt_mask_prefix` makes of `b`.
+ * Returns VLT_ERROR_EXACT_ROOT, with the error in `error`, if the mask selects only the root.
  *
  * Results: VLT_DONE, VLT_KIND, VLT_SAME_SLOT, VLT_LIBRARY or VLT_ERROR_EXACT_ROOT. */
 VLT_MUST_USE vlt_result vlt_mask_step_into(const vlt_mask *mask, vlt_mask *out, vlt_error *error);
 
-/* Writes the first step of the path of the mask, in the same way as `vlt_path_step` writes a step. Returns 1 if the
- * path is the root, and 121, with the error in `error`, if the mask is the one of `vlt_mask_all`, which has no path.
+/* Writes the first step of the path of the mask, in the same way as `vlt_path_step` writes a step. Returns VLT_NONE if
+ * the path is the root, and VLT_ERROR_ALL_MASK, with the error in `error`, if the mask is the one of `vlt_mask_all`,
+ * which has no path.
  *
  * Results: VLT_DONE, VLT_NONE, VLT_KIND, VLT_SMALL, VLT_SAME_SLOT, VLT_RANGE, VLT_LIBRARY or VLT_ERROR_ALL_MASK. */
 VLT_MUST_USE vlt_result vlt_mask_starting_field(
         const vlt_mask *mask, uint8_t *buffer, size_t buffer_len, size_t *length, vlt_error *error);
 
-/* Returns 0 if the mask selects every path, and 1 if it doesn't. The mask of `vlt_mask_all` and the mask that
+/* Writes to `answer` whether the mask selects every path. The mask of `vlt_mask_all` and the mask that
  * `vlt_mask_prefix` makes of the root select every path.
  *
- * Results: VLT_DONE, VLT_NONE or VLT_KIND. */
-VLT_MUST_USE vlt_result vlt_mask_matches_all(const vlt_mask *mask);
+ * Results: VLT_DONE or VLT_KIND. */
+VLT_MUST_USE vlt_result vlt_mask_matches_all(const vlt_mask *mask, bool *answer);
 
-/* Returns 0 if the mask selects the root, and 1 if it doesn't. The mask of `vlt_mask_all` and the masks whose path is
- * the root select the root.
+/* Writes to `answer` whether the mask selects the root. The mask of `vlt_mask_all` and the masks whose path is the
+ * root select the root.
  *
- * Results: VLT_DONE, VLT_NONE or VLT_KIND. */
-VLT_MUST_USE vlt_result vlt_mask_matches_root(const vlt_mask *mask);
+ * Results: VLT_DONE or VLT_KIND. */
+VLT_MUST_USE vlt_result vlt_mask_matches_root(const vlt_mask *mask, bool *answer);
 
-/* Returns 0 if the two masks are equal, and 1 if they aren't. They are equal if they have the same kind and the same
- * path. So the mask of `vlt_mask_all` isn't equal to the mask that `vlt_mask_prefix` makes of the root, although both
- * select every path.
+/* Writes to `answer` whether the two masks are equal. They are equal if they have the same kind and the same path. So
+ * the mask of `vlt_mask_all` isn't equal to the mask that `vlt_mask_prefix` makes of the root, although both select
+ * every path.
  *
- * Results: VLT_DONE, VLT_NONE, VLT_KIND or VLT_SAME_SLOT. */
-VLT_MUST_USE vlt_result vlt_mask_eq(const vlt_mask *one, const vlt_mask *other);
+ * Results: VLT_DONE, VLT_KIND or VLT_LIBRARY. */
+VLT_MUST_USE vlt_result vlt_mask_eq(const vlt_mask *one, const vlt_mask *other, bool *answer);
 
 
 /* == Messages of types == */
@@ -1235,16 +1251,19 @@ VLT_MUST_USE vlt_result vlt_mask_eq(const vlt_mask *one, const vlt_mask *other);
  * Results: VLT_DONE, VLT_KIND, VLT_SAME_SLOT or VLT_LIBRARY. */
 VLT_MUST_USE vlt_result vlt_message_copy(const vlt_message *message, vlt_message *out);
 
-/* Returns 0 if the two messages are equal, and 1 if they aren't.
+/* Writes to `answer` whether the two messages are equal.
  *
- * Results: VLT_DONE, VLT_NONE, VLT_KIND or VLT_SAME_SLOT. */
-VLT_MUST_USE vlt_result vlt_message_eq(const vlt_message *one, const vlt_message *other);
+ * Results: VLT_DONE, VLT_KIND or VLT_LIBRARY. */
+VLT_MUST_USE vlt_result vlt_message_eq(const vlt_message *one, const vlt_message *other, bool *answer);
 
 /* Stores in `out` the type that the message describes. No plugin is registered, so no id of an extension is known. If
- * `allow_unknown` is true, an extension keeps its metadata. If it is false, the call returns 135 for an extension. If
- * the message describes no type, the call returns the number of its first fault, and `error` contains the error. This
- * is a number from 124 to 134, or 101 to 104 for a decimal, 109 for a map, and 110 to 113 or 115 for a union. For
- * example, it returns 124 for a message without a kind.
+ * `allow_unknown` is true, an extension keeps its metadata. If it is false, the call returns
+ * VLT_ERROR_MESSAGE_EXTENSION_UNREGISTERED for an extension. If the message describes no type, the call returns the
+ * number of its first fault, and `error` contains the error. This is a number from VLT_ERROR_MESSAGE_TYPE_MISSING to
+ * VLT_ERROR_MESSAGE_STORAGE_MISSING, or VLT_ERROR_PRECISION_ZERO to VLT_ERROR_SCALE_ABOVE_PRECISION for a decimal,
+ * VLT_ERROR_MAP_KEY_NULLABLE for a map, and VLT_ERROR_UNION_TYPES_LENGTH to VLT_ERROR_UNION_TAGS_REPEAT or
+ * VLT_ERROR_UNION_NAMES_REPEAT for a union. For example, it returns VLT_ERROR_MESSAGE_TYPE_MISSING for a message
+ * without a kind.
  *
  * Results: VLT_DONE, VLT_KIND, VLT_SAME_SLOT, VLT_LIBRARY, VLT_ERROR_PRECISION_ZERO, VLT_ERROR_PRECISION_TOO_LARGE,
  * VLT_ERROR_SCALE_TOO_LARGE, VLT_ERROR_SCALE_ABOVE_PRECISION, VLT_ERROR_MAP_KEY_NULLABLE,
@@ -1273,18 +1292,18 @@ VLT_MUST_USE vlt_result vlt_message_normal(
         const vlt_message *message, bool allow_unknown, vlt_message *out, vlt_error *error);
 
 /* Stores in `out` the message that the nodes and the bytes of the texts describe. If they don't describe one, the
- * first fault that is met in the order of the nodes is returned: 3 if a name or an id isn't UTF-8, 6 if a message is
- * nested in more than 128 others, and 9 if a node isn't one that a message has at its place, if nodes or bytes end too
- * early, or if some are left.
+ * first fault that is met in the order of the nodes is returned: VLT_UTF8 if a name or an id isn't UTF-8, VLT_DEEP if
+ * a message is nested in more than 128 others, and VLT_RANGE if a node isn't one that a message has at its place, if
+ * nodes or bytes end too early, or if some are left.
  *
  * Results: VLT_DONE, VLT_UTF8, VLT_DEEP, VLT_RANGE or VLT_LIBRARY. */
 VLT_MUST_USE vlt_result vlt_message_from_nodes(
         const vlt_node *nodes, size_t nodes_len, const uint8_t *texts, size_t texts_len, vlt_message *out);
 
 /* Writes the nodes of the message to the front of `nodes`, the bytes of its texts to the front of `texts`, and the
- * numbers of both to `node_count` and `text_length`. If one of the two buffers is too small, the call returns 7 and
- * writes only the two numbers. It returns 6 if a message is nested in more than 128 others, and otherwise 9 if a
- * number of names, tags, types or bytes of a text is above 2^32 - 1.
+ * numbers of both to `node_count` and `text_length`. If one of the two buffers is too small, the call returns
+ * VLT_SMALL and writes only the two numbers. It returns VLT_DEEP if a message is nested in more than 128 others, and
+ * otherwise VLT_RANGE if a number of names, tags, types or bytes of a text is above 2^32 - 1.
  *
  * Nodes and texts are plain bytes, so another thread can read them.
  *
@@ -1297,23 +1316,24 @@ VLT_MUST_USE vlt_result vlt_message_to_nodes(
 /* == Errors == */
 
 /* Writes a text for the result `code` to `buffer`. For a result from 0 to 10 the text is what the result means, for
- * example `a text is not UTF-8` for 3. For a result from 100 to 136 it is the name of the library's error, for example
- * `FieldNotFound` for 116. Returns 9 if `code` is another number.
+ * example `a text is not UTF-8` for 3. For a result from VLT_LIBRARY to VLT_ERROR_MESSAGE_PATH_PART_MISSING it is the
+ * name of the library's error, for example `FieldNotFound` for VLT_ERROR_FIELD_NOT_FOUND. Returns VLT_RANGE if `code`
+ * is another number.
  *
  * Results: VLT_DONE, VLT_SMALL or VLT_RANGE. */
 VLT_MUST_USE vlt_result vlt_error_text(uint32_t code, uint8_t *buffer, size_t buffer_len, size_t *length);
 
 /* Writes the number of the library's error to `number`. It is from 0 to 36, and 100 less than the result of the call
- * that stored the error. For example, it is 9 if the key type of a map is nullable. Returns 1 if the error is that a
- * text can't be read or is nested too deeply, or that a type isn't one of Arrow's or the reverse, which are no errors
- * of the library, and 2 if the slot contains no error.
+ * that stored the error. For example, it is 9 if the key type of a map is nullable. Returns VLT_NONE if the error is
+ * that a text can't be read or is nested too deeply, or that a type isn't one of Arrow's or the reverse, which are no
+ * errors of the library, and VLT_KIND if the slot contains no error.
  *
  * Results: VLT_DONE, VLT_NONE or VLT_KIND. */
 VLT_MUST_USE vlt_result vlt_error_number(const vlt_error *error, uint32_t *number);
 
 /* Writes to `position` at which byte of a text the error is, counted from 1. The position is one more than the length
- * of the text if the text ends too early. Returns 1 if the error isn't about a place in a text, because it is one of
- * the library or is about a schema of Arrow, and 2 if the slot contains no error.
+ * of the text if the text ends too early. Returns VLT_NONE if the error isn't about a place in a text, because it is
+ * one of the library or is about a schema of Arrow, and VLT_KIND if the slot contains no error.
  *
  * Results: VLT_DONE, VLT_NONE or VLT_KIND. */
 VLT_MUST_USE vlt_result vlt_error_position(const vlt_error *error, size_t *position);
@@ -1321,11 +1341,18 @@ VLT_MUST_USE vlt_result vlt_error_position(const vlt_error *error, size_t *posit
 /* Writes the message of the error to `buffer`. For an error of the library it is the library's own text, for example
  * `index 9 out of bounds for struct with 2 fields`. If a text can't be read, it states what was expected at the
  * position of the error, for example `expected a type, not "int32"; nearest: i32`. For a schema of Arrow it names the
- * field, for example `column "a": the Arrow format "tiM" has no type here`. Returns 2 if the slot contains no error.
+ * field, for example `column "a": the Arrow format "tiM" has no type here`. Returns VLT_KIND if the slot contains no
+ * error.
  *
  * Results: VLT_DONE, VLT_KIND, VLT_SMALL, VLT_RANGE or VLT_LIBRARY. */
 VLT_MUST_USE vlt_result vlt_error_message(const vlt_error *error, uint8_t *buffer, size_t buffer_len, size_t *length);
 /* end of what tools/bindings writes */
+
+/* Returns the name of the argument that was wrong in the last call that returned VLT_KIND, VLT_UTF8, VLT_CONDITION,
+ * VLT_SAME_SLOT or VLT_RANGE, as it is declared here: for example "element" if vlt_dtype_list returned VLT_KIND. Of two
+ * slots that are the same, or have the same object, it is the second. If no call has returned such a result, it returns
+ * null. The string isn't freed. */
+const char *vlt_wrong_argument(void);
 
 
 /* == Types from and to Arrow == */
@@ -1375,11 +1402,12 @@ struct ArrowArray {
  * as many numbers and texts of its metadata as the metadata counts, and as many children as it counts. It can't test that
  * these are there.
  *
- * Returns 10 if the field isn't one, if it has no type here, or if its type can't be one of this library for a reason that
- * has no number of its own. Then `error` has a message that begins with the path of the field and names the format, for
- * example `column "a.item": the Arrow format "tiM" has no type here`. Returns 6 if the type has more than 128 levels, 101
- * to 104 for a decimal that the library refuses, 109 for a map whose key is nullable, and 111, 112, 113 or 115 for a union
- * that the library refuses. Returns 9 if `schema` is null.
+ * Returns VLT_ARROW if the field isn't one, if it has no type here, or if its type can't be one of this library for a reason
+ * that has no number of its own. Then `error` has a message that begins with the path of the field and names the format, for
+ * example `column "a.item": the Arrow format "tiM" has no type here`. Returns VLT_DEEP if the type has more than 128
+ * levels, VLT_ERROR_PRECISION_ZERO to VLT_ERROR_SCALE_ABOVE_PRECISION for a decimal that the library refuses,
+ * VLT_ERROR_MAP_KEY_NULLABLE for a map whose key is nullable, and one of the VLT_ERROR_UNION_.. below for a union that the
+ * library refuses. Returns VLT_RANGE if `schema` is null.
  *
  * Results: VLT_DONE, VLT_DEEP, VLT_SAME_SLOT, VLT_RANGE, VLT_ARROW, VLT_LIBRARY, VLT_ERROR_PRECISION_ZERO,
  * VLT_ERROR_PRECISION_TOO_LARGE, VLT_ERROR_SCALE_TOO_LARGE, VLT_ERROR_SCALE_ABOVE_PRECISION,
@@ -1388,16 +1416,17 @@ struct ArrowArray {
 VLT_MUST_USE vlt_result vlt_dtype_from_arrow(const struct ArrowSchema *schema, vlt_dtype *out, vlt_error *error);
 
 /* Writes the type as an Arrow field with an empty name to `out`. Its `release` has to be called once, on any thread, also
- * while another thread is in a call of the library. If the call doesn't return 0, `out` is unchanged. What `out` contained
- * before isn't released, so it may be uninitialised.
+ * while another thread is in a call of the library. If the call doesn't return VLT_DONE, `out` is unchanged. What `out`
+ * contained before isn't released, so it may be uninitialised.
  *
  * Each struct in the field owns its own strings, so a child may be moved out and released after its parent.
  * `vlt_dtype_from_arrow` makes the same type of it.
  *
- * Returns 10 if a part of the type can't be written: `variant`, an extension whose storage type is another extension (unless
+ * Returns VLT_ARROW if a part of the type can't be written: `variant`, an extension whose storage type is another extension (unless
  * that one is a date, a time or a timestamp), a union with a tag above 127, a fixed-size list longer than 2^31 - 1, metadata
  * that is longer, and a name, an id or a time zone with a zero byte. Then `error` has a message that begins with the path of
- * the part. Returns 2 if the slot has no type, and 9 if `out` is null.
+ * the part. Returns VLT_KIND if the slot has no type, and VLT_RANGE if `out` is
+ * null.
  *
  * Results: VLT_DONE, VLT_KIND, VLT_DEEP, VLT_SAME_SLOT, VLT_RANGE, VLT_ARROW or VLT_LIBRARY. */
 VLT_MUST_USE vlt_result vlt_dtype_to_arrow(const vlt_dtype *dtype, struct ArrowSchema *out, vlt_error *error);

@@ -9,6 +9,7 @@
  * Random schemas are walked and made again, which has to give equal schemas: also if an allocation fails, if children were
  * moved out, and if the structs are released on another thread. Then there is one schema for each fault. Each struct has
  * to be released exactly once. The last line is `N passed, M failed`. */
+#define _GNU_SOURCE
 #include "../vortex_logical_types.h"
 #include "heap.h"
 #include "schemas.h"
@@ -17,6 +18,7 @@
 #include <stdio.h>
 #include <stdlib.h>
 #include <string.h>
+#include <sys/mman.h>
 
 /* The flat form of a field, as arrow.c has it. */
 typedef struct {
@@ -63,6 +65,13 @@ static void forget(void) {
     free(kept.texts);
     kept.nodes = NULL;
     kept.texts = NULL;
+}
+
+/* (The layer keeps the name of a wrong argument, which isn't tested here.) */
+vlt_result vlt_is_wrong(const char *name, vlt_result result);
+vlt_result vlt_is_wrong(const char *name, vlt_result result) {
+    (void)name;
+    return result;
 }
 
 uint32_t vlt_core_dtype_from_arrow_nodes(
@@ -391,18 +400,37 @@ static void shared(size_t count, uint32_t fault) {
     free(fields);
 }
 
+/* Metadata of two texts of 2^31 - 1 bytes each, of which only the lengths are in memory: too much, so nothing is copied. */
+static void too_many_bytes(void) {
+    static const uint8_t pairs[] = {1, 0, 0, 0}, length[] = {255, 255, 255, 127};
+    const size_t second = 8 + (size_t)INT32_MAX, room = second + 4096;
+    struct ArrowSchema *schema = field_of("i", "", 0, 0);
+    uint8_t *metadata = (uint8_t *)mmap(NULL, room, PROT_READ | PROT_WRITE, MAP_PRIVATE | MAP_ANONYMOUS | MAP_NORESERVE, -1, 0);
+    vlt_dtype dtype = VLT_EMPTY;
+    HOLDS(metadata != MAP_FAILED);
+    memcpy(metadata, pairs, sizeof pairs);
+    memcpy(metadata + 4, length, sizeof length);
+    memcpy(metadata + second, length, sizeof length);
+    schema->metadata = (const char *)metadata;
+    HOLDS(vlt_dtype_from_arrow(schema, &dtype, NULL) == VLT_DONE);
+    HOLDS(kept.node_count == 1 && kept.nodes[0].fault == 4 && kept.nodes[0].metadata_length == 0 && kept.text_length == 0);
+    schema->metadata = NULL;
+    drop(schema);
+    munmap(metadata, room);
+}
+
 /* Schemas with as many fields, and as many bytes, as arrow.c has room for without an allocation, and a few more or fewer. */
 static void borders(void) {
-    char name[1200];
+    char name[4200];
     size_t fields, bytes;
-    for (fields = 30; fields <= 35; fields++) {
+    for (fields = 125; fields <= 131; fields++) {
         struct ArrowSchema *schema = field_of("+s", "", 0, fields);
         for (bytes = 0; bytes < fields; bytes++)
             schema->children[bytes] = field_of("i", "", 0, 0);
         there_and_back(schema);
         drop(schema);
     }
-    for (bytes = 1015; bytes <= 1030; bytes++) {
+    for (bytes = 4085; bytes <= 4100; bytes++) {
         struct ArrowSchema *schema;
         memset(name, 'a', bytes);
         name[bytes] = '\0';
@@ -423,6 +451,7 @@ static void limits(void) {
     shared(10, 0);
     shared(25, 6);
     shared(32, 6);
+    too_many_bytes();
 }
 
 /* Arguments that a call refuses. */

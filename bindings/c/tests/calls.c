@@ -57,6 +57,17 @@ static void check(int is_right, int line, const char *what, unsigned long long f
 #define NONE(call) IS(VLT_NONE, call)
 #define HOLDS(condition) check((condition) != 0, __LINE__, #condition, 0)
 
+/* Where the questions write their answers, and the checks of a question. */
+static bool answer;
+#define ANSWERS(wanted, call) \
+    do { \
+        answer = !(wanted); \
+        DONE(call); \
+        check(answer == (wanted), __LINE__, #call, answer); \
+    } while (0)
+#define YES(call) ANSWERS(true, call)
+#define NO(call) ANSWERS(false, call)
+
 /* Whether the slot has a type of this text. A buffer of the needed length comes from malloc, so that ASan sees any byte
  * that is written past its end. */
 static void has_text(any *slot, const char *wanted, int line) {
@@ -257,11 +268,11 @@ static void parts(void) {
     type_of(&s[0], "fixed_size_list(i32)[3]?");
     DONE(vlt_dtype_kind(&s[0].dtype, &number));
     HOLDS(number == VLT_DTYPE_FIXED_SIZE_LIST);
-    DONE(vlt_dtype_is_nullable(&s[0].dtype));
-    DONE(vlt_dtype_can_be_nonnullable(&s[0].dtype));
+    YES(vlt_dtype_is_nullable(&s[0].dtype, &answer));
+    YES(vlt_dtype_can_be_nonnullable(&s[0].dtype, &answer));
     DONE(vlt_dtype_with_nullability(&s[0].dtype, false, &s[1].dtype));
     HAS(&s[1], "fixed_size_list(i32)[3]");
-    NONE(vlt_dtype_is_nullable(&s[1].dtype));
+    NO(vlt_dtype_is_nullable(&s[1].dtype, &answer));
     DONE(vlt_dtype_union_nullability(&s[1].dtype, true, &s[2].dtype));
     HAS(&s[2], "fixed_size_list(i32)[3]?");
     DONE(vlt_dtype_fixed_size(&s[0].dtype, &number));
@@ -281,7 +292,7 @@ static void parts(void) {
     DONE(vlt_dtype_decimal_parts(&s[0].dtype, &precision, &scale));
     HOLDS(precision == 10 && scale == -2);
     type_of(&s[0], "null");
-    NONE(vlt_dtype_can_be_nonnullable(&s[0].dtype));
+    NO(vlt_dtype_can_be_nonnullable(&s[0].dtype, &answer));
     IS(VLT_CONDITION, vlt_dtype_with_nullability(&s[0].dtype, false, &s[1].dtype));
     type_of(&s[0], "map(utf8, i32?, keys_sorted=true)");
     DONE(vlt_dtype_key(&s[0].dtype, &s[1].dtype));
@@ -289,8 +300,8 @@ static void parts(void) {
     NONE(vlt_dtype_element_size(&s[1].dtype, &size, NULL));
     DONE(vlt_dtype_value(&s[0].dtype, &s[1].dtype));
     HAS(&s[1], "i32?");
-    DONE(vlt_dtype_keys_sorted(&s[0].dtype));
-    IS(VLT_CONDITION, vlt_dtype_keys_sorted(&s[1].dtype));
+    YES(vlt_dtype_keys_sorted(&s[0].dtype, &answer));
+    IS(VLT_CONDITION, vlt_dtype_keys_sorted(&s[1].dtype, &answer));
     DONE(vlt_dtype_entries(&s[0].dtype, &s[1].dtype));
     HAS(&s[1], "{key=utf8, value=i32?}");
     NONE(vlt_dtype_key(&s[1].dtype, &s[2].dtype));
@@ -315,9 +326,9 @@ static void comparisons(void) {
     type_of(&s[0], "{a=i32, b=utf8?}");
     type_of(&s[1], "{a=i32?, b=utf8}");
     DONE(vlt_dtype_copy(&s[0].dtype, &s[2].dtype));
-    DONE(vlt_dtype_eq(&s[0].dtype, &s[2].dtype));
-    NONE(vlt_dtype_eq(&s[0].dtype, &s[1].dtype));
-    DONE(vlt_dtype_eq_ignore_nullability(&s[0].dtype, &s[1].dtype));
+    YES(vlt_dtype_eq(&s[0].dtype, &s[2].dtype, &answer));
+    NO(vlt_dtype_eq(&s[0].dtype, &s[1].dtype, &answer));
+    YES(vlt_dtype_eq_ignore_nullability(&s[0].dtype, &s[1].dtype, &answer));
     DONE(vlt_dtype_hash(&s[0].dtype, &one));
     DONE(vlt_dtype_hash(&s[2].dtype, &other));
     HOLDS(one == other);
@@ -326,19 +337,17 @@ static void comparisons(void) {
     HOLDS(one == other);
     DONE(vlt_dtype_merge_nullability(&s[0].dtype, &s[1].dtype, &s[2].dtype));
     HAS(&s[2], "{a=i32?, b=utf8?}");
-    DONE(vlt_dtype_nullability_subset(&s[0].dtype, &s[2].dtype));
-    NONE(vlt_dtype_nullability_subset(&s[2].dtype, &s[0].dtype));
-    DONE(vlt_dtype_nullability_superset(&s[2].dtype, &s[0].dtype));
+    YES(vlt_dtype_nullability_subset(&s[0].dtype, &s[2].dtype, &answer));
+    NO(vlt_dtype_nullability_subset(&s[2].dtype, &s[0].dtype, &answer));
+    YES(vlt_dtype_nullability_superset(&s[2].dtype, &s[0].dtype, &answer));
     DONE(vlt_dtype_intersect_nullability(&s[0].dtype, &s[1].dtype, &s[2].dtype));
     HAS(&s[2], "{a=i32, b=utf8}");
     type_of(&s[3], "i64");
     NONE(vlt_dtype_merge_nullability(&s[0].dtype, &s[3].dtype, &s[2].dtype));
     NONE(vlt_dtype_intersect_nullability(&s[0].dtype, &s[3].dtype, &s[2].dtype));
     HAS(&s[2], "{a=i32, b=utf8}");
-    IS(VLT_SAME_SLOT, vlt_dtype_merge_nullability(&s[0].dtype, &s[0].dtype, &s[2].dtype));
     IS(VLT_SAME_SLOT, vlt_dtype_merge_nullability(&s[0].dtype, &s[2].dtype, &s[2].dtype));
     IS(VLT_SAME_SLOT, vlt_dtype_merge_nullability(&s[2].dtype, &s[0].dtype, &s[2].dtype));
-    IS(VLT_SAME_SLOT, vlt_dtype_eq(&s[0].dtype, &s[0].dtype));
     HAS(&s[0], "{a=i32, b=utf8?}");
     HAS(&s[2], "{a=i32, b=utf8}");
     free_all(s, 4);
@@ -369,7 +378,6 @@ static void merging(void) {
     HAS(&s[4], "f64");
     IS(VLT_KIND, vlt_dtype_merge_columns(&s[0].dtype, &s[2].dtype, &s[3].dtype));
     IS(VLT_KIND, vlt_dtype_merge_conflict(&s[2].dtype, &s[0].dtype, &s[1].path, &s[3].dtype, &s[4].dtype));
-    IS(VLT_SAME_SLOT, vlt_dtype_merge_columns(&s[0].dtype, &s[0].dtype, &s[3].dtype));
     IS(VLT_SAME_SLOT, vlt_dtype_merge_conflict(&s[0].dtype, &s[1].dtype, &s[2].path, &s[3].dtype, &s[3].dtype));
     HAS(&s[3], "u8");
     free_all(s, 5);
@@ -536,9 +544,9 @@ static void unions(void) {
     DONE(vlt_union_tag_to_child_index(&s[0].dtype, 9, &number));
     HOLDS(number == 1);
     NONE(vlt_union_tag_to_child_index(&s[0].dtype, 6, &number));
-    NONE(vlt_union_is_consecutive(&s[0].dtype));
+    NO(vlt_union_is_consecutive(&s[0].dtype, &answer));
     IS(VLT_CONDITION, vlt_union_len(&s[1].dtype, &number));
-    IS(VLT_CONDITION, vlt_union_is_consecutive(&s[1].dtype));
+    IS(VLT_CONDITION, vlt_union_is_consecutive(&s[1].dtype, &answer));
     free_all(s, 2);
 }
 
@@ -561,7 +569,7 @@ static void paths(void) {
     IS(VLT_RANGE, vlt_path_from_steps(TEXT("\xff"), long_lengths, 2, &s[1].path));
     HOLDS(s[1].slot.at == NULL);
     path_of(&s[1], "a.[].b");
-    DONE(vlt_path_eq(&s[0].path, &s[1].path));
+    YES(vlt_path_eq(&s[0].path, &s[1].path, &answer));
     DONE(vlt_path_hash(&s[0].path, &one));
     DONE(vlt_path_hash(&s[1].path, &other));
     HOLDS(one == other);
@@ -577,34 +585,34 @@ static void paths(void) {
     NONE(vlt_path_step(&s[0].path, 3, buffer, sizeof buffer, &number));
     DONE(vlt_path_push_name(&s[0].path, TEXT("c"), &s[1].path));
     IS_PATH(&s[1], "a.[].b.c");
-    NONE(vlt_path_eq(&s[0].path, &s[1].path));
-    DONE(vlt_path_overlap(&s[0].path, &s[1].path));
-    DONE(vlt_path_overlap(&s[1].path, &s[0].path));
+    NO(vlt_path_eq(&s[0].path, &s[1].path, &answer));
+    YES(vlt_path_overlap(&s[0].path, &s[1].path, &answer));
+    YES(vlt_path_overlap(&s[1].path, &s[0].path, &answer));
     DONE(vlt_path_push_element(&s[0].path, &s[1].path));
     IS_PATH(&s[1], "a.[].b.[]");
     DONE(vlt_path_step_into(&s[0].path, &s[1].path));
     IS_PATH(&s[1], "[].b");
-    IS(VLT_CONDITION, vlt_path_starts_with_name(&s[1].path, TEXT("a")));
-    DONE(vlt_path_starts_with_name(&s[0].path, TEXT("a")));
-    NONE(vlt_path_starts_with_name(&s[0].path, TEXT("b")));
-    NONE(vlt_path_overlap(&s[0].path, &s[1].path));
+    IS(VLT_CONDITION, vlt_path_starts_with_name(&s[1].path, TEXT("a"), &answer));
+    YES(vlt_path_starts_with_name(&s[0].path, TEXT("a"), &answer));
+    NO(vlt_path_starts_with_name(&s[0].path, TEXT("b"), &answer));
+    NO(vlt_path_overlap(&s[0].path, &s[1].path, &answer));
     DONE(vlt_path_copy(&s[0].path, &s[1].path));
     IS_PATH(&s[1], "a.[].b");
     type_of(&s[2], "{a=list({b=u32})?}");
     DONE(vlt_path_resolve(&s[2].dtype, &s[0].path, &s[3].dtype));
     HAS(&s[3], "u32");
-    DONE(vlt_path_exists_in(&s[2].dtype, &s[0].path));
+    YES(vlt_path_exists_in(&s[2].dtype, &s[0].path, &answer));
     DONE(vlt_path_root(&s[0].path));
     NONE(vlt_path_step_into(&s[0].path, &s[1].path));
-    NONE(vlt_path_starts_with_name(&s[0].path, TEXT("a")));
+    NO(vlt_path_starts_with_name(&s[0].path, TEXT("a"), &answer));
     path_of(&s[0], "b");
     NONE(vlt_path_resolve(&s[2].dtype, &s[0].path, &s[3].dtype));
     HAS(&s[3], "u32");
-    NONE(vlt_path_exists_in(&s[2].dtype, &s[0].path));
+    NO(vlt_path_exists_in(&s[2].dtype, &s[0].path, &answer));
     IS(VLT_KIND, vlt_path_resolve(&s[0].dtype, &s[2].path, &s[3].dtype));
     IS(VLT_SAME_SLOT, vlt_path_resolve(&s[2].dtype, &s[0].path, &s[2].dtype));
     IS(VLT_SAME_SLOT, vlt_path_resolve(&s[2].dtype, &s[0].path, &s[0].dtype));
-    IS(VLT_SAME_SLOT, vlt_path_exists_in(&s[0].dtype, &s[0].path));
+    IS(VLT_KIND, vlt_path_exists_in(&s[0].dtype, &s[0].path, &answer));
     free_all(s, 4);
 }
 
@@ -621,22 +629,22 @@ static void masks(void) {
     IS_PATH(&s[2], "a.b");
     DONE(vlt_mask_starting_field(&s[1].mask, buffer, sizeof buffer, &length, NULL));
     HOLDS(length == 1 && buffer[0] == 'a');
-    NONE(vlt_mask_matches_all(&s[1].mask));
+    NO(vlt_mask_matches_all(&s[1].mask, &answer));
     DONE(vlt_mask_step_into(&s[1].mask, &s[2].mask, NULL));
     DONE(vlt_mask_step_into(&s[2].mask, &s[3].mask, NULL));
-    DONE(vlt_mask_matches_all(&s[3].mask));
-    DONE(vlt_mask_matches_root(&s[3].mask));
+    YES(vlt_mask_matches_all(&s[3].mask, &answer));
+    YES(vlt_mask_matches_root(&s[3].mask, &answer));
     DONE(vlt_mask_all(&s[2].mask));
     NONE(vlt_mask_path(&s[2].mask, &s[0].path));
     IS(121, vlt_mask_starting_field(&s[2].mask, buffer, sizeof buffer, &length, NULL));
     DONE(vlt_mask_copy(&s[1].mask, &s[3].mask));
-    DONE(vlt_mask_eq(&s[1].mask, &s[3].mask));
-    NONE(vlt_mask_eq(&s[1].mask, &s[2].mask));
+    YES(vlt_mask_eq(&s[1].mask, &s[3].mask, &answer));
+    NO(vlt_mask_eq(&s[1].mask, &s[2].mask, &answer));
     DONE(vlt_path_root(&s[0].path));
     DONE(vlt_mask_exact(&s[0].path, &s[1].mask));
     DONE(vlt_mask_kind(&s[1].mask, &kind));
     HOLDS(kind == VLT_MASK_EXACT);
-    DONE(vlt_mask_matches_root(&s[1].mask));
+    YES(vlt_mask_matches_root(&s[1].mask, &answer));
     NONE(vlt_mask_starting_field(&s[1].mask, buffer, sizeof buffer, &length, NULL));
     IS(120, vlt_mask_step_into(&s[1].mask, &s[2].mask, NULL));
     path_of(&s[0], "[]");
@@ -681,9 +689,9 @@ static void sets(void) {
     path_of(&s[1], "a.b");
     DONE(vlt_set_insert(&s[0].set, &s[1].path));
     DONE(vlt_set_insert(&s[0].set, &s[1].path));
-    DONE(vlt_set_contains(&s[0].set, &s[1].path));
+    YES(vlt_set_contains(&s[0].set, &s[1].path, &answer));
     path_of(&s[1], "a");
-    NONE(vlt_set_contains(&s[0].set, &s[1].path));
+    NO(vlt_set_contains(&s[0].set, &s[1].path, &answer));
     path_of(&p[0], "x");
     path_of(&p[1], "a");
     path_of(&p[2], "a.[].c");
@@ -701,13 +709,13 @@ static void sets(void) {
     IS_LIST(&s[2], "a x ");
     DONE(vlt_paths_get(&s[2].paths, 1, &p[0].path));
     DONE(vlt_paths_take(&s[2].paths, 1, &p[1].path));
-    DONE(vlt_path_eq(&p[0].path, &p[1].path));
+    YES(vlt_path_eq(&p[0].path, &p[1].path, &answer));
     NONE(vlt_paths_take(&s[2].paths, 2, &p[0].path));
     NONE(vlt_paths_take(&s[2].paths, SIZE_MAX, &p[0].path));
-    DONE(vlt_path_eq(&p[0].path, &p[1].path));
+    YES(vlt_path_eq(&p[0].path, &p[1].path, &answer));
     DONE(vlt_paths_take(&s[2].paths, 0, &p[0].path));
     IS_LIST(&s[2], ". . ");
-    NONE(vlt_path_eq(&p[0].path, &p[1].path));
+    NO(vlt_path_eq(&p[0].path, &p[1].path, &answer));
     DONE(vlt_paths_take(&s[2].paths, 1, &p[0].path));
     IS_PATH(&p[0], ".");
     IS(VLT_KIND, vlt_paths_take(&s[0].paths, 0, &p[0].path));
@@ -718,7 +726,7 @@ static void sets(void) {
     DONE(vlt_set_len(&s[3].set, &number));
     HOLDS(number == 4);
     DONE(vlt_set_copy(&s[0].set, &s[3].set));
-    DONE(vlt_set_contains(&s[3].set, &p[2].path));
+    YES(vlt_set_contains(&s[3].set, &p[2].path, &answer));
     path_of(&s[1], "a");
     DONE(vlt_set_below(&s[0].set, &s[1].path, &is_end, &has_element, &number));
     HOLDS(is_end && has_element && number == 1);
@@ -750,23 +758,22 @@ static void set_relations(void) {
     size_t number = 77;
     DONE(vlt_set_new(&s[0].set));
     DONE(vlt_set_new(&s[1].set));
-    DONE(vlt_set_eq(&s[0].set, &s[1].set));
+    YES(vlt_set_eq(&s[0].set, &s[1].set, &answer));
     path_of(&path, "a.b");
     DONE(vlt_set_insert(&s[0].set, &path.path));
-    NONE(vlt_set_eq(&s[0].set, &s[1].set));
-    DONE(vlt_set_is_subset(&s[1].set, &s[0].set));
-    NONE(vlt_set_is_subset(&s[0].set, &s[1].set));
+    NO(vlt_set_eq(&s[0].set, &s[1].set, &answer));
+    YES(vlt_set_is_subset(&s[1].set, &s[0].set, &answer));
+    NO(vlt_set_is_subset(&s[0].set, &s[1].set, &answer));
     path_of(&path, "c");
     DONE(vlt_set_insert(&s[1].set, &path.path));
-    DONE(vlt_set_is_disjoint(&s[0].set, &s[1].set));
+    YES(vlt_set_is_disjoint(&s[0].set, &s[1].set, &answer));
     DONE(vlt_set_union(&s[0].set, &s[1].set, &s[2].set));
     DONE(vlt_set_len(&s[2].set, &number));
     HOLDS(number == 2);
-    NONE(vlt_set_is_disjoint(&s[1].set, &s[2].set));
-    DONE(vlt_set_is_subset(&s[1].set, &s[2].set));
-    IS(VLT_SAME_SLOT, vlt_set_eq(&s[0].set, &s[0].set));
+    NO(vlt_set_is_disjoint(&s[1].set, &s[2].set, &answer));
+    YES(vlt_set_is_subset(&s[1].set, &s[2].set, &answer));
     IS(VLT_SAME_SLOT, vlt_set_union(&s[0].set, &s[1].set, &s[1].set));
-    IS(VLT_KIND, vlt_set_is_subset(&path.set, &s[0].set));
+    IS(VLT_KIND, vlt_set_is_subset(&path.set, &s[0].set, &answer));
     IS(VLT_KIND, vlt_set_union(&s[0].set, &s[3].set, &s[2].set));
     free_all(s, 4);
     free_all(&path, 1);
@@ -842,24 +849,82 @@ static void fields(void) {
     free_all(&why, 1);
 }
 
-/* Errors with their data. A call that succeeds, or fails with another number, leaves the slot as it was. */
+/* One object that is passed twice to a call that only reads it. The call copies it for a moment, and keeps none. */
+static void passed_twice(void) {
+    size_t asked;
+    any s[7] = {VLT_EMPTY, VLT_EMPTY, VLT_EMPTY, VLT_EMPTY, VLT_EMPTY, VLT_EMPTY, VLT_EMPTY};
+    type_of(&s[0], "{a=i32, b=list(utf8?)}");
+    path_of(&s[1], "b.[]");
+    DONE(vlt_set_new(&s[2].set));
+    DONE(vlt_set_insert(&s[2].set, &s[1].path));
+    DONE(vlt_mask_prefix(&s[1].path, &s[3].mask));
+    YES(vlt_dtype_eq(&s[0].dtype, &s[0].dtype, &answer));
+    YES(vlt_dtype_eq_ignore_nullability(&s[0].dtype, &s[0].dtype, &answer));
+    YES(vlt_dtype_nullability_subset(&s[0].dtype, &s[0].dtype, &answer));
+    YES(vlt_dtype_nullability_superset(&s[0].dtype, &s[0].dtype, &answer));
+    asked = heap_asked;
+    YES(vlt_path_eq(&s[1].path, &s[1].path, &answer));
+    HOLDS(heap_asked > asked);
+    YES(vlt_path_overlap(&s[1].path, &s[1].path, &answer));
+    YES(vlt_set_eq(&s[2].set, &s[2].set, &answer));
+    YES(vlt_set_is_subset(&s[2].set, &s[2].set, &answer));
+    NO(vlt_set_is_disjoint(&s[2].set, &s[2].set, &answer));
+    YES(vlt_mask_eq(&s[3].mask, &s[3].mask, &answer));
+    DONE(vlt_dtype_merge_nullability(&s[0].dtype, &s[0].dtype, &s[4].dtype));
+    HAS(&s[4], "{a=i32, b=list(utf8?)}");
+    DONE(vlt_dtype_intersect_nullability(&s[0].dtype, &s[0].dtype, &s[4].dtype));
+    DONE(vlt_dtype_merge_columns(&s[0].dtype, &s[0].dtype, &s[5].dtype));
+    YES(vlt_dtype_eq(&s[4].dtype, &s[5].dtype, &answer));
+    NONE(vlt_dtype_merge_conflict(&s[0].dtype, &s[0].dtype, &s[1].path, &s[4].dtype, &s[5].dtype));
+    IS(VLT_ERROR_DUPLICATE_NAMES, vlt_struct_disjoint_merge(&s[0].dtype, &s[0].dtype, &s[4].dtype, &s[6].error));
+    DONE(vlt_dtype_map(&s[0].dtype, &s[0].dtype, false, false, &s[4].dtype, &s[6].error));
+    HAS(&s[4], "map({a=i32, b=list(utf8?)}, {a=i32, b=list(utf8?)}, keys_sorted=false)");
+    DONE(vlt_set_union(&s[2].set, &s[2].set, &s[5].set));
+    YES(vlt_set_eq(&s[2].set, &s[5].set, &answer));
+    /* (what is written may not be what is read, and an empty slot stays one) */
+    IS(VLT_SAME_SLOT, vlt_dtype_merge_columns(&s[0].dtype, &s[0].dtype, &s[0].dtype));
+    IS(VLT_KIND, vlt_set_contains(&s[2].set, (vlt_path *)&s[2], &answer));
+    vlt_dtype_free(&s[4].dtype);
+    answer = true;
+    IS(VLT_KIND, vlt_dtype_eq(&s[4].dtype, &s[4].dtype, &answer));
+    HOLDS(answer);
+    HAS(&s[0], "{a=i32, b=list(utf8?)}");
+    free_all(s, 7);
+}
+
+/* Stores an error in the slot. */
+static void fails(any *slot) {
+    any dtype = VLT_EMPTY;
+    IS(VLT_ERROR_PRECISION_ZERO, vlt_dtype_decimal(0, 0, false, &dtype.dtype, &slot->error));
+    HOLDS(slot->slot.at != NULL);
+}
+
+/* Errors with their data. Each call that takes an error first empties its slot, whatever it returns then. */
 static void errors(void) {
     any s[3] = {VLT_EMPTY, VLT_EMPTY, VLT_EMPTY}, why = VLT_EMPTY, path = VLT_EMPTY;
     const size_t lengths[2] = {1, 1};
     uint32_t number = 77;
     size_t length = 77;
-    void *had;
     IS(VLT_KIND, vlt_error_number(&why.error, &number));
     IS(VLT_KIND, vlt_error_position(&why.error, &length));
     IS(VLT_KIND, vlt_error_message(&why.error, NULL, 0, &length));
     IS(102, vlt_dtype_decimal(77, 0, false, &s[0].dtype, &why.error));
     HOLDS(vlt_kind(&why.slot) == VLT_OBJECT_ERROR && s[0].slot.at == NULL);
     IS_ERROR(&why, 2, 0, "decimal precision 77 exceeds MAX_PRECISION 76");
-    had = why.slot.at;
     DONE(vlt_dtype_from_text(TEXT("{a=i32, b=utf8?}"), &s[0].dtype, &why.error));
+    HOLDS(why.slot.at == NULL);
+    fails(&why);
     IS(VLT_UTF8, vlt_dtype_from_text(TEXT("\xff"), &s[1].dtype, &why.error));
+    HOLDS(why.slot.at == NULL);
+    fails(&why);
     IS(VLT_KIND, vlt_dtype_map(&s[0].dtype, &s[1].dtype, false, false, &s[2].dtype, &why.error));
-    HOLDS(why.slot.at == had);
+    HOLDS(why.slot.at == NULL);
+    fails(&why);
+    IS(VLT_RANGE, vlt_dtype_from_text(NULL, 1, &s[1].dtype, &why.error));
+    HOLDS(why.slot.at == NULL);
+    fails(&why);
+    IS(VLT_SAME_SLOT, vlt_dtype_map(&s[0].dtype, &s[1].dtype, false, false, &s[0].dtype, &why.error));
+    HOLDS(why.slot.at == NULL);
     IS(VLT_ERROR_FIELD_NOT_FOUND, vlt_struct_project(&s[0].dtype, TEXT("bc"), lengths, 2, &s[1].dtype, &why.error));
     IS_ERROR(&why, 16, 0, "field 1 of the projection not found");
     IS(VLT_UNREADABLE, vlt_dtype_from_text(TEXT("{a=i33}"), &s[1].dtype, &why.error));
@@ -897,25 +962,25 @@ static void messages(void) {
     DONE(vlt_message_to_dtype(&s[0].message, false, &s[1].dtype, NULL));
     HAS(&s[1], "{a=list(i32)?}");
     DONE(vlt_dtype_to_message(&s[1].dtype, &s[2].message));
-    DONE(vlt_message_eq(&s[0].message, &s[2].message));
+    YES(vlt_message_eq(&s[0].message, &s[2].message, &answer));
     DONE(vlt_message_copy(&s[0].message, &s[3].message));
-    DONE(vlt_message_eq(&s[0].message, &s[3].message));
+    YES(vlt_message_eq(&s[0].message, &s[3].message, &answer));
     DONE(vlt_message_from_nodes(unknown, 3, TEXT("x.tag"), &s[2].message));
-    NONE(vlt_message_eq(&s[0].message, &s[2].message));
+    NO(vlt_message_eq(&s[0].message, &s[2].message, &answer));
     IS(135, vlt_message_to_dtype(&s[2].message, false, &s[1].dtype, NULL));
     IS(135, vlt_message_normal(&s[2].message, false, &s[1].message, NULL));
     HAS(&s[1], "{a=list(i32)?}");
     DONE(vlt_message_to_dtype(&s[2].message, true, &s[1].dtype, NULL));
     HAS(&s[1], "x.tag[0x](utf8)");
     DONE(vlt_message_normal(&s[2].message, true, &s[3].message, NULL));
-    NONE(vlt_message_eq(&s[2].message, &s[3].message));
+    NO(vlt_message_eq(&s[2].message, &s[3].message, &answer));
     DONE(vlt_dtype_to_message(&s[1].dtype, &s[2].message));
-    DONE(vlt_message_eq(&s[2].message, &s[3].message));
+    YES(vlt_message_eq(&s[2].message, &s[3].message, &answer));
     DONE(vlt_message_from_nodes(none, 1, NULL, 0, &s[2].message));
     IS(124, vlt_message_to_dtype(&s[2].message, true, &s[1].dtype, NULL));
     DONE(vlt_message_from_nodes(no_types, 2, TEXT("a"), &s[2].message));
     IS(132, vlt_message_normal(&s[2].message, true, &s[1].message, NULL));
-    IS(VLT_SAME_SLOT, vlt_message_eq(&s[2].message, &s[2].message));
+    YES(vlt_message_eq(&s[2].message, &s[2].message, &answer));
     IS(VLT_SAME_SLOT, vlt_message_to_dtype(&s[2].message, true, &s[2].dtype, NULL));
     IS(VLT_KIND, vlt_message_to_dtype(&s[1].message, true, &s[2].dtype, NULL));
     IS(VLT_KIND, vlt_dtype_to_message(&s[2].dtype, &s[1].message));
@@ -949,7 +1014,7 @@ static void nodes(void) {
             HOLDS(found[4].nullable == 'x' && texts[2] == 'x');
         }
     DONE(vlt_message_from_nodes(wanted, 4, TEXT("id"), &s[0].message));
-    DONE(vlt_message_eq(&s[0].message, &s[1].message));
+    YES(vlt_message_eq(&s[0].message, &s[1].message, &answer));
     DONE(vlt_message_to_dtype(&s[0].message, false, &s[1].dtype, NULL));
     HAS(&s[1], text);
     IS(VLT_RANGE, vlt_message_from_nodes(wanted, 3, TEXT("id"), &s[1].message));
@@ -1011,10 +1076,10 @@ static void copied_slots(void) {
     type_of(&s[0], "{a=i32}");
     type_of(&s[1], "utf8");
     copy = s[0];
-    IS(VLT_SAME_SLOT, vlt_dtype_eq(&s[0].dtype, &copy.dtype));
+    YES(vlt_dtype_eq(&s[0].dtype, &copy.dtype, &answer));
     IS(VLT_SAME_SLOT, vlt_dtype_copy(&s[0].dtype, &copy.dtype));
     IS(VLT_SAME_SLOT, vlt_dtype_merge_nullability(&s[0].dtype, &s[1].dtype, &copy.dtype));
-    IS(VLT_SAME_SLOT, vlt_path_resolve(&s[0].dtype, &copy.path, &s[1].dtype));
+    IS(VLT_KIND, vlt_path_resolve(&s[0].dtype, &copy.path, &s[1].dtype));
     d[0] = s[0];
     d[1] = s[0];
     IS(VLT_SAME_SLOT, vlt_set_extend(&s[1].set, &d[0].path, 2, &number));
@@ -1024,7 +1089,7 @@ static void copied_slots(void) {
     HAS(&s[0], "{a=i32}");
     HAS(&s[1], "utf8");
     /* (two empty slots have no object in common) */
-    IS(VLT_KIND, vlt_dtype_eq(&s[2].dtype, &s[3].dtype));
+    IS(VLT_KIND, vlt_dtype_eq(&s[2].dtype, &s[3].dtype, &answer));
     free_all(s, 4);
 }
 
@@ -1099,6 +1164,54 @@ static void long_arrays(void) {
 }
 
 /* A long array without a repeated object, of slots that are empty. */
+/* A call whose argument is wrong, and the name of this argument. */
+#define WRONG(wanted, name, call) \
+    do { \
+        IS(wanted, call); \
+        check(vlt_wrong_argument() && strcmp(vlt_wrong_argument(), name) == 0, __LINE__, #call, 0); \
+    } while (0)
+
+static void wrong_arguments(void) {
+    any dtype = {{0}}, other = {{0}}, path = {{0}}, out = {{0}}, empty = {{0}}, set = {{0}};
+    vlt_path two[2] = {VLT_EMPTY, VLT_EMPTY};
+    vlt_node node;
+    size_t length = 0, too_long = 5;
+    memset(&node, 0, sizeof node);
+    node.kind = 14;
+    type_of(&dtype, "{a=i8}");
+    type_of(&other, "i8");
+    path_of(&path, "a");
+    DONE(vlt_set_new(&set.set));
+    WRONG(VLT_KIND, "element", vlt_dtype_list(&empty.dtype, false, &out.dtype));
+    WRONG(VLT_KIND, "element", vlt_dtype_list(&path.dtype, false, &out.dtype));
+    WRONG(VLT_KIND, "dtype", vlt_path_resolve(&path.dtype, &path.path, &out.dtype));
+    WRONG(VLT_KIND, "path", vlt_path_resolve(&dtype.dtype, &dtype.path, &out.dtype));
+    WRONG(VLT_KIND, "path", vlt_path_resolve(&dtype.dtype, &other.path, &out.dtype));
+    WRONG(VLT_KIND, "paths", vlt_set_extend(&set.set, two, 2, &length));
+    WRONG(VLT_KIND, "one", vlt_dtype_eq(&path.dtype, &dtype.dtype, &answer));
+    WRONG(VLT_KIND, "other", vlt_dtype_eq(&dtype.dtype, &path.dtype, &answer));
+    WRONG(VLT_SAME_SLOT, "out", vlt_dtype_list(&dtype.dtype, false, &dtype.dtype));
+    WRONG(VLT_SAME_SLOT, "error", vlt_dtype_decimal(1, 0, false, &out.dtype, &out.error));
+    WRONG(VLT_UTF8, "text", vlt_dtype_from_text((const uint8_t *)"\xff", 1, &out.dtype, NULL));
+    WRONG(VLT_UTF8, "id", vlt_dtype_extension((const uint8_t *)"\xff", 1, TEXT("m"), &dtype.dtype, &out.dtype));
+    WRONG(VLT_CONDITION, "dtype", vlt_struct_nfields(&other.dtype, &length));
+    WRONG(VLT_CONDITION, "one", vlt_struct_disjoint_merge(&other.dtype, &dtype.dtype, &out.dtype, NULL));
+    WRONG(VLT_CONDITION, "other", vlt_struct_disjoint_merge(&dtype.dtype, &other.dtype, &out.dtype, NULL));
+    WRONG(VLT_RANGE, "number", vlt_dtype_primitive(11, false, &out.dtype));
+    WRONG(VLT_RANGE, "name_lengths", vlt_path_from_steps(TEXT("a"), &too_long, 1, &out.path));
+    WRONG(VLT_RANGE, "nodes", vlt_message_from_nodes(&node, 1, NULL, 0, &out.message));
+    WRONG(VLT_RANGE, "code", vlt_error_text(37, NULL, 0, &length));
+    WRONG(VLT_RANGE, "buffer", vlt_dtype_to_text(&dtype.dtype, NULL, 1, &length));
+    /* A result that says something else leaves the name as it was. */
+    IS(VLT_SMALL, vlt_dtype_to_text(&dtype.dtype, NULL, 0, &length));
+    DONE(vlt_struct_nfields(&dtype.dtype, &length));
+    HOLDS(strcmp(vlt_wrong_argument(), "buffer") == 0);
+    vlt_free(&dtype.slot);
+    vlt_free(&other.slot);
+    vlt_free(&path.slot);
+    vlt_free(&set.slot);
+}
+
 static void empty_slots(void) {
     any s[2] = {VLT_EMPTY, VLT_EMPTY};
     vlt_path *paths = (vlt_path *)calloc(3000, sizeof *paths);
@@ -1123,6 +1236,7 @@ static void all(void) {
     if (heap_refused == 0) {
         long_arrays();
         empty_slots();
+        wrong_arguments();
     }
     texts();
     constructors();
@@ -1139,6 +1253,7 @@ static void all(void) {
     sets();
     set_relations();
     errors();
+    passed_twice();
     messages();
     nodes();
     if (heap_refused == 0)

@@ -62,7 +62,17 @@ static void check(int is_right, const char *what, const char *found) {
         printf("gdal.c: %s: found %s\n", what, found);
 }
 
-/* Reads the type of a layer from its stream, and compares its text. */
+/* Puts a shorter text in the place of another, if that is there. */
+static void replace(char *text, const char *by, const char *other) {
+    char *found = strstr(text, other);
+    if (!found)
+        return;
+    memcpy(found, by, strlen(by));
+    memmove(found + strlen(by), found + strlen(other), strlen(found + strlen(other)) + 1);
+}
+
+/* Reads the type of a layer from its stream, and compares its text. (A newer GDAL says of a text that it is JSON, and that the times
+ * of a GeoPackage are those of UTC.) */
 static void is_read(const char *what, OGRLayerH layer, const char *wanted) {
     char text[2048] = "";
     size_t length = 0;
@@ -79,6 +89,8 @@ static void is_read(const char *what, OGRLayerH layer, const char *wanted) {
     else
         check(vlt_error_message(&error, (uint8_t *)text, sizeof text - 1, &length) == VLT_DONE, what, "no message");
     text[length] = '\0';
+    replace(text, "utf8?", "arrow.json[0x](utf8?)");
+    replace(text, "[0x020000]", "[0x020300555443]");
     check(strcmp(text, wanted) == 0, what, text);
     check(schema.release != NULL, what, "a schema that was released");
     schema.release(&schema);

@@ -16,13 +16,14 @@ int main(void) {
     vlt_path_set set = VLT_EMPTY;
     vlt_result result = vlt_path_resolve(&dtype, &path, &found);
     const vlt_dtype *read = &dtype;
-    (void)several, (void)set, (void)read;
+    bool answer = false;
+    (void)several, (void)set, (void)read, (void)answer;
 #if MIXED == 1 /* two objects in the wrong order */
     result = vlt_path_resolve(&path, &dtype, &found);
 #elif MIXED == 2 /* a result in a slot of another kind */
     result = vlt_path_resolve(&dtype, &path, &path);
 #elif MIXED == 3 /* a set in place of a path */
-    result = vlt_set_contains(&set, &set);
+    result = vlt_set_contains(&set, &set, &answer);
 #elif MIXED == 4 /* types in place of paths */
     size_t count = 0;
     result = vlt_set_extend(&set, several, 2, &count);

@@ -44,11 +44,12 @@ static void *work(void *given) {
     size_t number = (size_t)(uintptr_t)given, round;
     vlt_dtype own = VLT_EMPTY, part = VLT_EMPTY;
     uint64_t hash = 0;
+    bool answer = false;
     EXPECT(VLT_DONE, vlt_dtype_copy(&dtypes[number % SHARED], &own));
     for (round = 0; round < rounds; round++) {
         size_t at = (number + round) % SHARED, other = (number + 3 * round + 1) % SHARED;
-        if (at != other)
-            EXPECT(VLT_DONE, vlt_dtype_eq(&dtypes[at], &dtypes[other]));
+        EXPECT(VLT_DONE, vlt_dtype_eq(&dtypes[at], &dtypes[other], &answer));
+        HELD(wrong += !answer);
         EXPECT(VLT_DONE, vlt_dtype_hash(&dtypes[at], &hash));
         EXPECT(VLT_DONE, vlt_path_resolve(&own, &path, &part));
         EXPECT(VLT_DONE, vlt_struct_field(&dtypes[at], TEXT("b"), &part));

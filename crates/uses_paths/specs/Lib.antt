@@ -1,5 +1,0 @@
--- SPDX-License-Identifier: Apache-2.0
--- SPDX-FileCopyrightText: Copyright the Vortex contributors
-
-pub mod Plugins
-pub mod Descending

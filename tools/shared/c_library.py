@@ -1,8 +1,8 @@
 # SPDX-License-Identifier: Apache-2.0
 # SPDX-FileCopyrightText: Copyright the Vortex contributors
 
-"""The library for C, as `tools/bindings/library` and `./dist` make it of the proved one: with the layer that has the public
-functions, with what reads and writes the struct of Arrow, and with the heap."""
+"""The library for C, as `tools/bindings/library` makes it of the proved one: with the layer that has the public functions, with
+what reads and writes the struct of Arrow, and with the heap."""
 import os
 import subprocess
 
@@ -22,9 +22,9 @@ def exported():
     return ran.stdout.split()
 
 
-def soname():
-    """The name by which a program asks for the shared library. It ends in the version of the interface."""
-    with open(f"bindings/c/{CRATE}.h", encoding="utf-8") as it:
+def soname(header=f"bindings/c/{CRATE}.h"):
+    """The name by which a program asks for the shared library that has this header. It ends in the version of the interface."""
+    with open(header, encoding="utf-8") as it:
         line = next(line for line in it if line.startswith("#define VLT_ABI_VERSION "))
     return f"{SHARED}.{line.split()[2].rstrip('u')}"
 
@@ -37,22 +37,11 @@ def compiled(source, folder):
     return made
 
 
-def for_rust(archive, folder, heap):
-    """Makes the library of the Cargo package in a folder, of the proved archive: with what reads and writes the struct of
-    Arrow, and with names of its own for the heap."""
-    made, arrow = f"{folder}/for_rust.a", compiled("arrow", folder)
-    run(["cp", archive, made])
-    run(["ar", "rDs", made, arrow])
-    os.remove(arrow)
-    run(["objcopy", "-D", *(f"--redefine-sym={one}={other}" for one, other in heap.items()), made])
-    return made
-
-
 def build(archive, folder):
     """Makes the static and the shared library in a folder, of the proved archive. The shared library has the symbols of the
     header and no others. Its file has the name of its soname, and a link has the name without the version."""
     os.makedirs(folder, exist_ok=True)
-    parts = [compiled(it, folder) for it in (CRATE, "arrow", "heap")]
+    parts = [compiled(it, folder) for it in (CRATE, "arrow", "argument", "heap")]
     with open(f"{folder}/symbols", "w", encoding="utf-8") as it:
         it.write(f"{{ global: {'; '.join(exported())}; local: *; }};\n")
     run(["cp", archive, f"{folder}/{STATIC}"])

@@ -1,7 +1,7 @@
 # SPDX-License-Identifier: Apache-2.0
 # SPDX-FileCopyrightText: Copyright the Vortex contributors
 
-"""A copy of the repository, without what is built and without the release, in which a test plants a fault."""
+"""A copy of the repository, without what is built, in which a test plants a fault."""
 import os
 import shutil
 import subprocess
@@ -21,7 +21,7 @@ class Planted(unittest.TestCase):
         self.top = tempfile.mkdtemp(prefix="planted-")
         self.addCleanup(shutil.rmtree, self.top)
         top = os.path.dirname(TOOLS)
-        for part in self.parts or set(os.listdir(top)) - {".git", "out", "release"}:
+        for part in self.parts or set(os.listdir(top)) - {".git", "out", "target"}:
             os.makedirs(os.path.dirname(f"{self.top}/{part}"), exist_ok=True)
             if os.path.isdir(f"{top}/{part}"):
                 shutil.copytree(f"{top}/{part}", f"{self.top}/{part}", ignore=BUILT, copy_function=shutil.copy)

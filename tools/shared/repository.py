@@ -29,8 +29,6 @@ Clause = namedtuple("Clause", "kind name text")
 # An impl or a trait: the type, the trait that it is of (of an inherent impl empty, of a trait's declaration its own
 # name), its heading as written, and its ghost members.
 Owner = namedtuple("Owner", "start end kind heading type trait members")
-# A command of the console.
-Row = namedtuple("Row", "file name arguments example answer errors")
 Source = namedtuple("Source", "crate file text code owners")
 # `path` is the name with that of the type, or the trait, that holds the function; before those of messages is `pb::`.
 Function = namedtuple("Function", "file start end owner name path visibility attributes signature clauses body")
@@ -42,8 +40,6 @@ WHERE = re.compile(r"\s*where\b[^{;]*?(?=\s*(?:\brequires\b|\bensures\b|\{|;))")
 BODY = re.compile(r"\s*\{")
 CLAUSE = re.compile(r"\s*(requires|ensures)\*? ?(\w*) ?\{")
 MEMBER = re.compile(r"\bghost (\w+)(?: =|:) \{")
-ROW = re.compile(r"(?m)^    Row\((.*)\),$")
-TEXT = re.compile(r'r#"(.*?)"#|"((?:\\.|[^"\\])*)"')
 GIVEN = re.compile(r"(?m)^pub use [\w:]+?(?:::\{([^}]*)\}|::(\w+)(?: as \w+)?);")
 # What is no code: comments, texts and characters; and ghosts.
 PIECE = re.compile(
@@ -66,14 +62,6 @@ def lines_of(file):
     """The lines of a file, which nothing but a line feed ends."""
     with open(file, encoding="utf-8", newline="\n") as it:
         return it.read().split("\n")[:-1]
-
-
-def answers_of(program, lines):
-    """The answers of a console to these lines, and its status. It is a program with its arguments, and runs in the folder
-    from which the tool was begun."""
-    given = "".join(f"{line}\n" for line in lines).encode()
-    ran = subprocess.run(program, cwd=FROM, input=given, stdout=subprocess.PIPE, check=False)
-    return ran.stdout.decode().split("\n")[:-1], ran.returncode
 
 
 def anchor_of(heading):
@@ -199,14 +187,6 @@ def sources(names=None):
             text = text_of(file)
             code = code_of(text)
             yield Source(crate, file, text, code, owners_in(code))
-
-
-def console_rows():
-    """The rows of the console's tables, each with its file; the errors are those that its commands' answers may be."""
-    for file in sorted(glob("crates/console_core/src/*.rt")):
-        for row in ROW.findall(text_of(file)):
-            texts = [raw or plain.replace('\\"', '"') for raw, plain in TEXT.findall(row)]
-            yield Row(file, *texts[:5])
 
 
 def end_of(shape, start, pair=r"([(\[{])|[)\]}]"):

@@ -2,7 +2,7 @@
 # SPDX-FileCopyrightText: Copyright the Vortex contributors
 
 """The tools that run `rt` or a program, over an `rt` and programs that do as they are told."""
-import shutil
+import os
 import subprocess
 
 from planted import Planted
@@ -10,27 +10,14 @@ from repository import crates
 
 NOT_PROVED = r"printf '== dtype_base\nfn f: not proved: x\nrt: dtype_base NOT PROVED\n7 passed, 1 failed\n'; exit 1"
 KIT = "[ $1 = version ] && echo rattle-kit-1 || echo '  rt ci     {}'"
-# A driver that says the same of all that it can read, and golden files of two lines.
-READS, ROWS = "sed 's/^name_eq a$/unreadable at {1}/; t; s/.*/{0}/'", "rows_from_original bin/driver"
-GOLDEN = "# A name.\n> name a\ntrue\n> name_eq a\nunreadable at 10: expected a name\n"
-# A program that answers these two lines.
-ANSWERS = "cat >/dev/null; echo {}; echo unreadable at 10: expected a name"
-# Lines in the form of tools/shared/long_lines.txt, and what they are in full.
-LONG_LINES = [
-    ("> nfields {«#=u8|, |0..2»}", "> nfields {0=u8, 1=u8, 2=u8}"),
-    ("«list(*2»u8«)*2»", "list(list(u8))"), ("«#.x #-1.y| |4..2 by 2» 0", "4.x 3.y 2.x 1.y 0"),
-    ("«#@255-#=u8|,|254..255»", "254@1=u8,255@0=u8"), ("«a#:03| |9..11»", "a009 a010 a011"),
-    ("0x«7*#:02x||35..37»", "0xf5fc03"),
-]
-FUZZ = "fuzz bin/driver bin/console"
 # A script, what it does, a tool with its arguments, the status, and the texts that are told.
 RUNS = [
     ("bin/rt", "", "repository.py", 0, "/bin/rt\n"),
     ("bin/rt", 'case "$*" in *--test*) echo "test result: ok. 2 passed; 0 failed";; *) echo right;; esac',
-     "tries tests_types dtype_demo", 0, "\n3 passed, 0 failed\n"),
-    ("bin/rt", 'echo "test two ... FAILED"; echo "test result: FAILED. 1 passed; 1 failed"', "tries tests_types", 1,
-     "tries: tests_types: test two ... FAILED"),
-    ("bin/rt", "echo no such thing", "tries tests_types", 1, "tests_types: the tests have no result"),
+     "tries dtype_demo", 0, "\n3 passed, 0 failed\n"),
+    ("bin/rt", 'echo "test two ... FAILED"; echo "test result: FAILED. 1 passed; 1 failed"', "tries tests", 1,
+     "tries: tests: test two ... FAILED"),
+    ("bin/rt", "echo no such thing", "tries tests", 1, "tests: the tests have no result"),
     ("bin/rt", "echo wrong", "tries dtype_demo", 1, "dtype_demo: status 0; where its output differs"),
     ("bin/rt", NOT_PROVED, "run_ci log", 1, f"dtype_base: NOT PROVED ({len(crates()) - 1} crates left)", "    fn f: not proved: x",
      "\n7 passed, 1 failed\n"),
@@ -39,53 +26,45 @@ RUNS = [
      "gate: the kit at hand, rattle-kit-1, keeps what it passed"),
     ("bin/rt", KIT.format("proves every crate from nothing"), "run_ci --expect", 0,
      "gate: the kit at hand, rattle-kit-1, proves everything from nothing in each run"),
+    ("bin/cargo", 'case "$CARGO_TARGET_DIR/" in / | "$PWD"/*) exit 1;; esac; echo "test result: ok. 2 passed; 0 failed; 0 ignored"',
+     "cargo_runs", 0, "\n9 passed, 0 failed\n"),
+    ("bin/cargo", 'case "$*" in *--release*) echo "test two ... FAILED"; echo "test result: FAILED. 1 passed; 2 failed"; exit 101;; '
+     '*) echo "test result: ok. 2 passed; 0 failed";; esac', "cargo_runs", 1, "    test two ... FAILED\n",
+     "cargo_runs: tests, as released: 2 tests failed\n7 passed, 2 failed\n"),
+    ("bin/cargo", "", "cargo_runs", 1, "cargo_runs: tests: no test was run\n", "\n3 passed, 2 failed\n"),
+    ("bin/cargo", 'case "$*" in *clippy*) echo "error: an unused name"; exit 101;; *) echo "test result: ok. 2 passed; 0 failed";; esac',
+     "cargo_runs", 1, "    error: an unused name\ncargo_runs: clippy: it failed\n", "\n8 passed, 1 failed\n"),
     ("bin/rt", "", "faults", 2, "isn't built"),
-    ("bin/driver", "exit 0", ROWS, 1, "0 answers to 2 lines"),
-    ("bin/driver", ANSWERS.format("true"), "golden.py bin/driver", 0, "3 passed, 0 failed\n"),
-    ("bin/driver", ANSWERS.format("false"), "golden.py bin/driver", 1, "golden: name a: false, not true\n2 passed, 1 failed\n"),
-    ("bin/driver", "echo true", "golden.py bin/driver", 1, "golden: 1 answers to 2 lines"),
-    ("bin/driver", READS.format("true", 10), ROWS, 0, "2 passed, 0 failed\n"),
-    ("bin/driver", READS.format("false", 10), ROWS, 1, "rows_from_original: name a: false\n1 passed, 1 failed\n"),
-    ("bin/driver", READS.format("true", 9), f"{ROWS} --write", 1,
-     "name_eq a: unreadable at 9; what is expected there is written by hand"),
-    ("bin/driver", READS.format("false", 10), f"{ROWS} --write", 0, "2 passed, 0 failed\n"),
-    ("bin/driver", READS.format("false", 10), ROWS, 0, "2 passed, 0 failed\n"),
-    ("bin/driver", "sed 's/^/answer of /'", f"{FUZZ} 300", 0, "\n300 passed, 0 failed\n"),
-    ("bin/driver", "sed 's/^/answer of /; 7s/^/no /'", f"{FUZZ} 300", 1, ", not no answer", "\n299 passed, 1 failed\n"),
-    ("bin/driver", "sed 's/^/answer of /; 300d'", f"{FUZZ} 300", 1, "300 lines have 299 answers"),
-    # (that a line can't be read is told by both at the same byte, and what is expected there by the console alone)
-    ("bin/console", "sed 's/.*/unreadable at 3: expected a name/'", f"{FUZZ} 300", 1, " failed\n"),
-    ("bin/driver", "sed 's/.*/unreadable at 3/'", f"{FUZZ} 300", 0, "\n300 passed, 0 failed\n"),
-    ("bin/driver", "sed 's/.*/unreadable at 4/'", f"{FUZZ} 300", 1, "unreadable at 3, not unreadable at 4"),
-    ("bin/console", "sed 's/^/answer of /'", f"{FUZZ} 300", 1, " failed\n"),
-    ("bin/driver", "sed 's/^/answer of /'", f"{FUZZ} 3000", 0, "fuzz: 3000 lines, seed 1"),
 ]
 
 
 class Runs(Planted):
     def test_tells_each(self):
-        for file, text in (("crates/dtype_demo/stdout", "right\n"),
-                           ("crates/dtype_console/stdin", "# A name.\nname a\nname_eq a\n"),
-                           ("crates/dtype_console/stdout", GOLDEN), ("tools/shared/long_lines.txt", "")):
-            self.write(file, text)
-        self.script("console", "sed 's/^/answer of /'")
+        self.write("crates/dtype_demo/stdout", "right\n")
         for file, text, command, status, *told in RUNS:
             with self.subTest(told):
                 self.write(file, f"#!/usr/bin/env bash\n{text}\n", 0o755)
                 ran = self.run_tool(*command.split())
                 self.assertEqual((ran[0], [it for it in told if it not in ran[1]]), (status, []), ran[1])
 
-    def test_runs_what_was_proved_of_these_sources_alone(self):
+    def test_runs_what_was_proved_of_these_sources_or_else_what_cargo_builds(self):
+        demo = lambda *arguments: self.run_tool("../../demo", *arguments)
+        self.script("cargo", "echo cargo 1.84.9 '(of last year)'")
+        nothing = "demo: nothing is built here: install Rust 1.85.0 or later (https://rustup.rs), or give --prove with the toolchain\n"
+        self.assertEqual(demo(), (2, nothing))
+        self.script("cargo", "[ $1 = build ] || exec echo cargo 1.100.0; cat; echo 'echo built' >target/release/dtype_demo")
+        self.write("target/release/dtype_demo", "", 0o755)
+        built = "runs what Cargo built from the sources in this folder, without their proofs\n"
+        self.assertEqual(demo(), (0, f"demo: {built}built\n"))
+        self.assertRegex(demo("--version")[1], rf"^demo \d[\d.]+\n{built}$")
         self.write("crates/dtype_demo/out/dtype_demo", "#!/bin/sh\necho proved\n", 0o755)
-        self.script("rt", 'cat >/dev/null; echo unproved; echo "run=ended " >&2')
-        self.assertEqual(self.run_tool("run_program", "demo", "dtype_demo")[1], "proved\n")
+        self.assertEqual(demo(), (0, "proved\n"))
+        self.script("rt", "echo proves $1 in ${PWD##*/}")
+        self.assertEqual(demo("--prove"), (0, "demo: it is proved already\n"))
         self.write("crates/dtype_base/src/ptype.rt", "changed\n")
-        self.assertIn("unproved\n", self.run_tool("run_program", "demo", "dtype_demo")[1])
-
-    def test_tells_a_console_that_answers_nothing(self):
-        self.write("crates/dtype_console/out/dtype_console", "#!/bin/sh\n[ -t 0 ] || cat >/dev/null\n", 0o755)
-        self.assert_told("console_runs", "['-c', 'find b {a=i32, b=u8}']: (0, '', '')", "the first line is ''",
-                         "help shows the topics []", "300,000 lines: ")
+        self.assertEqual(demo(), (0, f"demo: {built}built\n"))
+        self.assertTrue(demo("--prove")[1].endswith("\nproves run in dtype_demo\n"))
+        self.assertEqual(demo("more")[0], 2)
 
     def test_tells_a_demo_that_answers_nothing(self):
         for file, text in (("stdin", "a\n"), ("stdout", "$a = none\ncover: $a\n")):
@@ -95,16 +74,6 @@ class Runs(Planted):
                          "b'a', 3 bytes a call: status 0", "4096 bytes, 2 bytes a call: 0 reads", "two bytes a call: 0 reads, 0 writes",
                          "an input of 7 bytes: status 0", "no allocation fails: it made none", "names, on a stack of ",
                          "equal ends, in 2 seconds: status 0", "memory of 4194304 KB: status 0")
-
-    def test_writes_the_lines_of_the_transcript(self):
-        self.write("crates/dtype_console/stdout", f"{GOLDEN}\n# Another.\n")
-        self.assertEqual(self.run_tool("golden.py"), (0, ""))
-        self.assertEqual(self.read("crates/dtype_console/stdin"), "# A name.\nname a\nname_eq a\n\n# Another.\n")
-
-    def test_writes_long_lines_in_full(self):
-        self.write("short", "".join(f"{it}\n" for it, _ in LONG_LINES))
-        said = self.run_tool("long_lines.py", "short")
-        self.assertEqual(said, (0, "".join(f"{it}\n" for _, it in LONG_LINES)))
 
     def test_has_names_of_one_hash_in_order(self):
         names = self.read("tools/gate/names_of_one_hash").split()
@@ -126,49 +95,66 @@ class Runs(Planted):
         self.assertEqual(said.splitlines()[-1], "| find/wide/10 | 10.0 |")
 
 
-class Sizes(Planted):
-    """Over a console that answers each line by a word."""
+class Console(Planted):
+    """The script ./console, over a Cargo that keeps what it was called with."""
 
-    def asked(self, answer):
-        self.write("bin/console", f"#!/usr/bin/env python3\nimport sys\nfor line in sys.stdin.read().splitlines():\n    print({answer})\n",
-                   0o755)
-        return self.run_tool("sizes", "bin/console")
+    parts = ["console", "tools", "Cargo.toml", "crates.txt", "rust/console/src"]
+    PROGRAM = "target/release/console"
 
-    def test_asks_each_command_in_each_size(self):
-        status, said = self.asked("'ok'")
-        self.assertRegex(said, r"^sizes: 6\d,\d{3} lines\n\d+ passed, 0 failed\n$")
-        self.assertEqual(status, 0)
+    def setUp(self):
+        super().setUp()
+        self.cargo()
 
-    def test_tells_a_body_that_gives_up_for_one_size(self):
-        for line, told in (("path_text " + ".".join(["[]"] * 56), "sizes: path_text [].[].[]"),
-                           ("cover " + " ".join(f"f{it}" for it in range(23)), "sizes: cover f0 f1 f2 ")):
-            status, said = self.asked(f"'ok' if line != '{line}' else 'refused 0: out of memory'")
-            self.assertIn(told, said)
-            self.assertEqual((status, said.splitlines()[-1].partition(", ")[2]), (1, "1 failed"), said)
+    def cargo(self, version="1.85.0", does=""):
+        self.script("cargo", f"""[ "$1" != --version ] || exec echo cargo {version}
+            echo "$@" >>{self.top}/called
+            mkdir -p {self.top}/target/release
+            printf '#!/bin/sh\\necho ran \"$@\"\\ncat\\n' >{self.top}/{self.PROGRAM}
+            chmod +x {self.top}/{self.PROGRAM}
+            {does}""")
+
+    def run_it(self, *arguments):
+        """The status of the script, its output and its errors, and whether Cargo was called."""
+        ran = subprocess.run([f"{self.top}/console", *arguments], input="lines\n", capture_output=True, text=True, check=False,
+                             env={**os.environ, "PATH": f"{self.top}/bin:{os.environ['PATH']}"})
+        is_called = os.path.exists(f"{self.top}/called")
+        if is_called:
+            os.remove(f"{self.top}/called")
+        return ran.returncode, ran.stdout, ran.stderr, is_called
+
+    def test_builds_it_once_and_says_so(self):
+        said = "console: builds the program with Cargo, which takes a minute or two\n"
+        self.assertEqual(self.run_it("-c", "a b"), (0, "ran -c a b\nlines\n", said, True))
+        self.assertEqual(self.run_it("--strict"), (0, "ran --strict\nlines\n", "", False))
+        self.write("rust/console/src/lib.rs", "changed\n")
+        self.assertEqual(self.run_it()[2:], (said, True))
+
+    def test_says_what_to_install(self):
+        self.cargo("1.63.0")
+        self.assertEqual(self.run_it(), (2, "", "console: it isn't built here: install Rust 1.85.0 or later (https://rustup.rs)\n", False))
+
+    def test_fails_if_cargo_does(self):
+        self.cargo(does="exit 101")
+        self.assertEqual(self.run_it()[0], 101)
 
 
 class RefusedMemory(Planted):
-    """Over a console that allocates in each of four ways once a line, the first again where it failed, so that it fails
-    where all after it fail too; and the same as a program of one call."""
+    """Over a program of one call that allocates in each of four ways, the first again where it failed, so that it fails where
+    all after it fail too."""
 
     PROGRAM = """#include <stdio.h>
     #include <stdlib.h>
     #include <unistd.h>
     static int mark(const char *line, size_t length) { return write(2, line, length) != (ssize_t)length; }
     int main(void) {
-        static char in[1 << 12], line[64];
-        setvbuf(stdin, in, _IOFBF, sizeof in), setvbuf(stdout, NULL, _IONBF, 0);
-        for (int once = 1; %s; once = 0) {
-            void *before = malloc(8);
-            if (mark("begin\\n", 6)) return 1;
-            void *first = malloc(8), *plain = first ? first : malloc(8);
-            void *zeroed = calloc(2, 4), *kept = realloc(NULL, 8), *moved = realloc(before, 1 << 20);
-            line[1] = 0;
-            puts(plain && zeroed && kept && moved ? %s : %s);
-            free(plain), %s, free(kept), free(moved ? moved : before);
-            if (mark("end\\n", 4)) return 1;
-        }
-        return %s;
+        setvbuf(stdout, NULL, _IONBF, 0);
+        void *before = malloc(8);
+        if (mark("begin\\n", 6)) return 1;
+        void *first = malloc(8), *plain = first ? first : malloc(8);
+        void *zeroed = calloc(2, 4), *kept = realloc(NULL, 8), *moved = realloc(before, 1 << 20);
+        puts(plain && zeroed && kept && moved ? "cover {a}: done" : %s);
+        free(plain), %s, free(kept), free(moved ? moved : before);
+        return mark("end\\n", 4);
     }
     """
 
@@ -193,48 +179,37 @@ class RefusedMemory(Planted):
     }
     """
 
-    def build(self, crate, program, *parts):
-        self.write(f"crates/{crate}/out/it.c", program % parts)
-        made = f"{self.top}/crates/{crate}/out/{crate}"
-        subprocess.run(["cc", "-O0", "-fno-builtin", "-o", made, f"{self.top}/crates/{crate}/out/it.c"], check=True)
+    def build(self, stdout, program, *parts):
+        out = "crates/tests/out"
+        self.write("crates/tests/stdout", stdout)
+        self.write(f"{out}/it.c", program % parts)
+        made = f"{self.top}/{out}/tests"
+        subprocess.run(["cc", "-O0", "-fno-builtin", "-o", made, f"{self.top}/{out}/it.c"], check=True)
 
-    def run_with(self, refused='"refused 0: out of memory"', freed="free(zeroed)"):
-        lines = ["name a", "set s insert a", "set s iter"]
-        self.write("crates/dtype_console/stdin", "".join(f"{it}\n" for it in lines))
-        self.write("crates/dtype_console/stdout", "".join(f"> {it}\n{it[0]}\n" for it in lines))
-        self.write("tools/shared/long_lines.txt", "")
-        self.write("crates/tests_allocations/stdout", "cover {a}: done\n")
-        last = 'mark("begin\\n", 6) || mark("end\\n", 4)'
-        self.build("dtype_console", self.PROGRAM, "fgets(line, sizeof line, stdin)", "line", refused, freed, last)
-        self.build("tests_allocations", self.PROGRAM, "once", '"cover {a}: done"', '"cover {a}: out of memory"', "free(zeroed)", "0")
+    def run_with(self, refused='"cover {a}: out of memory"', freed="free(zeroed)"):
+        self.build("cover {a}: done\n", self.PROGRAM, refused, freed)
 
     def test_counts_each_allocation(self):
-        """Of the tests of the set each fails alone, so that the other answers as ever."""
         self.run_with()
-        told = "refused_memory: 24 allocations of 3 golden tests failed in turn\n4 passed, 0 failed\n"
+        told = "refused_memory: 8 allocations of 1 calls failed in turn\n1 passed, 0 failed\n"
         self.assertEqual(self.run_tool("refused_memory"), (0, told))
 
-    def test_runs_one_program_alone(self):
-        self.run_with()
-        for program, last in (("tests_allocations", "1 passed, 0 failed"), ("dtype_console", "3 passed, 0 failed")):
-            self.assertEqual(self.run_tool("refused_memory", program)[1].splitlines()[-1], last)
-        self.assertEqual(self.run_tool("refused_memory", "dtype_demo")[0], 2)
+    def test_gives_up_without_a_program(self):
+        self.assertEqual(self.run_tool("refused_memory")[0], 2)
 
     def test_tells_an_answer_that_is_wrong_without_memory(self):
-        self.run_with(refused='"b"')
-        self.assert_told("refused_memory", "refused_memory: name a: allocation ")
+        self.run_with(refused='"cover {a}: failed"')
+        self.assert_told("refused_memory", "refused_memory: cover {a}: allocation ")
 
     def test_tells_memory_that_is_held(self):
         self.run_with(freed="(void)0")
-        self.assert_told("refused_memory", "name a: with enough memory 'n', and 1 blocks held")
+        self.assert_told("refused_memory", "cover {a}: with enough memory 'cover {a}: done', and 1 blocks held")
 
     def extend_with(self, held="held", more="0"):
         """Over such a program, whose failed `extend` has so many paths, and makes so many more allocations."""
-        self.run_with()
         told = ["cover {a}: ok, 1", f"extend {{}} by a b: ok, {2 + int(more)}",
                 *(f"item {it} of extend {{}} by a b: ok, 1" for it in (0, 1))]
-        self.write("crates/tests_allocations/stdout", "".join(f"{it}\n" for it in told))
-        self.build("tests_allocations", self.EXTENDS, held, more)
+        self.build("".join(f"{it}\n" for it in told), self.EXTENDS, held, more)
 
     def test_tells_at_which_path_an_extend_stopped(self):
         self.extend_with()

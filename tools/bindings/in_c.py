@@ -4,6 +4,7 @@
 """What is written for C: the header's declarations, the layer over the proved functions, what arrow.c declares, and the
 random calls."""
 import re
+import textwrap
 
 from exports import (CHANGES, MEMORY, NUMBER, OUT, PUTS, READS, SLICE, SLOT, SLOTS, TELLS, abi_version, dtype_kinds, errors,
                      exports, give_up, is_internal, mask_kinds, object_kinds, primitive_types, results, structs,
@@ -22,12 +23,22 @@ TYPES = {"type_in": ("dtype", "a type"), "path_in": ("path", "a path"), "set_in"
          "paths_in": ("path_list", "a list of paths"), "mask_in": ("mask", "a mask"),
          "message_in": ("message", "the message of a type"), "fields_in": ("fields", "names with types"),
          "error_in": ("error", "an error")}
-# The public functions that are written by hand, in bindings/c/arrow.c.
-BY_HAND = ["vlt_dtype_from_arrow", "vlt_dtype_to_arrow", "vlt_arrow_capsule"]
+# The public functions that are written by hand, in the layer and in bindings/c/arrow.c.
+BY_HAND = ["vlt_wrong_argument", "vlt_dtype_from_arrow", "vlt_dtype_to_arrow", "vlt_arrow_capsule"]
 C = {"bool": "bool", "usize": "size_t", **{f"{sign}{width}": f"{'u' * (sign == 'u')}int{width}_t"
                                           for sign in "ui" for width in (8, 16, 32, 64)}}
 # A number in a comment that a call returns, or a range of them; and the function whose errors a call has.
 STATED = re.compile(r"\b(1[0-3]\d)(?! levels| others)(?: to (1[0-3]\d))?\b|\b(10|\d)(?=,? if\b| for\b)|(?<=eturns )(10|\d)\b")
+# The same with the numbers that are only compared with a result.
+NAMED = re.compile(r"\b(1[0-3]\d)(?! levels| others| less)(?: to (1[0-3]\d))?\b|\b(?<!it is )(10|\d)(?=,? if\b)|(?<=eturns )(10|\d)\b"
+                   r"|(?<=eturn )(10|\d)\b|(?<=another number than )(0)\b")
+# How the comment of a proved function says what it answers: 0 for yes and 1 for no.
+YES_OR_NO = (
+    (re.compile(r"Returns 0 if ([^.]+?),(?: and)? 1 if [^.,]+, and (\d) if"), r"Writes to `answer` whether \1. Returns \2 if"),
+    (re.compile(r"Returns 0 if ([^.]+?),(?: and)? 1 if [^.,]+\."), r"Writes to `answer` whether \1."),
+    (re.compile(r"Returns 0 if ([^.]+)\. Returns 1 if ([^.]+)\."), r"Writes to `answer` whether \1. It isn't if \2."),
+    (re.compile(r"it returns 0 for"), "it is true for"),
+)
 SAME_AS = re.compile(r"errors are those of `(\w+)`")
 # Results that a contract allows, as far as the words in it tell, and that can't come.
 NEVER = {("vlt_dtype_union_nullability", 5): "a type doesn't become non-nullable"}
@@ -50,7 +61,29 @@ def pairs_of(export):
     slots = [it for it in export.parameters if it.form in (SLOT, SLOTS)]
     if sum(it.form == SLOTS for it in slots) > 1:
         give_up("bindings", f"{export.name}: two arrays of slots aren't one of the forms that these declarations know")
-    return [(one, other) for at, one in enumerate(slots) for other in slots[at + 1:]]
+    pairs = [(one, other) for at, one in enumerate(slots) for other in slots[at + 1:]]
+    return [it for it in pairs if it != read_twice(export)]
+
+
+def read_twice(export):
+    """The two slots that a call only reads, if there are two. They may be one slot, or have one object, unless nothing copies
+    objects of their kind."""
+    read = [it for it in export.parameters if it.form == SLOT and it.role == READS]
+    if len(read) > 2:
+        give_up("bindings", f"{export.name}: three slots that are read aren't one of the forms that these declarations know")
+    may_be_one = len(read) == 2 and (read[0].kind != read[1].kind or copy_of(read[0]))
+    return tuple(read) if may_be_one else None
+
+
+def is_copied(export):
+    """Whether the layer copies an object that is passed twice. Otherwise one of the two has another kind than it should."""
+    read = read_twice(export)
+    return bool(read) and read[0].kind == read[1].kind
+
+
+def is_question(export):
+    """Whether a proved function answers yes or no by its result, so that the layer writes the answer to a `bool`."""
+    return any(it.split()[0] == "Answers" for it in export.clauses)
 
 
 # What a call returns
@@ -83,7 +116,8 @@ def returned(export):
         return sorted(found)
     added = {8} if is_apart(export) else set()
     added |= {9} if any(it.form in (SLICE, SLOTS) for it in export.parameters) else set()
-    return sorted(found & export.numbers | added)
+    added |= {100} if is_copied(export) else set()
+    return sorted((found & export.numbers) - ({1} if is_question(export) else set()) | added)
 
 
 def unstated(export):
@@ -114,6 +148,38 @@ def wrapped(text):
             lines.append("")
         lines[-1] = f"{lines[-1]} {word}".strip()
     return lines
+
+
+def blocks_of(doc):
+    """The paragraphs and the items of lists of a comment, each as its lines."""
+    block = []
+    for line in doc:
+        if block and (not line or not block[0] or line.startswith("- ")):
+            yield block
+            block = []
+        block.append(line)
+    yield block
+
+
+def in_words_of_c(export):
+    """The comment of a function, with the names of results, and of a question with where its answer goes."""
+    names, known = names_of_results(), set(stated(export)) | {0}
+
+    def name(found):
+        first, last, *one = found.groups()
+        numbers = [int(it) for it in (first, last, *one) if it]
+        is_result = not export.is_plain and (numbers[0] >= MEMORY or numbers[0] in known)
+        return " to ".join(names[it] for it in numbers) if is_result and all(it in names for it in numbers) else found[0]
+
+    for block in blocks_of(export.doc):
+        old = " ".join(it.strip() for it in block)
+        new = old
+        for pattern, words in YES_OR_NO if is_question(export) else ():
+            new = pattern.sub(words, new)
+        new = NAMED.sub(name, new)
+        indent = "  " if new.startswith("- ") else ""
+        yield from block if new == old else textwrap.wrap(
+            new, WIDTH - 4, subsequent_indent=indent, break_long_words=False, break_on_hyphens=False)
 
 
 # Declarations
@@ -162,6 +228,12 @@ def declared(it):
     return [pointer, f"size_t {it.name}_len"] if it.form in (SLOTS, SLICE) else [pointer]
 
 
+def all_declared(export):
+    """The declarations of all parameters in the header."""
+    answer = ["bool *answer"] * is_question(export)
+    return [*(one for each in export.parameters for one in declared(each)), *answer] or ["void"]
+
+
 def result_of(export):
     return "void" if not export.result else C[export.result] if export.is_plain else "vlt_result"
 
@@ -192,7 +264,9 @@ def head_lines():
     """What stands before the functions: numbers and types."""
     yield from ["/* The version of the interface that this header declares. vlt_abi_version returns that of the library. */",
                 f"#define VLT_ABI_VERSION {abi_version()}u"]
-    named = [*results(), *(it._replace(name=f"ERROR_{it.name}") for it in errors())]
+    # (An answer is a result of the proved functions alone.)
+    named = [it._replace(doc=re.sub(r", or the answer is \w+", "", it.doc)) for it in results()]
+    named += [it._replace(name=f"ERROR_{it.name}") for it in errors()]
     yield from enum_lines("vlt_result", "What a call returns. From 101 on it is 100 and the number of the library's error.",
                           "VLT_", named)
     yield from enum_lines("vlt_dtype_kinds", "The kinds of types, which vlt_dtype_kind writes.", "VLT_DTYPE_", dtype_kinds())
@@ -218,10 +292,9 @@ def header_lines():
             part = part_of(it.name)
             yield from ["", "", f"/* == {PARTS.get(part, GENERAL)} == */"]
             yield from free_lines(part)
-        parameters = [one for each in it.parameters for one in declared(each)] or ["void"]
-        yield from ["", *comment([*it.doc, *sentence_of(it)])]
+        yield from ["", *comment([*in_words_of_c(it), *sentence_of(it)])]
         must_use = "VLT_MUST_USE " * (result_of(it) == "vlt_result")
-        yield from filled(f"{must_use}{result_of(it)} {it.name}(", parameters, ");")
+        yield from filled(f"{must_use}{result_of(it)} {it.name}(", all_declared(it), ");")
 
 
 def free_lines(part):
@@ -270,43 +343,120 @@ def given(it):
     return [f"{it.name} ? {cast if it.form == SLOTS else ''}{it.name} : {cast}no_items", f"{it.name}_len"]
 
 
+def tested(it, tests, result="VLT_SAME_SLOT"):
+    """The lines that return a result where one of these tests of C is true, by which this parameter is wrong."""
+    if not tests:
+        return
+    line = f"    if ({JOINED.join(tests)})"
+    yield from [line] if len(line) <= WIDTH else [
+        f"    if ({tests[0]}", *(f"        || {one}" for one in tests[1:-1]), f"        || {tests[-1]})"]
+    yield f'        return vlt_is_wrong("{it.name}", {result});'
+
+
+def pairs_tested(export, pairs):
+    """The lines that return where two of these pairs of parameters are one slot, by which the second of them is wrong."""
+    for it in export.parameters:
+        yield from tested(it, [is_same(*pair) for pair in pairs if pair[1] == it])
+
+
+def named(export):
+    """The slots whose objects a proved function reads, and what its other results are about, as C names it: the text, and the
+    numbers or else the slot."""
+    slots = [it for it in export.parameters if it.form in (SLOT, SLOTS) and it.role in (READS, CHANGES)]
+    slices = {it.type: it.name for it in reversed(export.parameters) if it.form == SLICE and not it.is_changed}
+    ranged = slices.get("usize") or slices.get("Node") or next(
+        (it.name for it in export.parameters if it.form == NUMBER and it.type == "u32"), None) or next((it.name for it in slots), None)
+    names = [f'"{it}"' if it else "NULL" for it in (slices.get("u8"), ranged)]
+    return slots, names
+
+
+
+def looked_at(export):
+    """The lines that return the result of the proved function, and keep which argument was wrong, if it says that one was."""
+    slots, names = named(export)
+    if result_of(export) != "vlt_result" or not set(returned(export)) & {2, 3, 5, 9}:
+        return
+    yield from filled("return with_argument(", ["result", *arguments(slots), *names], ");", " " * 4)
+
+
+def arguments(slots):
+    """What the layer passes for slots with their names and kinds."""
+    kinds = [f'{{"{it.name}", {slots_at(it) if it.form == SLOTS else slot_at(it)}, '
+             f'{f"{it.name}_len" if it.form == SLOTS else 1}, {kind_of(it)}}}' for it in slots]
+    return [f"ARGUMENTS({', '.join(kinds)})"] if kinds else ["NULL", "0"]
+
+
+def kind_of(it):
+    """The kind of object that a proved function wants in a slot, as C names it, or 0 if it takes any."""
+    return f"VLT_OBJECT_{TYPES[it.kind][0].upper()}" if it.kind in TYPES else "VLT_OBJECT_NONE"
+
+
 def checks_of(export):
-    """The checks of a function of the layer, before its call."""
-    nulls = [f"(!{it.name} && {it.name}_len)" for it in export.parameters if it.form in (SLICE, SLOTS)]
-    if nulls:
-        yield from [f"    if {nulls[0] if len(nulls) == 1 else f'({JOINED.join(nulls)})'}", "        return VLT_RANGE;"]
-    if any(it.role == TELLS for it in export.parameters):
-        error = next(it.name for it in export.parameters if it.role == TELLS)
-        yield from ["    vlt_slot unwanted = {0};", f"    vlt_slot *told = {error} ? &{error}->slot : &unwanted;"]
-    tests = [is_same(*pair) for pair in pairs_of(export)]
-    tests += [f"have_repeats({slots_at(it)}, {it.name}_len)" for it in export.parameters if it.form == SLOTS]
-    if tests:
-        line = f"    if ({JOINED.join(tests)})"
-        yield from [line] if len(line) <= WIDTH else [
-            f"    if ({tests[0]}", *(f"        || {one}" for one in tests[1:-1]), f"        || {tests[-1]})"]
-        yield "        return VLT_SAME_SLOT;"
+    """The checks of a function of the layer, before its call. An error that was there before is dropped first."""
+    told = [it for it in export.parameters if it.role == TELLS]
+    for it in told:
+        yield from ["    vlt_slot unwanted = {0};", f"    vlt_slot *told = {it.name} ? &{it.name}->slot : &unwanted;"]
+        yield from pairs_tested(export, [pair for pair in pairs_of(export) if it in pair])
+        yield "    empty(told);"
+    for it in export.parameters:
+        if it.form in (SLICE, SLOTS):
+            yield from tested(it, [f"!{it.name} && {it.name}_len"], "VLT_RANGE")
+    yield from pairs_tested(export, [pair for pair in pairs_of(export) if not any(it in told for it in pair)])
+    for it in export.parameters:
+        if it.form == SLOTS:
+            yield from tested(it, [f"have_repeats({slots_at(it)}, {it.name}_len)"])
+    if (read := read_twice(export)) and not is_copied(export):
+        yield f"    if ({is_same(*read)})"
+        yield from filled("return with_argument(", ["VLT_KIND", *arguments(read), "NULL", "NULL"], ");", " " * 8)
+
+
+def called(export):
+    """The call of the proved function, and what is dropped after it. Of an object that is passed twice the second is a copy."""
+    passed = [one for each in export.parameters for one in given(each)]
+    told = any(it.role == TELLS for it in export.parameters)
+    result = result_of(export)
+    opening, closing = f"{export.core}(", ")"
+    if is_question(export):
+        opening, closing = f"answered({opening}", "), answer)"
+    elif result == "vlt_result":
+        opening = f"(vlt_result){opening}"
+    indent = " " * 4
+    if is_copied(export):
+        one, other = read_twice(export)
+        yield from ["    vlt_slot copy = {0};", f"    const vlt_slot *apart = {slot_at(other)};",
+                    f"    vlt_result result = copied_if_same({slot_at(one)}, &apart, {copy_of(one)}, &copy);",
+                    "    if (result == VLT_DONE)"]
+        passed = ["(vlt_slot *)apart" if it == given(other)[0] else it for it in passed]
+        yield from filled(f"result = {opening}", passed, f"{closing};", " " * 8)
+        yield "    empty(&copy);"
+    elif told or list(looked_at(export)):
+        yield from filled(f"{result} result = {opening}", passed, f"{closing};", indent)
+    else:
+        yield from filled(f"{'return ' * bool(export.result)}{opening}", passed, f"{closing};", indent)
+        return
+    if told:
+        yield "    empty(&unwanted);"
+    yield from list(looked_at(export)) or ["    return result;"]
+
+
+def copy_of(slot):
+    """The proved function that copies the object of a slot of this kind, or None."""
+    name = f"vlt_{slot.kind and TYPES[slot.kind][0]}_copy".replace("path_set", "set")
+    return next((it.core for it in exports() if it.name == name), None)
 
 
 def layer_lines():
-    """The public functions, each over the proved one."""
+    """The public functions, each over the proved one. No program that links the library sees the proved ones."""
+    yield "#pragma GCC visibility push(hidden)"
     for it in exports():
         if not is_internal(it):
             yield from core_lines(it)
+    yield "#pragma GCC visibility pop"
     for name, _ in (TYPES[word] for word in object_kinds() if word in TYPES):
         yield from ["", f"void vlt_{name}_free(vlt_{name} *{name}) {{", f"    if ({name})",
                     f"        vlt_core_free(&{name}->slot);", "}"]
     for it in in_order():
-        parameters = [one for each in it.parameters for one in declared(each)] or ["void"]
-        result = result_of(it)
-        yield from ["", *filled(f"{result} {it.name}(", parameters, ") {"), *checks_of(it)]
-        call = [one for each in it.parameters for one in given(each)]
-        cast = f"({result})" if result == "vlt_result" else ""
-        if any(one.role == TELLS for one in it.parameters):
-            yield from filled(f"{result} result = {cast}{it.core}(", call, ");", " " * 4)
-            yield from ["    if (unwanted.at)", "        vlt_core_free(&unwanted);", "    return result;", "}"]
-        else:
-            yield from filled(f"{'return ' * bool(it.result)}{cast}{it.core}(", call, ");", " " * 4)
-            yield "}"
+        yield from ["", *filled(f"{result_of(it)} {it.name}(", all_declared(it), ") {"), *checks_of(it), *called(it), "}"]
 
 
 def core_lines(export):
@@ -320,9 +470,11 @@ def arrow_lines():
     internal = [it for it in exports() if is_internal(it)]
     for it in structs(internal):
         yield from [*struct_lines(it), ""]
+    yield "#pragma GCC visibility push(hidden)"
     for it in exports():
         if is_internal(it) or it.name == "vlt_free":
             yield from core_lines(it)
+    yield "#pragma GCC visibility pop"
 
 
 def names():
@@ -365,6 +517,8 @@ def call_of(it):
         elif one.form == SLOTS:
             before += [f"size_t {name}_len = any(4);", f"vlt_slot *{name} = &slots[any(SLOTS - {name}_len)];"]
             passed += [f"({slot_type(one)} *){name}", f"{name}_len"]
+        elif one.form == NUMBER and slots and slots[-1].kind == "paths_in":
+            passed.append(f"ranked({slots[-1].name}, any_number())")
         elif one.form == NUMBER:
             passed.append({"bool": "any(2) != 0", "i8": "(int8_t)any(256)"}.get(one.type, f"({kind})any_number()"))
         elif one.form == OUT:
@@ -374,6 +528,9 @@ def call_of(it):
             lines, items = items_of(one, names, it.name)
             before += lines
             passed += items
+    if is_question(it):
+        before.append("bool answer = false;")
+        passed.append("&answer")
     return before, passed, slots
 
 
@@ -401,7 +558,8 @@ def random_lines():
         yield from filled(f"result = {it.name}(", passed, ");", " " * 8)
         for one in stored:
             test = f"expect(result == 0 || {one.name}->at == {one.name}_had);" if one.role == PUTS else \
-                f"expect({one.name} == NULL || {one.name}->at == {one.name}_had || tells(result, {one.name}));"
+                f"expect({one.name} == NULL || ({one.name}->at == {one.name}_had && result == VLT_SAME_SLOT) || " \
+                f"{one.name}->at == NULL || tells(result, {one.name}));"
             yield f"        {test}"
         if not it.is_plain:
             yield "        expect(is_result(result));"
@@ -410,6 +568,10 @@ def random_lines():
             yield from [f"        for (size_t i = 0; i < {one.name}_len; i++) {{",
                         f"            expect(result == 0 || {one.name}[i].at == {one.name}_had[i]);",
                         f"            trim(&{one.name}[i]);", "        }"]
+        written = [one.name for one in it.parameters if one.form == OUT] + ["answer"] * is_question(it)
+        yield from (f"        note(&{name}, sizeof {name});" for name in written)
+        yield from (f"        note_slots({one.name}, {f'{one.name}_len' if one.form == SLOTS else f'{one.name} != NULL'});"
+                    for one in it.parameters if one.form in (SLOT, SLOTS))
         yield from ["        break;", "    }"]
     yield from ["    default:", "        break;", "    }", "    return result;", "}"]
 

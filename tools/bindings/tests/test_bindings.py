@@ -2,7 +2,7 @@
 # SPDX-FileCopyrightText: Copyright the Vortex contributors
 
 """The tool `bindings`, over exports that are planted: what it writes for each form of a parameter, and that it tells where
-one of the five files isn't what the sources say."""
+one of the four files isn't what the sources say."""
 import os
 import re
 import shutil
@@ -174,14 +174,12 @@ CHANGES = [("refused 1\nWithin", "refused 100\nWithin"), ("(code ≡ 0) × (new 
            ("P x ⊎ refused 1", "P x ⊎ Unknown x"), ("code ≡ 2", "code ≢ 2"), ("code ≡ 2", "code ≡ 100 + number_of o"),
            ("code ≡ 2", "old ≡ 0 → code ≡ 2"), ("Fault [] code = code ≡ 1", "Fault [] code = code ≡ 100"),
            ("Fault bytes code", "Fault code bytes")]
-HEADER, LAYER, ARROW, RUST, PYTHON = ("bindings/c/vortex_logical_types.h", "bindings/c/vortex_logical_types.c", "bindings/c/arrow.c",
-                                      "bindings/rust/src/ffi.rs", "bindings/python/vortex_logical_types/_table.py")
-FIND = "    reads find(dtype: read, name: [u8], index: mut usize);\n"
+HEADER, LAYER, ARROW = "bindings/c/vortex_logical_types.h", "bindings/c/vortex_logical_types.c", "bindings/c/arrow.c"
+FIND = "Results: VLT_DONE, VLT_NONE, VLT_KIND or VLT_RANGE. */\nVLT_MUST_USE vlt_result vlt_find("
 # What each file has to have of these.
 WRITTEN = {
-    HEADER: ["/* Looks a name up, as `vlt_copy` doesn't.\n *\n * Returns 1 if there is none.\n *\n * Results: VLT_DONE, VLT_NONE, "
-             "VLT_KIND or VLT_RANGE. */\nVLT_MUST_USE vlt_result vlt_find(const vlt_dtype *dtype, const uint8_t *name, size_t name_len, "
-             "size_t *index);", "/* The first. */\n    uint32_t one_of;\n    int8_t other;\n} vlt_pair;",
+    HEADER: [f"/* Looks a name up, as `vlt_copy` doesn't.\n *\n * Returns VLT_NONE if there is none.\n *\n * {FIND}const vlt_dtype *dtype, "
+             "const uint8_t *name, size_t name_len, size_t *index);", "/* The first. */\n    uint32_t one_of;\n    int8_t other;\n} vlt_pair;",
              "void vlt_free(vlt_slot *slot);", "void vlt_path_set_free(vlt_path_set *path_set);",
              "vlt_result vlt_copy(const vlt_dtype *dtype, vlt_path_set *paths);",
              "vlt_result vlt_couple(vlt_dtype *left, vlt_path *right);", "vlt_result vlt_twist(vlt_path *left, vlt_dtype *right);",
@@ -189,19 +187,14 @@ WRITTEN = {
              "#define VLT_ABI_VERSION 7u", "    /* A new result. */\n    VLT_OTHER = 10,", "    VLT_OBJECT_ERROR = 4,",
              "uint32_t vlt_abi_version(void);"],
     LAYER: ["uint32_t vlt_core_find(vlt_slot *dtype, const uint8_t *name, size_t name_len, size_t *index);",
-            "    if (are_same(&one->slot, &other->slot)\n        || is_among(&one->slot, (const vlt_slot *)more, more_len)\n"
-            "        || are_same(&one->slot, &out->slot)\n", "        || have_repeats((const vlt_slot *)more, more_len))\n",
-            "    if (!name && name_len)\n        return VLT_RANGE;", "    vlt_slot *told = error ? &error->slot : &unwanted;\n"
-            "    if (are_same(&out->slot, told))\n        return VLT_SAME_SLOT;\n    vlt_result result = (vlt_result)vlt_core_new("
-            "&out->slot, told);\n    if (unwanted.at)\n        vlt_core_free(&unwanted);\n    return result;\n"],
+            '    if (are_same(&one->slot, &other->slot))\n        return vlt_is_wrong("other", VLT_SAME_SLOT);\n',
+            "    if (is_among(&one->slot, (const vlt_slot *)more, more_len)", "    if (have_repeats((const vlt_slot *)more, more_len))\n",
+            '    if (!name && name_len)\n        return vlt_is_wrong("name", VLT_RANGE);', "    vlt_slot *told = error ? &error->slot : &unwanted;\n"
+            '    if (are_same(&out->slot, told))\n        return vlt_is_wrong("error", VLT_SAME_SLOT);\n    empty(told);\n'
+            "    vlt_result result = (vlt_result)vlt_core_new(&out->slot, told);\n    empty(&unwanted);\n    return result;\n",
+            'ARGUMENTS({"dtype", &dtype->slot, 1, VLT_OBJECT_DTYPE}), "name"'],
     ARROW: ["typedef struct {\n    uint64_t flags;\n} vlt_arrow_node;", "uint32_t vlt_core_inner(const vlt_arrow_node *nodes, size_t nodes_len, "
             "vlt_slot *out, vlt_slot *error);\nvoid vlt_core_free(vlt_slot *slot);\n"],
-    RUST: [FIND, "    locks copy(dtype: read, paths: change);\n", "    makes new(out: out, error: error);\n",
-           "    locks join(one: read, other: read, more: slots, pairs: [mut Pair], is_new: bool, out: out);\n",
-           "    /// The first.\n    pub one_of: u32,"],
-    PYTHON: ['    "vlt_find": (U32, [SLOT_AT, TEXT, SIZE, SIZE_AT]),\n', '        ("other", ctypes.c_int8),',
-             "class Pair(Numbers):", "    one_of: int\n    other: int\n", "        self._put(one_of=one_of, other=other)",
-             '    "vlt_free": (None, [SLOT_AT]),', "SLOT_AT = ctypes.POINTER(Slot)\n", "PAIR_AT = ctypes.POINTER(Pair)\n"],
 }
 
 
@@ -230,7 +223,7 @@ class Bindings(Planted):
                 self.assertIn(it, self.read(file))
             self.assertNotIn("is_not_exported", self.read(file))
             self.assertTrue(file == ARROW or not re.search("ArrowNode|arrow_node|core_inner|vlt_inner", self.read(file)), file)
-        self.assertEqual(self.run_tool("bindings", "--check"), (0, "6 passed, 0 failed\n"))
+        self.assertEqual(self.run_tool("bindings", "--check"), (0, "4 passed, 0 failed\n"))
         names = self.run_tool("bindings", "--exports")[1].split()
         self.assertEqual(names[:2] + names[4:7], ["vlt_dtype_free", "vlt_path_free", "vlt_find", "vlt_copy", "vlt_new"])
         self.assertEqual(names[-3:], ["vlt_dtype_from_arrow", "vlt_dtype_to_arrow", "vlt_arrow_capsule"])
@@ -239,8 +232,12 @@ class Bindings(Planted):
         """The header and the layer are C without warnings, and a program that mixes up two kinds isn't."""
         for compiler in [("cc", "-std=c99"), *[("cc", "-x", "c++", "-std=c++11")] * bool(shutil.which("g++"))]:
             self.assertTrue(self.compiles("", compiler))
-        subprocess.run(["cc", "-std=c99", "-Wall", "-Wextra", "-pedantic", "-Werror", "-c", LAYER, "-o", "it.o"], cwd=self.top,
-                       check=True)
+        # (What is written by hand in the layer names these, which the exports above lack.)
+        self.write("more.h", '#include "bindings/c/vortex_logical_types.h"\nuint32_t vlt_core_kind(vlt_slot *slot);\n'
+                   "uint32_t vlt_core_dtype_kind(vlt_slot *slot, uint32_t *number);\n"
+                   "enum { VLT_UTF8 = 3, VLT_CONDITION = 5, VLT_DTYPE_NULL = 1, VLT_DTYPE_STRUCT = 10 };\n")
+        subprocess.run(["cc", "-std=c99", "-Wall", "-Wextra", "-pedantic", "-Werror", "-Wno-switch", "-include", "more.h", "-c", LAYER,
+                        "-o", "it.o"], cwd=self.top, check=True)
         program = "vlt_result f(const vlt_dtype *t, vlt_path_set *s); vlt_result f(const vlt_dtype *t, vlt_path_set *s) {\n" \
                   "    return vlt_copy(t, s);\n}\n"
         self.assertTrue(self.compiles(program))
@@ -254,36 +251,37 @@ class Bindings(Planted):
     def test_tells_a_difference(self):
         self.change(f"{SOURCES}/lib.rt", "index: &mut usize", "index: &mut u32")
         told = [f"bindings: {it}: isn't what the sources say: run tools/bindings/bindings\n"
-                for it in (HEADER, LAYER, RUST, PYTHON)]
-        self.assertEqual(self.run_tool("bindings", "--check"), (1, "".join(told) + "2 passed, 4 failed\n"))
+                for it in (HEADER, LAYER)]
+        self.assertEqual(self.run_tool("bindings", "--check"), (1, "".join(told) + "2 passed, 2 failed\n"))
         self.assertEqual((self.run_tool("bindings")[0], self.run_tool("bindings", "--check")[0]), (0, 0))
-        self.change(RUST, "pub one_of: u32", "pub one_of: u16")
-        self.assertEqual(self.run_tool("bindings", "--check"), (1, f"{told[2]}5 passed, 1 failed\n"))
+        self.change(HEADER, "    uint32_t one_of;", "    uint16_t one_of;")
+        self.assertEqual(self.run_tool("bindings", "--check"), (1, f"{told[0]}3 passed, 1 failed\n"))
         self.run_tool("bindings")
         self.change(ARROW, "    uint64_t flags;\n} vlt_arrow_node;", "    uint32_t flags;\n} vlt_arrow_node;")
         self.assertEqual(self.run_tool("bindings", "--check"), (1, f"bindings: {ARROW}: isn't what the sources say: run "
-                                                                   "tools/bindings/bindings\n5 passed, 1 failed\n"))
+                                                                   "tools/bindings/bindings\n3 passed, 1 failed\n"))
 
-    def test_takes_a_lock_where_no_clause_excludes_that_memory_runs_out(self):
+    def test_lists_that_memory_runs_out_where_no_clause_excludes_it(self):
         for old, new in CHANGES:
             self.assertEqual(SPECS.count(old), 1 if old != "code ≡ 2" else SPECS.count(old), old)
             self.write(f"{os.path.dirname(SOURCES)}/specs/Found.antt", SPECS.replace(old, new))
             self.assertEqual(self.run_tool("bindings")[0], 0)
-            self.assertNotIn(FIND, self.read(RUST), new)
+            self.assertNotIn(FIND, self.read(HEADER), new)
+            self.assertIn("VLT_RANGE or VLT_LIBRARY. */\nVLT_MUST_USE vlt_result vlt_find(", self.read(HEADER), new)
         self.write(f"{os.path.dirname(SOURCES)}/specs/Found.antt", SPECS)
         self.run_tool("bindings")
-        self.assertIn(FIND, self.read(RUST))
+        self.assertIn(FIND, self.read(HEADER))
 
     def test_tells_what_a_comment_leaves_out(self):
         self.write("bindings/c/tests/calls.c", f"{CALLED} IS(VLT_NONE, vlt_find(&s, 0, 0, &at)); IS(VLT_KIND, vlt_find(&s));\n")
-        self.assertEqual(self.run_tool("bindings", "--check"), (0, "6 passed, 0 failed\n"))
+        self.assertEqual(self.run_tool("bindings", "--check"), (0, "4 passed, 0 failed\n"))
         self.change("bindings/c/tests/calls.c", "IS(VLT_NONE", "IS(VLT_NEVER, vlt_find(1)); IS(117")
         self.change("bindings/c/tests/calls.c", "vlt_join();", "")
         self.change(f"{SOURCES}/lib.rt", "Returns 1 if there is none.", "The index is a `usize`.")
         self.change(f"{SOURCES}/lib.rt", " Returns 2 if a slot of `more` contains no path.", "")
         self.assertEqual(self.run_tool("bindings")[0], 0)
         status, said = self.run_tool("bindings", "--check")
-        self.assertEqual((status, said.splitlines()[-1]), (1, "5 passed, 6 failed"))
+        self.assertEqual((status, said.splitlines()[-1]), (1, "3 passed, 6 failed"))
         for it in ("VLT_NEVER isn't a result", "calls.c: doesn't call vlt_join", "vlt_find has the word usize, which C doesn't know", "vlt_find doesn't state that it returns 117",
                    "vlt_find doesn't state that it returns 1\n", "vlt_join doesn't state that it returns 2 if a slot of an array"):
             self.assertIn(it, said)
@@ -300,13 +298,8 @@ class Bindings(Planted):
         self.assertIn("no struct of these names is #[repr(C)]: Name", self.run_tool("bindings")[1])
 
     def test_gives_up_without_what_was_proved(self):
-        """A release is only made of a library and programs that were built after the last change of their sources."""
-        archive = f"{os.path.dirname(SOURCES)}/out/libvortex_logical_types.a"
+        """The library is only made of what was built after the last change of its sources."""
         self.assertIn("isn't built from these sources: run ./test, or give --prove", self.run_tool("library")[1])
-        for text in ("isn't built from these sources: run ./test, or ./dist --prove", "console isn't proved from these"):
-            status, said = self.run_tool("../../dist")
-            self.assertEqual((status, text in said), (2, True), said)
-            self.write(archive, "!<arch>\n")
         self.change("crates.txt", "vortex_logical_types staticlib: dtype_base\n", "")
         self.assertEqual(self.run_tool("bindings_runs"), (2, "bindings_runs: crates.txt has no vortex_logical_types\n"))
         self.assertIn("crates.txt has no vortex_logical_types", self.run_tool("bindings", "--check")[1])

@@ -3,80 +3,69 @@
 
 //! Structs of so many columns: made, dropped, looked into, and cut down.
 
-use std::cell::RefCell;
 use std::hint::black_box;
 
 use original::by_hand::projected;
-use original::line::{Argument, Line};
-use original::living::Living;
-use vortex_array::dtype::{DType as Theirs, Field, FieldName, FieldPath, Nullability, StructFields};
+use original::reader::{Readable, Reader};
+use vortex_array::dtype::{self as theirs, DType as Theirs, Field, FieldPath, Nullability};
 use vortex_logical_types::{self as ours, DType as Ours};
 
 use crate::fixture::{self, Turns, Types, column, leaf_of_ours, leaf_of_theirs, mixed, path_of_ours};
-use crate::looks::{used, used_ours};
-use crate::meter::{Meter, consuming, each, first};
+use crate::looks::{Seen, used};
+use crate::meter::{Meter, alike, consuming, each};
 
 const PLAIN: Nullability = Nullability::NonNullable;
 const PLAIN_OURS: ours::Nullability = ours::Nullability::NonNullable;
 
 fn struct_of_theirs(names: &[String]) -> Theirs {
     let fields = names.iter().enumerate().map(|(at, name)| (name.as_str(), leaf_of_theirs(at)));
-    Theirs::Struct(StructFields::from_iter(fields), PLAIN)
+    Theirs::Struct(fields.collect(), PLAIN)
 }
 
 fn struct_of_ours(names: &[String]) -> Ours {
-    Ours::struct_(names.iter().enumerate().map(|(at, name)| (name, leaf_of_ours(at))), PLAIN_OURS).expect("a struct")
+    let fields = names.iter().enumerate().map(|(at, name)| (name.as_str(), leaf_of_ours(at)));
+    Ours::Struct(fields.collect(), PLAIN_OURS)
 }
 
 /// Structs are made of names and types, read from a text, and dropped.
 pub fn made(meter: &mut Meter, count: usize) {
     let names = fixture::columns(count);
     let (theirs, ours) = (|| struct_of_theirs(&names), || struct_of_ours(&names));
-    meter.case("build and drop", count, each(|_| used(theirs())), each(|_| used_ours(ours())));
-    let (text, sessions) = (fixture::struct_text(count), RefCell::new(Living::default()));
-    let read = |_| Theirs::read(&mut Line::new(&text, &sessions)).map_or(7, used);
-    meter.case("parse and drop", count, each(read), each(|_| text.parse::<Ours>().map_or(7, used_ours)));
-    meter.case("drop", count, consuming(theirs, used), consuming(ours, used_ours));
+    meter.case("build and drop", count, each(|_| used(theirs())), each(|_| used(ours())));
+    let text = fixture::struct_text(count);
+    let read = |_| Theirs::read(&mut Reader::new(&text)).map_or(7, used);
+    meter.case("parse and drop", count, each(read), each(|_| text.parse::<Ours>().map_or(7, used)));
+    meter.case("drop", count, consuming(theirs, used), consuming(ours, used));
 }
 
 /// Small types are made and dropped.
 pub fn made_small(meter: &mut Meter) {
-    let theirs = |_| used(Theirs::Primitive(vortex_array::dtype::PType::I32, black_box(PLAIN)));
-    let ours = |_| used_ours(Ours::primitive(ours::PType::I32, black_box(PLAIN_OURS)));
-    meter.case("build and drop", "i32", each(theirs), each(ours));
-    let theirs = |_| used(Theirs::list(leaf_of_theirs(0), black_box(PLAIN)));
-    let ours = |_| Ours::list(&leaf_of_ours(0), black_box(PLAIN_OURS)).map_or(7, used_ours);
-    meter.case("build and drop", "list(i32)", each(theirs), each(ours));
+    alike!(meter, "build and drop", "i32", _i, n = black_box(PLAIN), black_box(PLAIN_OURS);
+        used(dtype::DType::Primitive(dtype::PType::I32, n)));
+    alike!(meter, "build and drop", "list(i32)", _i, n = black_box(PLAIN), black_box(PLAIN_OURS);
+        used(dtype::DType::list(dtype::PType::I32, n)));
 }
 
 /// Names are looked up.
 pub fn found(meter: &mut Meter, count: usize) {
     let it = Types::columns(count);
-    let fields = it.theirs.each_ref().map(|it| it.as_struct_fields());
-    let ours_fields = it.ours.each_ref().map(|it| it.as_struct_fields_opt().expect("a struct"));
+    let theirs = it.theirs.each_ref().map(|it| it.as_struct_fields());
+    let ours = it.ours.each_ref().map(|it| it.as_struct_fields());
     let names = fixture::columns(count);
-    for (what, name) in [("first", column(0)), ("last", column(count - 1)), ("absent", column(count))] {
-        let family = ["find first", "find last", "find absent"];
-        let family = family.into_iter().find(|it| it.ends_with(what)).expect("a family");
-        let theirs = |i: usize| black_box(fields[i % 2]).find(black_box(name.as_str())).unwrap_or(7);
-        let ours = |i: usize| black_box(ours_fields[i % 2]).find(black_box(name.as_str())).unwrap_or(7);
-        meter.case(family, count, each(theirs), each(ours));
+    for (family, name) in [("find first", column(0)), ("find last", column(count - 1)), ("find absent", column(count))]
+    {
+        alike!(meter, family, count, i, it = black_box(theirs[i % 2]), black_box(ours[i % 2]);
+            it.find(black_box(name.as_str())).unwrap_or(7));
     }
     let (mut turns, mut our_turns) = (Turns::new(), Turns::new());
-    let theirs = each(|i| it.theirs(i).as_struct_fields().find(&names[turns.below(count)]).unwrap_or(7));
-    let in_ours = |i, name: &str| it.ours(i).as_struct_fields_opt()?.find(name);
-    let ours = each(|i| in_ours(i, &names[our_turns.below(count)]).unwrap_or(7));
-    meter.case("find any, from the type", count, theirs, ours);
+    alike!(meter, "find any, from the type", count, i, (it, name) = (it.theirs(i), &names[turns.below(count)]),
+        (it.ours(i), &names[our_turns.below(count)]); it.as_struct_fields().find(name).unwrap_or(7));
     let (mut turns, mut our_turns) = (Turns::new(), Turns::new());
-    let theirs = each(|i| black_box(fields[i % 2]).field(&names[turns.below(count)]).map_or(7, used));
-    let in_ours = |i: usize, name: &str| black_box(ours_fields[i % 2]).field(name);
-    let ours = each(|i| in_ours(i, &names[our_turns.below(count)]).map_or(7, |it| usize::from(it.is_nullable())));
-    meter.case("field by name", count, theirs, ours);
+    alike!(meter, "field by name", count, i, (it, name) = (black_box(theirs[i % 2]), &names[turns.below(count)]),
+        (black_box(ours[i % 2]), &names[our_turns.below(count)]); it.field(name).map_or(7, |it| it.seen()));
     let (mut turns, mut our_turns) = (Turns::new(), Turns::new());
-    let theirs = each(|i| black_box(fields[i % 2]).field_by_index(turns.below(count)).map_or(7, used));
-    let in_ours = |i: usize, at| black_box(ours_fields[i % 2]).field_by_index(at);
-    let ours = each(|i| in_ours(i, our_turns.below(count)).map_or(7, |it| usize::from(it.is_nullable())));
-    meter.case("field_by_index", count, theirs, ours);
+    alike!(meter, "field_by_index", count, i, (it, at) = (black_box(theirs[i % 2]), turns.below(count)),
+        (black_box(ours[i % 2]), our_turns.below(count)); it.field_by_index(at).map_or(7, |it| it.seen()));
 }
 
 /// The length and the first byte, so that the name is read.
@@ -84,63 +73,37 @@ fn size(name: &str) -> usize {
     name.len() + name.as_bytes().first().map_or(0, |it| usize::from(*it))
 }
 
-fn names_read(dtype: &Theirs) -> usize {
-    dtype.as_struct_fields().names().iter().map(|it| size(it.as_ref())).sum()
-}
-
-fn names_read_of_ours(dtype: &Ours) -> usize {
-    dtype.as_struct_fields_opt().map_or(7, |it| it.names().map(size).sum())
-}
-
-fn pairs_read(dtype: &Theirs) -> usize {
-    let fields = dtype.as_struct_fields();
-    fields.names().iter().zip(fields.field_dtypes()).map(|(name, it)| size(name.as_ref()) + count_of(it)).sum()
-}
-
-fn pairs_read_of_ours(dtype: &Ours) -> usize {
-    let fields = dtype.as_struct_fields_opt();
-    fields.map_or(7, |it| it.iter().map(|(name, it)| size(name) + usize::from(it.is_nullable())).sum())
-}
-
 /// All names are read, and all pairs of a name and a type.
 pub fn read(meter: &mut Meter, count: usize) {
     let it = Types::columns(count);
-    meter.case("names", count, each(|i| names_read(it.theirs(i))), each(|i| names_read_of_ours(it.ours(i))));
-    let (theirs, ours) = (|i| pairs_read(it.theirs(i)), |i| pairs_read_of_ours(it.ours(i)));
-    meter.case("pairs (original borrows)", count, each(theirs), each(ours));
+    alike!(meter, "names", count, i, it = it.theirs(i), it.ours(i);
+        it.as_struct_fields().names().iter().map(|it| size(it.as_ref())).sum());
+    alike!(meter, "pairs (original borrows)", count, i, fields = it.theirs(i).as_struct_fields(),
+        it.ours(i).as_struct_fields();
+        fields.names().iter().zip(fields.field_dtypes()).map(|(name, it)| size(name.as_ref()) + it.seen()).sum());
     let theirs = |i| -> usize {
         let fields = it.theirs(i).as_struct_fields();
         fields.names().iter().zip(fields.fields()).map(|(name, it)| size(name.as_ref()) + used(it)).sum()
     };
     let ours = |i| -> usize {
-        let fields = it.ours(i).as_struct_fields_opt();
-        fields.map_or(7, |it| it.iter().map(|(name, it)| size(name) + used_ours(it.clone())).sum())
+        let fields = it.ours(i).as_struct_fields();
+        fields.iter().map(|(name, it)| size(name.as_ref()) + used(it.clone())).sum()
     };
     meter.case("pairs (original copies)", count, each(theirs), each(ours));
-    let names = fixture::columns(count);
-    let made = (|| struct_of_theirs(&names), || struct_of_ours(&names));
-    meter.case("the first time: names", count, first(made.0, names_read), first(made.1, names_read_of_ours));
-    meter.case("the first time: pairs", count, first(made.0, pairs_read), first(made.1, pairs_read_of_ours));
-}
-
-fn count_of(dtype: &Theirs) -> usize {
-    dtype.is_nullable().into()
 }
 
 /// A struct of so many columns is cut down to `most` of them.
 pub fn projected_to(meter: &mut Meter, most: usize, count: usize) {
     let (it, of) = (Types::columns(count), format!("{most} of {count}"));
     let names: Vec<String> = (0..most).map(|at| column(mixed(at, count))).collect();
-    let set: ours::FieldPathSet = names.iter().map(|it| ours::FieldPath::from_name(it)).collect();
+    let set: ours::FieldPathSet = names.iter().map(ours::FieldPath::from_name).collect();
     let paths: Vec<FieldPath> = set.iter().map(path_of_ours).collect();
     cut(meter, &of, &it, (&paths, &set));
-    let theirs_names: Vec<FieldName> = names.iter().map(|it| FieldName::from(it.as_str())).collect();
-    let theirs = |i| {
-        let found = it.theirs(i).as_struct_fields().project(&theirs_names);
-        found.map_or(7, |it| used(Theirs::Struct(it, PLAIN)))
-    };
-    let ours = |i| it.ours(i).as_struct_fields_opt().map_or(7, |it| it.project(&names).map_or(7, used_ours));
-    meter.case("project by names", &of, each(theirs), each(ours));
+    let theirs: Vec<theirs::FieldName> = names.iter().map(|it| it.as_str().into()).collect();
+    let ours: Vec<ours::FieldName> = names.iter().map(|it| it.as_str().into()).collect();
+    alike!(meter, "project by names", &of, i, (it, names, n) = (it.theirs(i), &theirs, PLAIN),
+        (it.ours(i), &ours, PLAIN_OURS);
+        it.as_struct_fields().project(names).map_or(7, |it| used(dtype::DType::Struct(it, n))));
 }
 
 fn cut(meter: &mut Meter, of: &str, it: &Types, (paths, set): (&[FieldPath], &ours::FieldPathSet)) {
@@ -148,7 +111,7 @@ fn cut(meter: &mut Meter, of: &str, it: &Types, (paths, set): (&[FieldPath], &ou
         let steps: Vec<&[Field]> = paths.iter().map(FieldPath::parts).collect();
         projected(it.theirs(i), &steps).map_or(7, used)
     };
-    meter.case("project_paths", of, each(theirs), each(|i| it.ours(i).project_paths(set).map_or(7, used_ours)));
+    meter.case("project_paths", of, each(theirs), each(|i| it.ours(i).project_paths(set).map_or(7, used)));
 }
 
 /// A nested type is cut down to four paths.
@@ -165,10 +128,6 @@ pub fn projected_nested(meter: &mut Meter) {
 /// A struct without its middle column.
 pub fn without(meter: &mut Meter, count: usize) {
     let it = Types::columns(count);
-    let theirs = |i| {
-        let found = it.theirs(i).as_struct_fields().without_field(count / 2);
-        found.map_or(7, |it| used(Theirs::Struct(it, PLAIN)))
-    };
-    let ours = |i| it.ours(i).as_struct_fields_opt().map_or(7, |it| it.without_field(count / 2).map_or(7, used_ours));
-    meter.case("without_field", count, each(theirs), each(ours));
+    alike!(meter, "without_field", count, i, (it, n) = (it.theirs(i), PLAIN), (it.ours(i), PLAIN_OURS);
+        it.as_struct_fields().without_field(count / 2).map_or(7, |it| used(dtype::DType::Struct(it, n))));
 }

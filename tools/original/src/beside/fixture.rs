@@ -7,7 +7,7 @@
 use std::fmt::Write;
 use std::hint::black_box;
 
-use vortex_array::dtype::{self as theirs, Nullability};
+use vortex_array::dtype as theirs;
 use vortex_logical_types as ours;
 
 use crate::translate::to_vortex;
@@ -26,23 +26,23 @@ pub fn leaf(at: usize) -> &'static str {
     ["i32", "utf8?", "bool", "f64?"][at % 4]
 }
 
-pub fn leaf_of_theirs(at: usize) -> theirs::DType {
-    match at % 4 {
-        0 => theirs::DType::Primitive(theirs::PType::I32, Nullability::NonNullable),
-        1 => theirs::DType::Utf8(Nullability::Nullable),
-        2 => theirs::DType::Bool(Nullability::NonNullable),
-        _ => theirs::DType::Primitive(theirs::PType::F64, Nullability::Nullable),
-    }
+/// Writes a function that makes the type of a column.
+macro_rules! leaf_of {
+    ($name:ident, $side:ident) => {
+        pub fn $name(at: usize) -> $side::DType {
+            use $side::{DType, Nullability::*, PType};
+            match at % 4 {
+                0 => DType::Primitive(PType::I32, NonNullable),
+                1 => DType::Utf8(Nullable),
+                2 => DType::Bool(NonNullable),
+                _ => DType::Primitive(PType::F64, Nullable),
+            }
+        }
+    };
 }
 
-pub fn leaf_of_ours(at: usize) -> ours::DType {
-    match at % 4 {
-        0 => ours::DType::primitive(ours::PType::I32, ours::Nullability::NonNullable),
-        1 => ours::DType::utf8(ours::Nullability::Nullable),
-        2 => ours::DType::bool(ours::Nullability::NonNullable),
-        _ => ours::DType::primitive(ours::PType::F64, ours::Nullability::Nullable),
-    }
-}
+leaf_of! { leaf_of_theirs, theirs }
+leaf_of! { leaf_of_ours, ours }
 
 /// The text of a struct of so many columns.
 pub fn struct_text(count: usize) -> String {
@@ -70,7 +70,7 @@ pub struct Types {
 }
 
 impl Types {
-    /// The types that a text stands for, which the package reads and the example translates.
+    /// The types that a text stands for, which the crate reads and its example translates.
     pub fn read(text: &str) -> Types {
         let read = || text.parse::<ours::DType>().expect("the text of a type");
         let translated = || to_vortex(&read()).expect("a type of the original");

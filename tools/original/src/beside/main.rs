@@ -1,7 +1,7 @@
 // SPDX-License-Identifier: Apache-2.0
 // SPDX-FileCopyrightText: Copyright the Vortex contributors
 
-//! Measures the Cargo package in `bindings/rust` beside the original, in one process: what an engine does with the schema
+//! Measures the Rust crate of this repository beside the original, in one process: what an engine does with the schema
 //! of a table. Both sides of a case have to find the same.
 
 mod fields;
@@ -13,20 +13,21 @@ mod paths;
 mod sets;
 mod threads;
 #[allow(dead_code)]
-#[path = "../../../../bindings/rust/examples/vortex_array/translate.rs"]
+#[rustfmt::skip]
+#[path = "../../../../rust/vortex-logical-types/examples/vortex_array/translate.rs"]
 mod translate;
 
 use std::collections::BTreeMap;
 use std::env;
 
-use meter::{FIRST, Meter, Row};
+use meter::{Meter, Row};
 
 const USAGE: &str = "\
 beside [PREFIX..]     measures the cases whose names begin so, or all
 beside --threads      measures how many calls one to eight threads make
 
 Each case is a line: its name, the nanoseconds of processor time that one operation takes in vortex-array and in this
-package, the least of fifteen rounds, and the second divided by the first. Behind the cases are two tables: the families
+crate, the least of fifteen rounds, and the second divided by the first. Behind the cases are two tables: the families
 of cases, and the cases that are measured with 10 to 10,000 columns.";
 
 const COUNTS: [usize; 4] = [10, 100, 1000, 10_000];
@@ -86,8 +87,10 @@ fn families(rows: &[Row]) {
         let (least, greatest) = (ratios[0], ratios[ratios.len() - 1]);
         println!("| {family} | {} | {mean:.2} | {least:.2} | {greatest:.2} |", ratios.len());
     }
-    let all: Vec<f64> = rows.iter().filter(|it| !it.family.starts_with(FIRST)).map(Row::ratio).collect();
-    println!("\nThe geometric mean of the {} cases that aren't the first time is {:.2}.", all.len(), mean(&all));
+    let all: Vec<f64> = rows.iter().map(Row::ratio).collect();
+    let [fast, slow] = [1.0, 2.0].map(|border| all.iter().filter(|it| **it <= border).count());
+    println!("\nThe geometric mean of the {} cases is {:.2}.", all.len(), mean(&all));
+    println!("At most 1: {fast}. Above 2: {}.", all.len() - slow);
 }
 
 /// A number of nanoseconds with its unit.
@@ -101,16 +104,16 @@ fn time(nanoseconds: f64) -> String {
     }
 }
 
-/// Prints the cases that are there for each number of columns, each with the time of vortex-array and that of the package.
+/// Prints the cases that are there for each number of columns, each with the crate's time and vortex-array's.
 fn engine(rows: &[Row]) {
     println!("\n| Operation | 10 columns | 100 columns | 1,000 columns | 10,000 columns |\n|---|---|---|---|---|");
     let first = format!("{}", COUNTS[0]);
     for row in rows.iter().filter(|row| row.of.split('/').next_back() == Some(first.as_str())) {
         let form = row.of.strip_suffix(first.as_str()).unwrap_or_default();
         let of = |count: usize| rows.iter().find(|it| it.family == row.family && it.of == format!("{form}{count}"));
-        let cells: Vec<_> = COUNTS.into_iter().filter_map(of).map(|it| (time(it.theirs), time(it.ours))).collect();
+        let cells: Vec<_> =
+            COUNTS.into_iter().filter_map(of).map(|it| format!("{} : {}", time(it.ours), time(it.theirs))).collect();
         if cells.len() == COUNTS.len() {
-            let cells: Vec<_> = cells.iter().map(|(theirs, ours)| format!("{theirs}, {ours}")).collect();
             let name = format!("{} {}", row.family, form.replace('/', " "));
             println!("| {} | {} |", name.trim_end(), cells.join(" | "));
         }

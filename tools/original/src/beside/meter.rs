@@ -1,7 +1,7 @@
 // SPDX-License-Identifier: Apache-2.0
 // SPDX-FileCopyrightText: Copyright the Vortex contributors
 
-//! How an operation of the original and the same operation of the package are measured beside each other.
+//! How an operation of the original and the same operation of the crate are measured beside each other.
 
 use std::fmt::Display;
 use std::hint::black_box;
@@ -16,9 +16,6 @@ const FEW: usize = 3;
 /// Both sides must have the same sum of results after so many operations.
 const COMPARED: usize = 4;
 
-/// The begin of the families of what the package makes when it is asked for it the first time, and then remembers.
-pub const FIRST: &str = "the first time: ";
-
 /// A case with the nanoseconds that one operation takes on each side, the least of all rounds.
 pub struct Row {
     pub family: &'static str,
@@ -32,7 +29,7 @@ impl Row {
         if self.of.is_empty() { self.family.to_owned() } else { format!("{}/{}", self.family, self.of) }
     }
 
-    /// How many times as long as the original the package takes.
+    /// How many times as long as the original the crate takes.
     pub fn ratio(&self) -> f64 {
         self.ours / self.theirs
     }
@@ -65,15 +62,29 @@ pub fn consuming<T>(prepare: impl Fn() -> T, mut operation: impl FnMut(T) -> usi
     }
 }
 
-/// The operation on each of the things that `prepare` returns, which are dropped afterwards.
-pub fn first<T>(prepare: impl Fn() -> T, mut operation: impl FnMut(&T) -> usize) -> impl Side {
-    move |times| {
-        let inputs: Vec<T> = (0..times).map(|_| prepare()).collect();
-        let start = thread_cpu_time();
-        let sum = inputs.iter().fold(0usize, |sum, it| sum.wrapping_add(operation(it)));
-        (thread_cpu_time() - start, black_box(sum))
-    }
+/// Measures an operation that is written alike for both sides. In it `dtype` is the module of the side, and the pattern
+/// is bound to what that side works on in the iteration of this number.
+macro_rules! alike {
+    ($meter:expr, $family:expr, $of:expr, $i:ident, $given:pat = $theirs:expr, $ours:expr; $operation:expr) => {
+        $meter.case(
+            $family,
+            $of,
+            crate::meter::each(|$i| {
+                #[allow(unused_imports)]
+                use vortex_array::dtype;
+                let $given = $theirs;
+                $operation
+            }),
+            crate::meter::each(|$i| {
+                #[allow(unused_imports)]
+                use vortex_logical_types as dtype;
+                let $given = $ours;
+                $operation
+            }),
+        )
+    };
 }
+pub(crate) use alike;
 
 /// Measures the cases that were asked for, and keeps what they took.
 pub struct Meter {

@@ -3,20 +3,17 @@
 
 //! Paths: made, read, compared, and resolved.
 
-use std::cell::RefCell;
 use std::collections::HashSet;
-use std::hash::{DefaultHasher, Hash, Hasher};
 use std::hint::black_box;
 
-use original::line::{Argument, Line};
-use original::living::Living;
+use original::reader::{Readable, Reader};
 use original::types::Told;
-use vortex_array::dtype::{Field, FieldPath as Theirs};
-use vortex_logical_types::{self as ours, FieldPath as Ours};
+use vortex_array::dtype::FieldPath as Theirs;
+use vortex_logical_types::FieldPath as Ours;
 
 use crate::fixture::{Paths, Types, column, lists, struct_of, struct_text};
-use crate::looks::{used, used_ours};
-use crate::meter::{Meter, each};
+use crate::looks::{hashed, used};
+use crate::meter::{Meter, alike, each};
 
 /// A type in which there is a path of so many names, at each level among ten fields, and the path.
 fn nest(depth: usize) -> (String, String) {
@@ -43,17 +40,10 @@ pub fn resolved(meter: &mut Meter) {
     resolve(meter, "2 to a list of lists", &it, &Paths::read("a.b"));
 }
 
+/// The type at a path, as a type of its own. (The original takes the type, and returns one.)
 fn resolve(meter: &mut Meter, of: &str, it: &Types, path: &Paths) {
     let theirs = |i| path.theirs(i).resolve(it.theirs(i).clone()).map_or(7, used);
-    meter.case("resolve", of, each(theirs), each(|i| path.ours(i).resolve(it.ours(i)).map_or(7, used_ours)));
-}
-
-fn count(path: Theirs) -> usize {
-    black_box(&path).parts().len()
-}
-
-fn count_of_ours(path: Ours) -> usize {
-    black_box(&path).len()
+    meter.case("resolve", of, each(theirs), each(|i| path.ours(i).resolve(it.ours(i)).cloned().map_or(7, used)));
 }
 
 /// The length of the name, or 1 for the element.
@@ -61,47 +51,42 @@ fn size(name: Option<&str>) -> usize {
     name.map_or(1, str::len)
 }
 
-/// Uses a hash, which the two sides compute differently.
-fn hashed(it: &impl Hash) -> usize {
-    let mut state = DefaultHasher::new();
-    it.hash(&mut state);
-    usize::from(black_box(state.finish()) != 1)
+/// Looks at the number of steps of a path that was made.
+macro_rules! counted {
+    ($path:expr) => {
+        black_box(&$path).parts().len()
+    };
 }
 
 /// A path of so many steps, of which each fourth is the element.
 pub fn of_one(meter: &mut Meter, depth: usize) {
     let steps: Vec<String> = (0..depth).map(|at| if at % 4 == 3 { "[]".to_owned() } else { column(at) }).collect();
-    let (text, sessions) = (steps.join("."), RefCell::new(Living::default()));
+    let text = steps.join(".");
     let (it, same) = (Paths::read(&text), Paths::read(&text));
-    let read = |_| Theirs::read(&mut Line::new(&text, &sessions)).map_or(70, count);
-    meter.case("path from text", depth, each(read), each(|_| text.parse::<Ours>().map_or(70, count_of_ours)));
+    let read = |_| Theirs::read(&mut Reader::new(&text)).map_or(70, |it| counted!(it));
+    meter.case("path from text", depth, each(read), each(|_| text.parse::<Ours>().map_or(70, |it| counted!(it))));
     let told = |i| it.theirs(i).told().map_or(7, |it| it.len());
     meter.case("path to text", depth, each(told), each(|i| it.ours(i).to_source().len()));
-    meter.case("path display", depth, each(|i| it.theirs(i).to_string().len()), each(|i| it.ours(i).to_string().len()));
-    let theirs = |i| usize::from(it.theirs(i) == same.theirs(i + 1));
-    meter.case("path eq", depth, each(theirs), each(|i| usize::from(it.ours(i) == same.ours(i + 1))));
-    meter.case("path hash", depth, each(|i| hashed(it.theirs(i))), each(|i| hashed(it.ours(i))));
-    meter.case("path clone", depth, each(|i| count(it.theirs(i).clone())), each(|i| count_of_ours(it.ours(i).clone())));
-    let theirs = |i| it.theirs(i).parts().iter().map(|it| size(it.as_name())).sum();
-    meter.case("path steps", depth, each(theirs), each(|i| it.ours(i).iter().map(|it| size(it.as_name())).sum()));
-    let theirs = |i| usize::from(it.theirs(i).overlap(same.theirs(i + 1)));
-    meter.case("path overlap", depth, each(theirs), each(|i| usize::from(it.ours(i).overlap(same.ours(i + 1)))));
-    let theirs = |i| count(it.theirs(i).clone().push("pushed"));
-    meter.case("path clone and push", depth, each(theirs), each(|i| count_of_ours(it.ours(i).clone().push("pushed"))));
-    let theirs = |i| it.theirs(i).clone().step_into().map_or(70, count);
-    let ours = |i| it.ours(i).step_into().map_or(70, count_of_ours);
-    meter.case("path clone and step_into", depth, each(theirs), each(ours));
+    alike!(meter, "path display", depth, i, it = it.theirs(i), it.ours(i); it.to_string().len());
+    alike!(meter, "path eq", depth, i, (one, other) = (it.theirs(i), same.theirs(i + 1)),
+        (it.ours(i), same.ours(i + 1)); usize::from(one == other));
+    alike!(meter, "path hash", depth, i, it = it.theirs(i), it.ours(i); hashed(it));
+    alike!(meter, "path clone", depth, i, it = it.theirs(i), it.ours(i); counted!(it.clone()));
+    alike!(meter, "path steps", depth, i, it = it.theirs(i), it.ours(i);
+        it.parts().iter().map(|it| size(it.as_name())).sum());
+    alike!(meter, "path overlap", depth, i, (one, other) = (it.theirs(i), same.theirs(i + 1)),
+        (it.ours(i), same.ours(i + 1)); usize::from(one.overlap(other)));
+    alike!(meter, "path clone and push", depth, i, it = it.theirs(i), it.ours(i); counted!(it.clone().push("pushed")));
+    alike!(meter, "path clone and step_into", depth, i, it = it.theirs(i), it.ours(i);
+        it.clone().step_into().map_or(70, |it| counted!(it)));
 }
 
 pub fn of_many(meter: &mut Meter) {
-    let theirs = |_| count(Theirs::root().push(black_box("a")).push(Field::ElementType).push(black_box("column_7")));
-    let ours =
-        |_| count_of_ours(Ours::root().push(black_box("a")).push(ours::Field::ElementType).push(black_box("column_7")));
-    meter.case("path from 3 pushes", "", each(theirs), each(ours));
+    alike!(meter, "path from 3 pushes", "", _i, name = black_box("a"), black_box("a");
+        counted!(dtype::FieldPath::root().push(name).push(dtype::Field::ElementType).push(black_box("column_7"))));
     let paths: Vec<Paths> = (0..1000).map(|at| Paths::read(&format!("parent.{}", column(at)))).collect();
     let theirs: HashSet<Theirs> = paths.iter().map(|it| it.theirs[0].clone()).collect();
     let ours: HashSet<Ours> = paths.iter().map(|it| it.ours[0].clone()).collect();
-    let in_theirs = |i: usize| usize::from(theirs.contains(paths[i % 1000].theirs(1)));
-    let in_ours = |i: usize| usize::from(ours.contains(paths[i % 1000].ours(1)));
-    meter.case("HashSet of 1000 paths, contains", "", each(in_theirs), each(in_ours));
+    alike!(meter, "HashSet of 1000 paths, contains", "", i, (set, it) = (&theirs, paths[i % 1000].theirs(1)),
+        (&ours, paths[i % 1000].ours(1)); usize::from(set.contains(it)));
 }

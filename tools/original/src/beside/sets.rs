@@ -9,7 +9,7 @@ use vortex_array::dtype as theirs;
 use vortex_logical_types as ours;
 
 use crate::fixture::{Turns, column, mixed, path_of_ours};
-use crate::meter::{Meter, consuming, each, first};
+use crate::meter::{Meter, alike, consuming, each};
 
 fn flat(at: usize) -> String {
     format!("parent.{}", column(at))
@@ -41,18 +41,13 @@ fn of_form(meter: &mut Meter, of: &str, count: usize, form: fn(usize) -> String)
     for (family, sought) in [("set contains, hit", sought), ("set contains, miss", absent)] {
         let theirs_sought: Vec<theirs::FieldPath> = sought.iter().map(path_of_ours).collect();
         let (mut turns, mut our_turns) = (Turns::new(), Turns::new());
-        let theirs = |_| usize::from(theirs_set.contains(&theirs_sought[turns.below(count)]));
-        let ours = |_| usize::from(ours_set.contains(&sought[our_turns.below(count)]));
-        meter.case(family, of, each(theirs), each(ours));
+        alike!(meter, family, of, _i, (set, path) = (&theirs_set, &theirs_sought[turns.below(count)]),
+            (&ours_set, &sought[our_turns.below(count)]); usize::from(set.contains(path)));
     }
-    let theirs = |set: &theirs::FieldPathSet| set.iter().map(|it| it.parts().len()).sum();
-    let ours = |set: &ours::FieldPathSet| set.iter().map(|it| it.len()).sum();
-    let (theirs_again, ours_again) = (|_| theirs(black_box(&theirs_set)), |_| ours(black_box(&ours_set)));
-    meter.case("set members", of, each(theirs_again), each(ours_again));
-    let made = (|| theirs_set.clone(), || ours_set.clone());
-    meter.case("the first time: set members", of, first(made.0, theirs), first(made.1, ours));
+    alike!(meter, "set members", of, _i, set = black_box(&theirs_set), black_box(&ours_set);
+        set.iter().map(|it| it.parts().len()).sum());
     let theirs = |set: theirs::FieldPathSet| set.into_iter().map(|it| it.parts().len()).sum();
-    let ours = |set: ours::FieldPathSet| set.into_cover().map(|it| it.len()).sum();
+    let ours = |set: ours::FieldPathSet| set.into_iter().map(|it| it.len()).sum();
     meter.case("set cover", of, consuming(|| theirs_set.clone(), theirs), consuming(|| ours_set.clone(), ours));
     meter.case("set len", of, each(|_| black_box(&theirs_set).iter().count()), each(|_| black_box(&ours_set).len()));
     let theirs = |_| black_box(black_box(&theirs_set).clone()).iter().take(1).count();

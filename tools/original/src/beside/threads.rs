@@ -12,7 +12,7 @@ use vortex_array::dtype as theirs;
 use vortex_logical_types as ours;
 
 use crate::fixture::{Paths, Types, column, path_of_ours};
-use crate::looks::{used, used_ours};
+use crate::looks::used;
 
 const COUNTS: [usize; 4] = [1, 2, 4, 8];
 /// How long one thread alone takes about, in nanoseconds.
@@ -53,7 +53,7 @@ fn row(what: &str, theirs: impl Fn(usize) -> usize + Sync, ours: impl Fn(usize) 
         (0..4).map(&theirs).sum(),
         "{what}: the two sides find different things"
     );
-    for (side, rates) in [("vortex-array", rates(&theirs)), ("this package", rates(&ours))] {
+    for (side, rates) in [("vortex-array", rates(&theirs)), ("this crate", rates(&ours))] {
         let cells: Vec<String> = rates.iter().map(|it| format!("{it:.3}")).collect();
         println!("| {what} | {side} | {} |", cells.join(" | "));
     }
@@ -66,9 +66,7 @@ pub fn all() {
     let same = Types::columns(100);
     let name = column(70);
     let theirs = |i| it.theirs(i).as_struct_fields().find(&name).unwrap_or(7);
-    row("find among 100 columns", theirs, |i| {
-        it.ours(i).as_struct_fields_opt().and_then(|it| it.find(&name)).unwrap_or(7)
-    });
+    row("find among 100 columns", theirs, |i| it.ours(i).as_struct_fields().find(&name).unwrap_or(7));
     let path = Paths::read("column_70");
     let theirs = |i| usize::from(path.theirs(i).exists_in(it.theirs(i).clone()));
     row("exists_in, one step", theirs, |i| usize::from(path.ours(i).exists_in(it.ours(i))));
@@ -77,19 +75,19 @@ pub fn all() {
         |i| usize::from(it.theirs(i) == same.theirs(i)),
         |i| usize::from(it.ours(i) == same.ours(i)),
     );
-    row("clone and drop", |i| used(it.theirs(i).clone()), |i| used_ours(it.ours(i).clone()));
+    row("clone and drop", |i| used(it.theirs(i).clone()), |i| used(it.ours(i).clone()));
     let theirs = |i| path.theirs(i).resolve(it.theirs(i).clone()).map_or(7, used);
-    row("resolve, one step", theirs, |i| path.ours(i).resolve(it.ours(i)).map_or(7, used_ours));
+    row("resolve, one step", theirs, |i| path.ours(i).resolve(it.ours(i)).cloned().map_or(7, used));
     let theirs = |i| used(it.theirs(i).as_nullable());
-    row("as_nullable of 100 columns", theirs, |i| used_ours(it.ours(i).as_nullable()));
+    row("as_nullable of 100 columns", theirs, |i| used(it.ours(i).as_nullable()));
     let names: Vec<String> = (0..10).map(column).collect();
     let theirs_names: Vec<theirs::FieldName> = names.iter().map(|it| theirs::FieldName::from(it.as_str())).collect();
     let theirs = |i| it.theirs(i).as_struct_fields().project(&theirs_names).map_or(7, |it| it.nfields());
-    let nfields = |it: ours::DType| it.as_struct_fields_opt().map_or(7, |it| it.nfields());
-    let ours = |i| it.ours(i).as_struct_fields_opt().map_or(7, |it| it.project(&names).map_or(7, nfields));
+    let names: Vec<ours::FieldName> = names.iter().map(Into::into).collect();
+    let ours = |i| it.ours(i).as_struct_fields().project(&names).map_or(7, |it| it.nfields());
     row("project 10 of 100 columns", theirs, ours);
-    let paths: Vec<ours::FieldPath> = (0..10).map(|at| ours::FieldPath::from_name(&column(at))).collect();
+    let paths: Vec<ours::FieldPath> = (0..10).map(|at| ours::FieldPath::from_name(column(at))).collect();
     let theirs_paths: Vec<theirs::FieldPath> = paths.iter().map(path_of_ours).collect();
     let theirs = |_| theirs_paths.iter().cloned().collect::<theirs::FieldPathSet>().iter().count();
-    row("build a set of 10 paths", theirs, |_| paths.iter().collect::<ours::FieldPathSet>().len());
+    row("build a set of 10 paths", theirs, |_| paths.iter().cloned().collect::<ours::FieldPathSet>().len());
 }

@@ -4,12 +4,13 @@
 //! Calls on what structs, unions, maps and extension types consist of.
 
 use original::models;
-use vortex_array::dtype::{self as theirs, StructFields, UnionVariants};
+use vortex_array::dtype as theirs;
 use vortex_logical_types as ours;
 
 use crate::generate;
+use crate::plain::{Plain, caught};
+use crate::report::hash_of;
 use crate::round::*;
-use crate::shape::{Exactly, Shape, names_of};
 
 /// How many positions and names of a type are looked up.
 const LOOKUPS: usize = 4;
@@ -36,107 +37,128 @@ pub fn of_struct(round: &mut Round, it: &Pair, other: &Pair) {
     let (Some(ours), Some(theirs)) = (it.ours.as_struct_fields_opt(), it.theirs.as_struct_fields_opt()) else {
         return;
     };
-    same! { round, it.text();
-        "nfields": ours.nfields(), theirs.nfields();
-        "names": ours.names().map(str::to_owned).collect::<Vec<_>>(), theirs.names().iter().map(Exactly::to_string_exactly).collect();
-        "fields": ours.fields().map(Shape::of_ours).collect::<Vec<_>>(),
-            theirs.fields().map(|it| Shape::of_theirs(&it)).collect();
-        "indented": ours.indented(), format!("{theirs:#}");
+    both! { round, it.text(), it = ours, theirs;
+        "nfields" => it.nfields();
+        "StructFields::names" => it.names();
+        "fields" => it.fields().map(|it| it.plain()).collect::<Vec<_>>();
+        "field_dtypes" => it.field_dtypes().map(|it| it.plain()).collect::<Vec<_>>();
+        "StructFields::clone" => it.clone();
+        "StructFields::to_string" => it.to_string();
     }
-    let names: Vec<String> = ours.names().map(str::to_owned).collect();
+    let pairs: Vec<_> = theirs.names().iter().cloned().zip(theirs.fields()).collect();
+    same! { round, it.text();
+        "indented" => ours.indented(), format!("{theirs:#}");
+        "StructFields::iter" => ours.iter().collect::<Vec<_>>(), pairs;
+        "StructFields::into_iter" => ours.clone().into_iter().collect::<Vec<_>>(), pairs;
+    }
+    let names = ours.names().plain();
     for _ in 0..LOOKUPS {
         let (at, name) = (position(round, names.len()), sought(round, &names, 4));
-        same! { round, format!("{at} and {name:?} of {}", it.text());
-            "field_name": ours.field_name(at).map(str::to_owned), theirs.field_name(at).map(Exactly::to_string_exactly);
-            "field_by_index": ours_found(ours.field_by_index(at).cloned()), theirs_found(theirs.field_by_index(at));
-            "find": ours.find(&name), theirs.find(&name);
-            "field": ours_found(ours.field(&name).cloned()), theirs_found(theirs.field(&name));
+        both! { round, format!("{at} and {name:?} of {}", it.text()), it = ours, theirs;
+            "field_name" => it.field_name(at).cloned();
+            "field_by_index" => it.field_by_index(at);
+            "find" => it.find(&name);
+            "field" => it.field(&name);
+        }
+        same! { round, format!("{name:?} of {}", it.text());
+            "find_counted" => ours.find_counted(&name), (theirs.find(&name), u64::from(models::comparisons(theirs)));
         }
     }
-    let n = it.theirs.nullability();
-    of_parts(round, it, (ours, theirs), &names, n);
-    if let (Some(more), Some(theirs_more)) = (other.ours.as_struct_fields_opt(), other.theirs.as_struct_fields_opt()) {
-        let merged = models::disjoint_merge(theirs, theirs_more).map(|it| theirs::DType::Struct(it, n));
-        same! { round, format!("{} and {}", it.text(), other.text());
-            "disjoint_merge": ours_made(ours.disjoint_merge(&more)), theirs_made(merged);
+    of_some(round, it, (ours, theirs), &names);
+    if let (Some(more), Some(their_more)) = (other.ours.as_struct_fields_opt(), other.theirs.as_struct_fields_opt()) {
+        both! { round, format!("{} and {}", it.text(), other.text()), (a, b) = (ours, more), (theirs, their_more);
+            "disjoint_merge" => a.disjoint_merge(b);
+            "StructFields::eq" => a == b;
+            "StructFields::hash" => hash_of(a) == hash_of(b);
+            "StructFields::eq_ignore_nullability" => a.eq_ignore_nullability(b);
         }
     }
+    fields_as_types(round, it);
 }
 
-/// Structs of a part of the fields.
-fn of_parts(
+/// Structs of some of the fields.
+fn of_some(
     round: &mut Round,
     it: &Pair,
-    (ours, theirs): (ours::StructFields, &StructFields),
+    (ours, theirs): (&ours::StructFields, &theirs::StructFields),
     names: &[String],
-    n: theirs::Nullability,
 ) {
     let at = position(round, names.len());
     let count = round.random.below(5);
     let wanted: Vec<String> = (0..count).map(|_| sought(round, names, 20)).collect();
-    let projected = models::project(names_of(wanted.iter()).as_ref(), theirs);
-    same! { round, format!("{at} and {wanted:?} of {}", it.text());
-        "without_field": ours_made(ours.without_field(at)),
-            theirs_made(theirs.without_field(at).map(|it| theirs::DType::Struct(it, n)));
-        "project": ours_made(ours.project(&wanted)), theirs_made(projected.map(|it| theirs::DType::Struct(it, n)));
+    let wanted_ours: ours::FieldNames = wanted.iter().map(String::as_str).collect();
+    let wanted_theirs: theirs::FieldNames = wanted.iter().map(String::as_str).collect();
+    both! { round, format!("{at} of {}", it.text()), it = ours, theirs; "without_field" => it.without_field(at); }
+    same! { round, format!("{wanted:?} of {}", it.text());
+        "project" => ours.project(wanted_ours.as_ref()), models::project(wanted_theirs.as_ref(), theirs);
     }
 }
 
-/// The calls on a union.
-pub fn of_union(round: &mut Round, it: &Pair) {
+/// The types of fields as values of their own.
+fn fields_as_types(round: &mut Round, it: &Pair) {
+    let [one, nullable] = [it.ours.clone(), it.ours.as_nullable()].map(ours::FieldDType::from);
+    let [their_one, their_nullable] = [it.theirs.clone(), it.theirs.as_nullable()].map(theirs::FieldDType::from);
+    both! { round, it.text(), (one, nullable) = (&one, &nullable), (&their_one, &their_nullable);
+        "FieldDType::from" => one;
+        "FieldDType::clone" => nullable.clone();
+        "FieldDType::eq" => one == nullable;
+        "FieldDType::hash" => hash_of(one) == hash_of(nullable);
+    }
+}
+
+/// The calls on a union, and on it with another.
+pub fn of_union(round: &mut Round, it: &Pair, other: &Pair) {
     let (Some(ours), Some(theirs)) = (it.ours.as_union_variants_opt(), it.theirs.as_union_variants_opt()) else {
         return;
     };
-    same! { round, it.text();
-        "UnionVariants::len": ours.len(), theirs.len();
-        "UnionVariants::names": ours.names().map(str::to_owned).collect::<Vec<_>>(),
-            theirs.names().iter().map(Exactly::to_string_exactly).collect();
-        "type_ids": ours.type_ids(), theirs.type_ids().to_vec();
-        "is_consecutive": ours.is_consecutive(), theirs.is_consecutive();
-        "variants": ours.variants().map(Shape::of_ours).collect::<Vec<_>>(),
-            theirs.variants().map(|it| Shape::of_theirs(&it)).collect();
+    both! { round, it.text(), it = ours, theirs;
+        "UnionVariants::len" => it.len();
+        "UnionVariants::is_empty" => (it.is_empty(), it.len());
+        "UnionVariants::names" => it.names();
+        "type_ids" => it.type_ids();
+        "is_consecutive" => it.is_consecutive();
+        "variants" => it.variants().map(|it| it.plain()).collect::<Vec<_>>();
+        "UnionVariants::clone" => it.clone();
+        "UnionVariants::to_string" => it.to_string();
     }
-    let names: Vec<String> = ours.names().map(str::to_owned).collect();
+    let pairs: Vec<_> = theirs.names().iter().cloned().zip(theirs.variants()).collect();
+    same! { round, it.text(); "UnionVariants::iter" => ours.iter().collect::<Vec<_>>(), pairs; }
+    let names = ours.names().plain();
     for _ in 0..LOOKUPS {
         let (at, name) = (position(round, names.len()), sought(round, &names, 4));
-        let tag = if round.random.bool() { *round.random.pick(&ours.type_ids()) } else { round.random.number() as u8 };
-        same! { round, format!("{at}, {name:?} and tag {tag} of {}", it.text());
-            "variant_name": ours.variant_name(at).map(str::to_owned), theirs.names().get(at).map(Exactly::to_string_exactly);
-            "variant_by_index": ours_found(ours.variant_by_index(at).cloned()), theirs_found(theirs.variant_by_index(at));
-            "UnionVariants::find": ours.find(&name), theirs.find(&name);
-            "variant": ours_found(ours.variant(&name).cloned()), theirs_found(theirs.variant(&name));
-            "tag_to_child_index": ours.tag_to_child_index(tag), theirs.tag_to_child_index(tag);
-            "child_index_to_tag": ours.child_index_to_tag(at), tag_at(theirs, at);
+        let tag = if round.random.bool() { *round.random.pick(ours.type_ids()) } else { round.random.number() as u8 };
+        both! { round, format!("{at}, {name:?} and tag {tag} of {}", it.text()), it = ours, theirs;
+            "variant_name" => it.names().get(at).cloned();
+            "variant_by_index" => it.variant_by_index(at);
+            "UnionVariants::find" => it.find(&name);
+            "variant" => it.variant(&name);
+            "tag_to_child_index" => it.tag_to_child_index(tag);
+            "child_index_to_tag" => caught(|| it.child_index_to_tag(at));
+        }
+    }
+    if let (Some(more), Some(their_more)) = (other.ours.as_union_variants_opt(), other.theirs.as_union_variants_opt()) {
+        both! { round, format!("{} and {}", it.text(), other.text()), (a, b) = (ours, more), (theirs, their_more);
+            "UnionVariants::eq" => a == b;
+            "UnionVariants::hash" => hash_of(a) == hash_of(b);
+            "UnionVariants::eq_ignore_nullability" => a.eq_ignore_nullability(b);
         }
     }
 }
 
-/// The original panics at a position that is out of range.
-fn tag_at(variants: &UnionVariants, at: usize) -> Option<u8> {
-    (at < variants.len()).then(|| variants.child_index_to_tag(at))
-}
-
-/// The calls on a map.
-pub fn of_map(round: &mut Round, it: &Pair) {
+/// The calls on a map, and on it with another.
+pub fn of_map(round: &mut Round, it: &Pair, other: &Pair) {
     let (Some(ours), Some(theirs)) = (it.ours.as_map_opt(), it.theirs.as_map_opt()) else {
         return;
     };
-    same! { round, it.text();
-        "key_dtype": Shape::of_ours(ours.key_dtype()), Shape::of_theirs(&theirs.key_dtype());
-        "value_dtype": Shape::of_ours(ours.value_dtype()), Shape::of_theirs(&theirs.value_dtype());
-        "entries_dtype": ours_made(ours.entries_dtype()), Ok(Shape::of_theirs(&theirs.entries_dtype()));
-        "keys_sorted": ours.keys_sorted(), theirs.keys_sorted();
+    methods! { round, it.text(), "", ours, theirs; key_dtype value_dtype entries_dtype keys_sorted }
+    both! { round, it.text(), it = ours, theirs;
+        "MapDType::clone" => it.clone();
+        "MapDType::to_string" => it.to_string();
     }
-}
-
-/// The calls on an extension type.
-pub fn of_extension(round: &mut Round, it: &Pair) {
-    let (Some(ours), Some(theirs)) = (it.ours.as_extension_opt(), it.theirs.as_extension_opt()) else {
-        return;
-    };
-    same! { round, it.text();
-        "id": ours.id().to_owned(), theirs.id().as_ref().to_owned();
-        "metadata_bytes": ours.metadata_bytes().to_vec(), theirs.serialize_metadata().expect("metadata");
-        "storage_dtype": Shape::of_ours(ours.storage_dtype()), Shape::of_theirs(theirs.storage_dtype());
+    if let (Some(more), Some(their_more)) = (other.ours.as_map_opt(), other.theirs.as_map_opt()) {
+        both! { round, format!("{} and {}", it.text(), other.text()), (a, b) = (ours, more), (theirs, their_more);
+            "MapDType::eq" => a == b;
+            "MapDType::hash" => hash_of(a) == hash_of(b);
+        }
     }
 }

@@ -3,11 +3,9 @@
 
 //! Random types, types that are nearly another, names, and paths that often lead somewhere.
 
+use crate::plain::Steps;
 use crate::random::Random;
 use crate::shape::Shape::{self, *};
-
-/// The steps of a path: a name, or none for the step into an element.
-pub type Steps = Vec<Option<String>>;
 
 /// Names that often repeat, and names that texts have to quote or escape.
 const NAMES: [&str; 32] = [
@@ -148,9 +146,9 @@ fn wide(random: &mut Random) -> Shape {
     Struct(fields.collect(), false)
 }
 
-/// A type of up to 128 levels, which is as deep as the library makes them.
+/// A type of up to 140 levels. (The text of a type may have 128.)
 fn deep(random: &mut Random) -> Shape {
-    let levels = if random.bool() { 128 } else { random.below(128) };
+    let levels = if random.bool() { 127 + random.below(3) } else { random.below(141) };
     (0..levels).fold(leaf(random), |inner, _| match random.below(4) {
         0 => Struct(vec![(name(random), inner)], random.bool()),
         1 => FixedSizeList(Box::new(inner), 1, random.bool()),

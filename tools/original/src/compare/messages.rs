@@ -1,89 +1,73 @@
 // SPDX-License-Identifier: Apache-2.0
 // SPDX-FileCopyrightText: Copyright the Vortex contributors
 
-//! Messages of types and of paths. The original's are structs; this library gets the same message as nodes and texts.
+//! Messages of types and of paths, and the types that sessions read from them.
 
-use original::living::Session;
 use original::models;
-use original::types::{Answer as Told, Stop};
+use original::plugins::{PLUGINS, Session};
 use vortex_array::dtype as theirs;
 use vortex_array::dtype::proto::dtype as pb;
 use vortex_array::dtype::proto::dtype::d_type::DtypeType;
 use vortex_array::dtype::proto::dtype::field::FieldType;
-use vortex_logical_types::{self as ours, FlatMessage, Node, UnknownIds};
+use vortex_logical_types::{self as ours, fallible, pb as our_pb};
 
 use crate::generate;
+use crate::plugins;
 use crate::random::Random;
 use crate::round::*;
-use crate::shape::Shape;
 
-/// A message on both sides.
-struct Messages {
-    ours: ours::Message,
-    theirs: pb::DType,
-}
-
-/// The message's own node, with its texts and tags, and then its parts.
-fn flat(message: &pb::DType) -> FlatMessage {
-    let mut flat = FlatMessage::default();
-    add(message, &mut flat);
-    flat
-}
-
-fn add(message: &pb::DType, to: &mut FlatMessage) {
-    let node = |kind, nullable: bool| Node { kind, nullable: nullable.into(), ..Node::default() };
-    let Some(kind) = &message.dtype_type else { return to.nodes.push(Node::default()) };
-    match kind {
-        DtypeType::Null(_) => to.nodes.push(node(1, false)),
-        DtypeType::Bool(it) => to.nodes.push(node(2, it.nullable)),
-        DtypeType::Primitive(it) => to.nodes.push(Node { value: it.r#type, ..node(3, it.nullable) }),
-        DtypeType::Decimal(it) => {
-            to.nodes.push(Node { number: it.precision, value: it.scale, ..node(4, it.nullable) });
+/// The message of this library with the same fields as one of the original.
+pub fn of_theirs(message: &pb::DType) -> our_pb::DType {
+    let boxed = |it: &Option<Box<pb::DType>>| it.as_ref().map(|it| Box::new(of_theirs(it)));
+    let all = |it: &[pb::DType]| it.iter().map(of_theirs).collect();
+    let texts = |it: &[String]| it.iter().map(|it| fallible::String::from(it.as_str())).collect();
+    let kind = message.dtype_type.as_ref().map(|kind| match kind {
+        DtypeType::Null(_) => our_pb::DtypeType::Null(our_pb::Null {}),
+        DtypeType::Bool(it) => our_pb::DtypeType::Bool(our_pb::Bool { nullable: it.nullable }),
+        DtypeType::Primitive(it) => {
+            our_pb::DtypeType::Primitive(our_pb::Primitive { ptype: it.r#type, nullable: it.nullable })
         }
-        DtypeType::Utf8(it) => to.nodes.push(node(5, it.nullable)),
-        DtypeType::Binary(it) => to.nodes.push(node(6, it.nullable)),
-        DtypeType::Variant(it) => to.nodes.push(node(12, it.nullable)),
-        DtypeType::List(it) => {
-            to.nodes.push(Node { has_first: it.element_type.is_some().into(), ..node(7, it.nullable) });
-            add_all(&it.element_type, to);
-        }
-        DtypeType::FixedSizeList(it) => {
-            let has_first = it.element_type.is_some().into();
-            to.nodes.push(Node { has_first, number: it.size, ..node(8, it.nullable) });
-            add_all(&it.element_type, to);
-        }
-        DtypeType::Map(it) => {
-            let (has_first, has_second) = (it.key_type.is_some().into(), it.value_type.is_some().into());
-            to.nodes.push(Node { has_first, has_second, keys_sorted: it.keys_sorted.into(), ..node(9, it.nullable) });
-            add_all(it.key_type.iter().chain(&it.value_type), to);
-        }
-        DtypeType::Struct(it) => add_fields(node(10, it.nullable), (&it.names, &[], &it.dtypes), to),
-        DtypeType::Union(it) => add_fields(node(11, it.nullable), (&it.names, &it.type_ids, &it.dtypes), to),
-        DtypeType::Extension(it) => {
-            let (has_first, has_second) = (it.storage_dtype.is_some().into(), it.metadata.is_some().into());
-            to.nodes.push(Node { has_first, has_second, ..node(13, false) });
-            add_text(it.id.as_bytes(), to);
-            it.metadata.iter().for_each(|it| add_text(it, to));
-            add_all(&it.storage_dtype, to);
-        }
-    }
-}
-
-fn add_all<'a>(messages: impl IntoIterator<Item = &'a Box<pb::DType>>, to: &mut FlatMessage) {
-    messages.into_iter().for_each(|it| add(it, to));
-}
-
-fn add_text(text: &[u8], to: &mut FlatMessage) {
-    to.nodes.push(Node { kind: 14, number: text.len() as u32, ..Node::default() });
-    to.texts.extend(text);
-}
-
-fn add_fields(node: Node, (names, tags, dtypes): (&[String], &[i32], &[pb::DType]), to: &mut FlatMessage) {
-    let [names_count, tags_count, types] = [names.len(), tags.len(), dtypes.len()].map(|it| it as u32);
-    to.nodes.push(Node { names: names_count, tags: tags_count, types, ..node });
-    names.iter().for_each(|it| add_text(it.as_bytes(), to));
-    to.nodes.extend(tags.iter().map(|tag| Node { kind: 15, value: *tag, ..Node::default() }));
-    dtypes.iter().for_each(|it| add(it, to));
+        DtypeType::Decimal(it) => our_pb::DtypeType::Decimal(our_pb::Decimal {
+            precision: it.precision,
+            scale: it.scale,
+            nullable: it.nullable,
+        }),
+        DtypeType::Utf8(it) => our_pb::DtypeType::Utf8(our_pb::Utf8 { nullable: it.nullable }),
+        DtypeType::Binary(it) => our_pb::DtypeType::Binary(our_pb::Binary { nullable: it.nullable }),
+        DtypeType::Variant(it) => our_pb::DtypeType::Variant(our_pb::Variant { nullable: it.nullable }),
+        DtypeType::List(it) => our_pb::DtypeType::List(Box::new(our_pb::List {
+            element_type: boxed(&it.element_type),
+            nullable: it.nullable,
+        })),
+        DtypeType::FixedSizeList(it) => our_pb::DtypeType::FixedSizeList(Box::new(our_pb::FixedSizeList {
+            element_type: boxed(&it.element_type),
+            size: it.size,
+            nullable: it.nullable,
+        })),
+        DtypeType::Map(it) => our_pb::DtypeType::Map(Box::new(our_pb::Map {
+            key_type: boxed(&it.key_type),
+            value_type: boxed(&it.value_type),
+            keys_sorted: it.keys_sorted,
+            nullable: it.nullable,
+        })),
+        DtypeType::Struct(it) => our_pb::DtypeType::Struct(our_pb::Struct {
+            names: texts(&it.names),
+            dtypes: all(&it.dtypes),
+            nullable: it.nullable,
+        }),
+        DtypeType::Union(it) => our_pb::DtypeType::Union(our_pb::Union {
+            names: texts(&it.names),
+            dtypes: all(&it.dtypes),
+            type_ids: it.type_ids.iter().copied().collect(),
+            nullable: it.nullable,
+        }),
+        DtypeType::Extension(it) => our_pb::DtypeType::Extension(Box::new(our_pb::Extension {
+            id: it.id.as_str().into(),
+            storage_dtype: boxed(&it.storage_dtype),
+            metadata: it.metadata.as_deref().map(Into::into),
+        })),
+    });
+    our_pb::DType { dtype_type: kind }
 }
 
 /// A random message, which describes a type or has one of the faults that a message can have.
@@ -161,52 +145,43 @@ fn fields(random: &mut Random, levels: usize) -> (Vec<String>, Vec<pb::DType>, V
     (names, dtypes, tags)
 }
 
-/// The message on both sides, which are compared as the answer of the call that reads nodes.
-fn made(round: &mut Round, theirs: pb::DType) -> Messages {
-    let ours = ours::Message::from_flat(&flat(&theirs)).unwrap_or_else(|error| panic!("{theirs:?}: {error}"));
-    let theirs = if round.is_spoiled { random(&mut round.random, 2) } else { theirs };
-    let about = || told(&theirs);
-    round.report.same("Message::from_flat", flat_of(&ours), flat(&theirs), about);
-    Messages { ours, theirs }
-}
-
-/// The flat form as this library writes it.
-fn flat_of(message: &ours::Message) -> FlatMessage {
-    message.to_flat().expect("a flat message")
-}
-
-/// The calls on random messages.
+/// Random messages on both sides, and one that is often the same.
 pub fn of_any(round: &mut Round) {
-    let (one, other) = (random(&mut round.random, 3), random(&mut round.random, 3));
-    let other = if round.random.bool() { one.clone() } else { other };
-    let (one, other) = (made(round, one), made(round, other));
-    let source = told(&one.theirs);
-    same! { round, source.clone();
-        "Message::eq": one.ours == other.ours, one.theirs == other.theirs;
-        "Message::clone": flat_of(&one.ours.clone()), flat(&one.theirs);
+    let message = random(&mut round.random, 3);
+    let other = if round.random.bool() { message.clone() } else { random(&mut round.random, 3) };
+    let (here, other_here) = (of_theirs(&message), of_theirs(&other));
+    let about = format!("{message:?}");
+    let there = if round.is_spoiled { random(&mut round.random, 3) } else { message };
+    both! { round, about.clone(), (one, other) = (&here, &other_here), (&there, &other);
+        "pb::DType::eq" => one == other;
+        "pb::DType::clone" => one.clone();
     }
-    for (unknown, word) in [(UnknownIds::Refuse, "strict"), (UnknownIds::Allow, "unknown")] {
-        let session = Session::of(vec![word]).made();
-        let there = || models::read(&session, &one.theirs);
-        same! { round, format!("{word}: {source}");
-            "DType::from_proto": ours_made(ours::DType::from_proto(&one.ours, unknown)), theirs_made(there());
-            "Message::normal": one.ours.normal(unknown).map(|it| flat_of(&it)).map_err(|error| error.code()),
-                there().and_then(|it| written(&it)).map_err(code_of);
-        }
+    let session: Vec<&'static str> = match round.random.below(4) {
+        0 => vec!["strict"],
+        1 => vec!["unknown"],
+        _ => ["unknown"].into_iter().chain(PLUGINS).filter(|_| round.random.bool()).collect(),
+    };
+    let here_session = plugins::session(&session);
+    let there_session = Session::of(session.clone()).made();
+    let read_here = ours::DType::from_proto(&here, &here_session);
+    let read_there = models::read(&there_session, &there);
+    same! { round, format!("{session:?}: {about}");
+        "DType::from_proto" => read_here, read_there;
+        "DType::to_proto of from_proto" => read_here.map(|it| it.to_proto()),
+            read_there.and_then(|it| Ok(pb::DType::try_from(&it)?));
+        "allows_unknown" => here_session.allows_unknown(), there_session.allows_unknown() ^ round.is_spoiled;
     }
-}
-
-fn written(dtype: &theirs::DType) -> Told<FlatMessage> {
-    Ok(flat(&pb::DType::try_from(dtype)?))
 }
 
 /// The calls on the message of a type.
 pub fn of_type(round: &mut Round, it: &Pair) {
+    let mut session = ours::DTypeSession::new();
+    session.allow_unknown();
     let message = it.ours.to_proto();
-    let back = ours::DType::from_proto(&message, UnknownIds::Allow);
     same! { round, it.text();
-        "DType::to_proto": Ok(flat_of(&message)), written(&it.theirs).map_err(code_of);
-        "DType::from_proto of to_proto": ours_made(back), Ok(Shape::of_theirs(&it.theirs));
+        "pb::DType::try_from(&DType)" => our_pb::DType::try_from(&it.ours), pb::DType::try_from(&it.theirs);
+        "DType::to_proto" => message, pb::DType::try_from(&it.theirs).expect("a message");
+        "DType::from_proto of to_proto" => ours::DType::from_proto(&message, &session).ok(), Some(&it.theirs);
     }
 }
 
@@ -216,17 +191,16 @@ pub fn of_path(round: &mut Round) {
     let parts: Vec<Option<String>> = (0..count)
         .map(|_| if round.random.one_in(12) { None } else { Some(generate::name(&mut round.random)) })
         .collect();
-    let field = |name: &Option<String>| pb::Field { field_type: name.clone().map(FieldType::Name) };
-    let given = if round.is_spoiled { &parts[parts.len() / 2..] } else { &parts[..] };
-    let path: Vec<pb::Field> = given.iter().map(field).collect();
-    let source = parts.iter().map(|it| told(&field(it))).collect::<Vec<_>>().join(" ");
-    let there = || {
-        let read: Told<theirs::FieldPath> =
-            theirs::FieldPath::try_from(&pb::FieldPath { path: path.clone() }).map_err(Stop::from);
-        read.map(|it| steps_of_theirs(&it)).map_err(code_of)
-    };
-    let here = |it: Result<ours::FieldPath, ours::Error>| it.map(|it| steps_of_ours(&it)).map_err(|error| error.code());
-    same! { round, source.clone();
-        "FieldPath::from_proto": here(ours::FieldPath::from_proto(parts.iter().map(Option::as_ref))), there();
+    let given = round.or_spoiled(&parts[..], &parts[parts.len() / 2..]);
+    let there = given.iter().map(|name| pb::Field { field_type: name.clone().map(FieldType::Name) }).collect();
+    let here = parts
+        .iter()
+        .map(|name| our_pb::Field { field_type: name.as_ref().map(|it| our_pb::FieldType::Name(it.as_str().into())) });
+    let (here, there) = (our_pb::FieldPath { path: here.collect() }, pb::FieldPath { path: there });
+    both! { round, format!("{parts:?}"), message = &here, &there;
+        "FieldPath::try_from(&pb::FieldPath)" => dtype::FieldPath::try_from(message);
+    }
+    same! { round, format!("{parts:?}");
+        "FieldPath::from_proto" => ours::FieldPath::from_proto(&here.clone()), theirs::FieldPath::try_from(&there);
     }
 }

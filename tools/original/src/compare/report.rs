@@ -12,7 +12,7 @@ use crate::shape::Shape;
 /// How many differences of a call are printed.
 const SHOWN: u64 = 3;
 
-/// How many different types one process remembers. Beyond that it doesn't count them.
+/// How many different types one thread remembers. Beyond that it doesn't count them.
 const REMEMBERED: usize = 2_000_000;
 
 #[derive(Default)]
@@ -56,11 +56,15 @@ impl Report {
         }
     }
 
-    /// Adds what another process counted.
-    pub fn add(&mut self, call: &str, compared: u64, different: u64) {
-        let count = self.counts.entry(call.to_owned()).or_default();
-        count.compared += compared;
-        count.different += different;
+    /// Adds what another thread counted.
+    pub fn and(mut self, other: Report) -> Report {
+        for (call, it) in other.counts {
+            let count = self.counts.entry(call).or_default();
+            count.compared += it.compared;
+            count.different += it.different;
+        }
+        self.types.extend(other.types);
+        self
     }
 
     /// How many answers were compared.

@@ -3,12 +3,12 @@
 
 //! Types as plain data, from which both sides build theirs, and as which the types of both sides are compared.
 
-use std::sync::Arc;
-
 use original::types::PTYPES;
-use vortex_array::dtype::extension::{ExtId, ForeignExtDType};
-use vortex_array::dtype::{self as theirs, FieldName, FieldNames, StructFields, UnionVariants};
-use vortex_logical_types::{self as ours, Error, Kind};
+use vortex_array::dtype as theirs;
+use vortex_array::dtype::extension as their_extension;
+use vortex_logical_types as ours;
+
+use crate::plain::Plain;
 
 /// A type. The last `bool` of most kinds is whether values may be null.
 #[derive(Debug, Clone, PartialEq, Eq, Hash)]
@@ -71,169 +71,145 @@ impl Shape {
         self.parts().iter().map(|it| it.levels() + 1).max().unwrap_or(0)
     }
 
-    /// The type as this library builds it.
-    pub fn ours(&self) -> Result<ours::DType, Error> {
-        use ours::DType;
-        match self {
-            Null => Ok(DType::null()),
-            Bool(n) => Ok(DType::bool((*n).into())),
-            Primitive(number, n) => Ok(DType::primitive(ours::PType::ALL[*number], (*n).into())),
-            Decimal(precision, scale, n) => DType::decimal(*precision, *scale, (*n).into()),
-            Utf8(n) => Ok(DType::utf8((*n).into())),
-            Binary(n) => Ok(DType::binary((*n).into())),
-            Variant(n) => Ok(DType::variant((*n).into())),
-            List(element, n) => DType::list(&element.ours()?, (*n).into()),
-            FixedSizeList(element, size, n) => DType::fixed_size_list(&element.ours()?, *size, (*n).into()),
-            Map(parts, sorted, n) => DType::map(&parts[0].ours()?, &parts[1].ours()?, *sorted, (*n).into()),
-            Struct(fields, n) => {
-                let fields: Result<Vec<_>, Error> = fields.iter().map(|(name, it)| Ok((name, it.ours()?))).collect();
-                DType::struct_(fields?, (*n).into())
-            }
-            Union(variants, n) => ours_union(variants, (*n).into()),
-            Extension(id, metadata, storage) => DType::extension(id, metadata, &storage.ours()?),
-        }
+    /// Whether the tags of a union are 0, 1, 2 and so on.
+    fn has_plain_tags(&self) -> bool {
+        let Union(variants, _) = self else { return false };
+        variants.iter().enumerate().all(|(at, (_, tag, _))| at == usize::from(*tag))
     }
 
-    /// The type as the original builds it.
-    pub fn theirs(&self) -> theirs::DType {
-        use theirs::DType;
-        match self {
-            Null => DType::Null,
-            Bool(n) => DType::Bool((*n).into()),
-            Primitive(number, n) => DType::Primitive(PTYPES[*number], (*n).into()),
-            Decimal(precision, scale, n) => DType::Decimal(theirs::DecimalDType::new(*precision, *scale), (*n).into()),
-            Utf8(n) => DType::Utf8((*n).into()),
-            Binary(n) => DType::Binary((*n).into()),
-            Variant(n) => DType::Variant((*n).into()),
-            List(element, n) => DType::List(Arc::new(element.theirs()), (*n).into()),
-            FixedSizeList(element, size, n) => DType::FixedSizeList(Arc::new(element.theirs()), *size, (*n).into()),
-            Map(parts, sorted, n) => {
-                let [key, value] = [parts[0].theirs(), parts[1].theirs()];
-                DType::Map(theirs::MapDType::try_new(key, value, *sorted).expect("a map"), (*n).into())
-            }
-            Struct(fields, n) => {
-                let (names, dtypes): (Vec<_>, Vec<_>) =
-                    fields.iter().map(|(name, it)| (FieldName::from(name.as_str()), it.theirs())).unzip();
-                DType::Struct(StructFields::new(names.into(), dtypes), (*n).into())
-            }
-            Union(variants, n) => {
-                let tags = variants.iter().map(|(_, tag, _)| *tag).collect();
-                let dtypes = variants.iter().map(|(_, _, it)| it.theirs()).collect();
-                let names = names_of(variants.iter().map(|(name, ..)| name));
-                DType::Union(UnionVariants::try_new(names, dtypes, tags).expect("a union"), (*n).into())
-            }
-            Extension(id, metadata, storage) => {
-                let parts = ForeignExtDType::from_parts(ExtId::new(id), metadata.clone(), storage.theirs());
-                DType::Extension(parts.expect("an extension"))
-            }
-        }
+    /// The type with this mark for whether values may be null.
+    fn marked(mut self, nullable: bool) -> Shape {
+        self.mark().into_iter().for_each(|it| *it = nullable);
+        self
     }
+}
 
-    /// What a type of this library is.
-    pub fn of_ours(dtype: &ours::DType) -> Shape {
-        let n = dtype.is_nullable();
-        let boxed = |it: Option<&ours::DType>| Box::new(Shape::of_ours(it.expect("an element")));
-        match dtype.kind() {
-            Kind::Null => Null,
-            Kind::Bool => Bool(n),
-            Kind::Primitive => Primitive(dtype.as_ptype_opt().expect("a primitive type").number() as usize, n),
-            Kind::Decimal => {
-                let decimal = dtype.as_decimal_opt().expect("a decimal");
-                Decimal(decimal.precision(), decimal.scale(), n)
-            }
-            Kind::Utf8 => Utf8(n),
-            Kind::Binary => Binary(n),
-            Kind::Variant => Variant(n),
-            Kind::List => List(boxed(dtype.as_list_element_opt()), n),
-            Kind::FixedSizeList => {
-                let size = dtype.as_fixed_size_opt().expect("a size");
-                FixedSizeList(boxed(dtype.as_fixed_size_list_element_opt()), size, n)
-            }
-            Kind::Map => {
-                let map = dtype.as_map_opt().expect("a map");
-                let parts = [map.key_dtype(), map.value_dtype()];
-                Map(Box::new(parts.map(Shape::of_ours)), map.keys_sorted(), n)
-            }
-            Kind::Struct => {
-                let fields = dtype.as_struct_fields_opt().expect("a struct");
-                Struct(fields.iter().map(|(name, it)| (name.to_owned(), Shape::of_ours(it))).collect(), n)
-            }
-            Kind::Union => {
-                let union = dtype.as_union_variants_opt().expect("a union");
-                let tagged = union.names().zip(union.type_ids()).zip(union.variants());
-                Union(tagged.map(|((name, tag), it)| (name.to_owned(), tag, Shape::of_ours(it))).collect(), n)
-            }
-            Kind::Extension => {
-                let it = dtype.as_extension_opt().expect("an extension");
-                Extension(it.id().to_owned(), it.metadata_bytes().to_vec(), Box::new(Shape::of_ours(it.storage_dtype())))
+/// Writes what makes a type of a side, and what reads a type of that side. The sides differ in the pointer to an
+/// element and in how an extension is made.
+macro_rules! side {
+    ($made:ident, $side:ident, $arc:path, $ptypes:expr, $extension:expr) => {
+        impl Shape {
+            pub fn $made(&self) -> $side::DType {
+                use $side::{DType, DecimalDType, MapDType, StructFields, UnionVariants};
+                match self {
+                    Null => DType::Null,
+                    Bool(n) => DType::Bool((*n).into()),
+                    Primitive(number, n) => DType::Primitive($ptypes[*number], (*n).into()),
+                    Decimal(precision, scale, n) => DType::Decimal(DecimalDType::new(*precision, *scale), (*n).into()),
+                    Utf8(n) => DType::Utf8((*n).into()),
+                    Binary(n) => DType::Binary((*n).into()),
+                    Variant(n) => DType::Variant((*n).into()),
+                    List(element, n) => DType::List(<$arc>::new(element.$made()), (*n).into()),
+                    FixedSizeList(element, size, n) => {
+                        DType::FixedSizeList(<$arc>::new(element.$made()), *size, (*n).into())
+                    }
+                    Map(parts, sorted, n) => {
+                        let map = MapDType::try_new(parts[0].$made(), parts[1].$made(), *sorted);
+                        DType::Map(map.expect("a map"), (*n).into())
+                    }
+                    Struct(fields, n) => {
+                        let names = fields.iter().map(|(name, _)| name.as_str()).collect();
+                        let dtypes = fields.iter().map(|(_, it)| it.$made()).collect();
+                        DType::Struct(StructFields::new(names, dtypes), (*n).into())
+                    }
+                    Union(variants, n) => {
+                        let names = variants.iter().map(|(name, ..)| name.as_str()).collect();
+                        let dtypes = variants.iter().map(|(_, _, it)| it.$made()).collect();
+                        let union = match self.has_plain_tags() {
+                            true => UnionVariants::new(names, dtypes),
+                            false => {
+                                UnionVariants::try_new(names, dtypes, variants.iter().map(|(_, tag, _)| *tag).collect())
+                            }
+                        };
+                        DType::Union(union.expect("a union"), (*n).into())
+                    }
+                    Extension(id, metadata, storage) => {
+                        DType::Extension($extension(id, metadata.clone(), storage.$made()))
+                    }
+                }
             }
         }
-    }
 
-    /// What a type of the original is.
-    pub fn of_theirs(dtype: &theirs::DType) -> Shape {
-        use theirs::DType;
-        let n = dtype.is_nullable();
-        let boxed = |it: &theirs::DType| Box::new(Shape::of_theirs(it));
-        match dtype {
-            DType::Null => Null,
-            DType::Bool(_) => Bool(n),
-            DType::Primitive(ptype, _) => Primitive(number_of(*ptype), n),
-            DType::Decimal(decimal, _) => Decimal(decimal.precision(), decimal.scale(), n),
-            DType::Utf8(_) => Utf8(n),
-            DType::Binary(_) => Binary(n),
-            DType::Variant(_) => Variant(n),
-            DType::List(element, _) => List(boxed(element), n),
-            DType::FixedSizeList(element, size, _) => FixedSizeList(boxed(element), *size, n),
-            DType::Map(map, _) => {
-                let parts = [map.key_dtype(), map.value_dtype()];
-                Map(Box::new(parts.each_ref().map(Shape::of_theirs)), map.keys_sorted(), n)
-            }
-            DType::Struct(fields, _) => {
-                let names = fields.names().iter().map(|it| it.to_string_exactly());
-                Struct(names.zip(fields.fields().map(|it| Shape::of_theirs(&it))).collect(), n)
-            }
-            DType::Union(it, _) => {
-                let names = it.names().iter().map(|name| name.to_string_exactly());
-                let tagged = names.zip(it.type_ids()).zip(it.variants());
-                Union(tagged.map(|((name, tag), it)| (name, *tag, Shape::of_theirs(&it))).collect(), n)
-            }
-            DType::Extension(it) => {
-                let metadata = it.serialize_metadata().expect("metadata");
-                Extension(it.id().as_ref().to_owned(), metadata, boxed(it.storage_dtype()))
+        impl Plain for $side::DType {
+            type Data = Shape;
+
+            fn plain(&self) -> Shape {
+                let n = self.is_nullable();
+                match self {
+                    Self::Null => Null,
+                    Self::Bool(_) => Bool(n),
+                    Self::Primitive(ptype, _) => Primitive(ptype.plain(), n),
+                    Self::Decimal(decimal, _) => Decimal(decimal.precision(), decimal.scale(), n),
+                    Self::Utf8(_) => Utf8(n),
+                    Self::Binary(_) => Binary(n),
+                    Self::Variant(_) => Variant(n),
+                    Self::List(element, _) => List(Box::new(element.plain()), n),
+                    Self::FixedSizeList(element, size, _) => FixedSizeList(Box::new(element.plain()), *size, n),
+                    Self::Map(map, _) => map.plain().marked(n),
+                    Self::Struct(fields, _) => fields.plain().marked(n),
+                    Self::Union(variants, _) => variants.plain().marked(n),
+                    Self::Extension(extension) => extension.plain(),
+                }
             }
         }
+
+        impl Plain for $side::MapDType {
+            type Data = Shape;
+
+            fn plain(&self) -> Shape {
+                Map(Box::new([self.key_dtype().plain(), self.value_dtype().plain()]), self.keys_sorted(), false)
+            }
+        }
+
+        impl Plain for $side::StructFields {
+            type Data = Shape;
+
+            fn plain(&self) -> Shape {
+                let names = self.names().iter().map(|name| name.plain());
+                Struct(names.zip(self.fields().map(|it| it.plain())).collect(), false)
+            }
+        }
+
+        impl Plain for $side::UnionVariants {
+            type Data = Shape;
+
+            fn plain(&self) -> Shape {
+                let named = self.names().iter().map(|name| name.plain()).zip(self.type_ids());
+                let variants = named.zip(self.variants());
+                Union(variants.map(|((name, tag), it)| (name, *tag, it.plain())).collect(), false)
+            }
+        }
+    };
+}
+
+side! {
+    ours, ours, ours::Arc<_>, ours::PType::ALL,
+    |id: &String, metadata, storage| ours::ForeignExtDType::from_parts(id.as_str().into(), metadata, storage)
+}
+
+side! {
+    theirs, theirs, std::sync::Arc<_>, PTYPES,
+    |id: &String, metadata, storage| {
+        let parts = their_extension::ForeignExtDType::from_parts(their_extension::ExtId::new(id), metadata, storage);
+        parts.expect("an extension")
     }
 }
 
-/// A name's own text, which its `Display` escapes.
-pub trait Exactly {
-    fn to_string_exactly(&self) -> String;
+/// The metadata of an extension is a result in the original, because its vtable writes it.
+macro_rules! plain_extensions {
+    ($($kind:ty, $it:ident => $metadata:expr;)*) => {$(
+        impl Plain for $kind {
+            type Data = Shape;
+
+            fn plain(&self) -> Shape {
+                let $it = self;
+                Extension(self.id().plain(), $metadata, Box::new(self.storage_dtype().plain()))
+            }
+        }
+    )*};
 }
 
-impl Exactly for FieldName {
-    fn to_string_exactly(&self) -> String {
-        self.as_ref().to_owned()
-    }
-}
-
-/// The number of a primitive type of the original.
-pub fn number_of(ptype: theirs::PType) -> usize {
-    PTYPES.iter().position(|it| *it == ptype).expect("a primitive type")
-}
-
-/// Names of the original.
-pub fn names_of<'a>(names: impl Iterator<Item = &'a String>) -> FieldNames {
-    names.map(|it| FieldName::from(it.as_str())).collect::<Vec<_>>().into()
-}
-
-/// A union by the constructor that it needs: without tags where they are 0, 1, 2 and so on.
-fn ours_union(variants: &[(String, u8, Shape)], n: ours::Nullability) -> Result<ours::DType, Error> {
-    let dtypes: Result<Vec<_>, Error> = variants.iter().map(|(_, _, it)| it.ours()).collect();
-    let names = variants.iter().map(|(name, ..)| name);
-    if variants.iter().enumerate().all(|(place, (_, tag, _))| place == usize::from(*tag)) {
-        return ours::DType::union(names.zip(dtypes?), n);
-    }
-    let tagged = variants.iter().zip(dtypes?).map(|((name, tag, _), dtype)| (name, *tag, dtype));
-    ours::DType::union_with_tags(tagged, n)
+plain_extensions! {
+    ours::ExtDTypeRef, it => it.serialize_metadata().into();
+    their_extension::ExtDTypeRef, it => it.serialize_metadata().expect("metadata");
 }

@@ -61,6 +61,12 @@ pub fn refused(number: usize, values: &[(&str, &str)]) -> Stop {
 
 impl From<VortexError> for Stop {
     fn from(error: VortexError) -> Self {
+        Self::from(&error)
+    }
+}
+
+impl From<&VortexError> for Stop {
+    fn from(error: &VortexError) -> Self {
         let error = error.to_string();
         let text = message_of(&error);
         let found = texts().enumerate().find_map(|(number, (ours, theirs))| {

@@ -138,7 +138,7 @@ fn bucket_of(count: usize, name: &FieldName) -> u128 {
         ((product >> 64) + product % (1 << 64)) % (1 << 64)
     });
     let bits = usize::BITS - count.leading_zeros();
-    (hash >> bits << bits) * count as u128 >> 64
+    ((hash >> bits << bits) * count as u128) >> 64
 }
 
 /// The messages within a message, as they are read.
@@ -216,9 +216,15 @@ fn columns(a: &StructFields, b: &StructFields) -> Option<Vec<(FieldName, DType, 
 /// The least type as which both types can be read: by adding nulls for columns that a struct lacks, and by putting its
 /// columns into another order. It has the columns of the first, each merged with that of its name in the second, and
 /// then the columns that the first lacks. What one of the two lacks is nullable. Structs in which a name repeats, and
-/// unions, have their names and tags in the same order, and are merged part by part. What has no parts is merged by
-/// nullability alone.
+/// unions, have their names and tags in the same order, and are merged part by part. The keys of a map are sorted if
+/// those of both are, and if the key types are equal but for nullabilities: a reader that puts the columns of a key into
+/// another order, or adds one, has sorted keys no more. Null is a value of every nullable type, so a type is merged with
+/// `null` to its nullable form. What else has no parts is merged by nullability alone.
 pub fn merge_columns(a: &DType, b: &DType) -> Answer<Option<DType>> {
+    match (a, b) {
+        (DType::Null, it) | (it, DType::Null) => return Ok(Some(it.as_nullable())),
+        _ => {}
+    }
     let by_nullability = || bound(|a, b| a || b, a, b);
     let nullability = (is_marked(a) || is_marked(b)).into();
     let are_alike = match (a, b) {
@@ -226,7 +232,8 @@ pub fn merge_columns(a: &DType, b: &DType) -> Answer<Option<DType>> {
             if let (Some(here), Some(there)) = (columns(fields, others), columns(others, fields)) {
                 let mut merged = Vec::new();
                 for (name, dtype, other) in here {
-                    let column = other.map_or_else(|| Ok(Some(dtype.as_nullable())), |it| merge_columns(&dtype, &it))?;
+                    let column =
+                        other.map_or_else(|| Ok(Some(dtype.as_nullable())), |it| merge_columns(&dtype, &it))?;
                     let Some(column) = column else {
                         return Ok(None);
                     };
@@ -241,20 +248,43 @@ pub fn merge_columns(a: &DType, b: &DType) -> Answer<Option<DType>> {
         (DType::Union(variants, _), DType::Union(others, _)) => {
             variants.names() == others.names() && variants.type_ids() == others.type_ids()
         }
-        (DType::List(..), DType::List(..)) => true,
+        (DType::List(..), DType::List(..)) | (DType::Map(..), DType::Map(..)) => true,
         (DType::FixedSizeList(_, size, _), DType::FixedSizeList(_, other, _)) => size == other,
-        (DType::Map(map, _), DType::Map(other, _)) => map.keys_sorted() == other.keys_sorted(),
         (DType::Extension(it), DType::Extension(other)) => {
             it.id() == other.id() && it.serialize_metadata()? == other.serialize_metadata()?
         }
         _ => return by_nullability(),
     };
+    if !are_alike {
+        return Ok(None);
+    }
     let mut merged = Vec::new();
-    for (part, other) in parts(a).iter().zip(&parts(b)).filter(|_| are_alike) {
+    for (part, other) in parts(a).iter().zip(&parts(b)) {
         merged.extend(merge_columns(part, other)?);
     }
-    // (a merged key is non-nullable, because both keys are)
-    if merged.len() == parts(a).len() { with_parts(a, merged, nullability).map(Some) } else { Ok(None) }
+    if merged.len() != parts(a).len() {
+        return Ok(None);
+    }
+    if let (DType::Map(map, _), DType::Map(other, _)) = (a, b) {
+        let are_same_keys = parts(a)[0].eq_ignore_nullability(&parts(b)[0]);
+        let keys_sorted = map.keys_sorted() && other.keys_sorted() && are_same_keys;
+        // (a merged key is non-nullable, because both keys are)
+        let merged = MapDType::try_new(merged.remove(0), merged.remove(0), keys_sorted)?;
+        return Ok(Some(DType::Map(merged, nullability)));
+    }
+    with_parts(a, merged, nullability).map(Some)
+}
+
+/// The least type as which all of these types can be read, which are merged by columns one after another.
+pub fn merge_all(first: &DType, others: &[DType]) -> Answer<Option<DType>> {
+    let mut merged = first.clone();
+    for other in others {
+        let Some(both) = merge_columns(&merged, other)? else {
+            return Ok(None);
+        };
+        merged = both;
+    }
+    Ok(Some(merged))
 }
 
 /// The first place at which two types can't be merged by columns, and the two types there: of the columns of a struct
@@ -283,17 +313,38 @@ pub fn merge_conflict(a: &DType, b: &DType) -> Answer<Option<(FieldPath, DType, 
     Ok(Some((FieldPath::root(), a.clone(), b.clone())))
 }
 
+/// The step to each of the parts into which paths lead.
+fn steps(dtype: &DType) -> Vec<Field> {
+    match dtype {
+        DType::List(..) | DType::FixedSizeList(..) => vec![Field::ElementType],
+        DType::Struct(fields, _) => fields.names().iter().cloned().map(Field::Name).collect(),
+        _ => Vec::new(),
+    }
+}
+
+/// The type with the part at a path replaced, none where no part is there. Of the fields of a name the first counts.
+pub fn with_type_at(dtype: &DType, path: &[Field], new: &DType) -> Answer<Option<DType>> {
+    let Some((first, rest)) = path.split_first() else {
+        return Ok(Some(new.clone()));
+    };
+    let mut parts = parts(dtype);
+    let Some(place) = steps(dtype).iter().position(|step| step == first) else {
+        return Ok(None);
+    };
+    let Some(part) = with_type_at(&parts[place], rest, new)? else {
+        return Ok(None);
+    };
+    parts[place] = part;
+    with_parts(dtype, parts, is_marked(dtype).into()).map(Some)
+}
+
 /// The projection of a type to paths, none where no path exists in it: a part is whole where a path ends at it, else
 /// what is kept of it by the paths through it. Of the fields of a name the first counts.
 pub fn project_paths(dtype: &DType, paths: &[&[Field]]) -> Answer<Option<DType>> {
     if paths.iter().any(|path| path.is_empty()) {
         return Ok(Some(dtype.clone()));
     }
-    let steps = match dtype {
-        DType::List(..) | DType::FixedSizeList(..) => vec![Field::ElementType],
-        DType::Struct(fields, _) => fields.names().iter().cloned().map(Field::Name).collect(),
-        _ => Vec::new(),
-    };
+    let steps = steps(dtype);
     let (mut names, mut kept) = (Vec::new(), Vec::new());
     for (place, part) in parts(dtype).iter().enumerate().take(steps.len()) {
         let is_here = |(step, _): &(&Field, &[Field])| **step == steps[place];

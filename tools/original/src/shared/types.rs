@@ -1,85 +1,61 @@
 // SPDX-License-Identifier: Apache-2.0
 // SPDX-FileCopyrightText: Copyright the Vortex contributors
 
-//! Types, names and paths as arguments, which the original makes or refuses, and answers as the console writes them.
+//! Types, names and paths as they are read from their texts, which the original makes or refuses, and the texts of these.
 
 use std::cmp::Ordering;
 use std::sync::Arc;
 
 use vortex_array::dtype::extension::{ExtDTypeRef, ExtId, ForeignExtDType};
-use vortex_array::dtype::proto::dtype as pb;
 use vortex_array::dtype::*;
 
-use crate::line::{Argument, Bytes, Line, arguments, is_bare, is_special};
+use crate::reader::{Readable, Reader, is_bare, is_special};
 
 pub const PTYPES: [PType; 11] = {
     use PType::*;
     [U8, U16, U32, U64, I8, I16, I32, I64, F16, F32, F64]
 };
 
-const DECIMAL_TYPES: [DecimalType; 6] =
-    [DecimalType::I8, DecimalType::I16, DecimalType::I32, DecimalType::I64, DecimalType::I128, DecimalType::I256];
+/// Bytes, which are written in hexadecimal behind `0x`.
+#[derive(Clone, Debug, PartialEq, Eq, Hash)]
+pub struct Bytes(pub Vec<u8>);
 
-/// The id of an extension.
-pub struct Id(pub ExtId);
-
-/// The tags of a union.
-pub struct Tags(pub Vec<u8>);
-
-arguments! {
-    PType: |line| line.one_of(&PTYPES);
-    DecimalType: |line| line.one_of(&DECIMAL_TYPES);
-    Nullability: |line| line.one_of(&["NonNullable", "Nullable"]).map(|word| (word == "Nullable").into());
-    FieldName: |line| line.name(false).map(FieldName::from);
-    Id: |line| {
-        let id = if line.rest().starts_with('"') { line.text()? } else { line.bare(true)? };
-        Ok(Id(ExtId::new(&id)))
+/// Says how values of these types are read.
+macro_rules! readable {
+    ($($kind:ty: $read:expr;)*) => {
+        $(impl Readable for $kind {
+            fn read(text: &mut Reader) -> Answer<Self> {
+                let read: fn(&mut Reader) -> Answer<Self> = $read;
+                read(text)
+            }
+        })*
     };
-    FieldNames: |line| line.listed(FieldName::read).map(FieldNames::from);
-    Tags: |line| line.listed(Line::number).map(Tags);
-    Field: |line| {
-        if line.eat("[]") {
+}
+
+readable! {
+    Bytes: |text| text.expect("0x").map(|()| Bytes(std::iter::from_fn(|| text.byte()).collect()));
+    FieldName: |text| text.name(false).map(FieldName::from);
+    Field: |text| {
+        if text.eat("[]") {
             return Ok(Field::ElementType);
         }
-        line.eat("$");
-        line.name(true).map(|name| Field::Name(FieldName::from(name)))
+        text.eat("$");
+        text.name(true).map(|name| Field::Name(FieldName::from(name)))
     };
-    FieldPath: |line| {
-        if line.eat(".") {
+    FieldPath: |text| {
+        if text.eat(".") {
             return Ok(FieldPath::root());
         }
-        let mut steps = vec![Field::read(line)?];
-        while line.eat(".") {
-            steps.push(Field::read(line)?);
+        let mut steps = vec![Field::read(text)?];
+        while text.eat(".") {
+            steps.push(Field::read(text)?);
         }
         Ok(steps.into())
     };
-    FieldMask: |line| {
-        let form = line.one_of(&["all", "prefix", "exact"])?;
-        if form == "all" {
-            return Ok(FieldMask::All);
-        }
-        line.separate()?;
-        FieldPath::read(line).map(if form == "prefix" { FieldMask::Prefix } else { FieldMask::Exact })
-    };
-    DecimalDType: |line| {
-        line.expect("decimal")?;
-        decimal(line)
-    };
-    // What a type of one kind holds is read as that type.
-    StructFields: |line| inside(line, DType::as_struct_fields_opt);
-    UnionVariants: |line| inside(line, DType::as_union_variants_opt);
-    MapDType: |line| inside(line, DType::as_map_opt);
-    ExtDTypeRef: |line| inside(line, DType::as_extension_opt);
 }
 
-fn inside<T: Clone>(line: &mut Line, held: fn(&DType) -> Option<&T>) -> Answer<T> {
-    let (at, dtype) = (line.at, DType::read(line)?);
-    line.found(at, held(&dtype).cloned())
-}
-
-impl Argument for DType {
-    fn read(line: &mut Line) -> Answer<Self> {
+impl Readable for DType {
+    fn read(line: &mut Reader) -> Answer<Self> {
         let at = line.at;
         if line.eat("{") {
             line.blanks();
@@ -119,7 +95,7 @@ impl Argument for DType {
 }
 
 /// The precision and the scale behind `decimal`.
-fn decimal(line: &mut Line) -> Answer<DecimalDType> {
+fn decimal(line: &mut Reader) -> Answer<DecimalDType> {
     line.open("(")?;
     let precision = line.number()?;
     line.between(",")?;
@@ -129,14 +105,14 @@ fn decimal(line: &mut Line) -> Answer<DecimalDType> {
 }
 
 /// A type in round brackets.
-fn wrapped(line: &mut Line) -> Answer<Arc<DType>> {
+fn wrapped(line: &mut Reader) -> Answer<Arc<DType>> {
     line.open("(")?;
     let inner = line.inside(DType::read)?;
     line.close(")").map(|()| Arc::new(inner))
 }
 
 /// The metadata and the storage behind an id.
-fn extension(line: &mut Line, id: &str) -> Answer<DType> {
+fn extension(line: &mut Reader, id: &str) -> Answer<DType> {
     line.open("[")?;
     let Bytes(metadata) = Bytes::read(line)?;
     line.close("]")?;
@@ -144,7 +120,7 @@ fn extension(line: &mut Line, id: &str) -> Answer<DType> {
     Ok(DType::Extension(ForeignExtDType::from_parts(ExtId::new(id), metadata, storage)?))
 }
 
-fn map(line: &mut Line) -> Answer<DType> {
+fn map(line: &mut Reader) -> Answer<DType> {
     line.open("(")?;
     let key = line.inside(DType::read)?;
     line.between(",")?;
@@ -158,7 +134,7 @@ fn map(line: &mut Line) -> Answer<DType> {
 }
 
 /// Variants, with a tag at each or at none.
-fn union(line: &mut Line) -> Answer<DType> {
+fn union(line: &mut Reader) -> Answer<DType> {
     line.open("(")?;
     let variants = line.items(")", variant)?;
     let (names, (types, tags)): (Vec<_>, (Vec<_>, Vec<Option<u8>>)) = variants.into_iter().unzip();
@@ -173,18 +149,18 @@ fn union(line: &mut Line) -> Answer<DType> {
 }
 
 /// The nullability that stands behind a type.
-fn mark(line: &mut Line) -> Nullability {
+fn mark(line: &mut Reader) -> Nullability {
     line.eat("?").into()
 }
 
-fn field(line: &mut Line) -> Answer<(FieldName, DType)> {
+fn field(line: &mut Reader) -> Answer<(FieldName, DType)> {
     let name = FieldName::read(line)?;
     line.between("=")?;
     Ok((name, line.inside(DType::read)?))
 }
 
 /// The name of a variant, its type, and its tag if there is one.
-fn variant(line: &mut Line) -> Answer<(FieldName, (DType, Option<u8>))> {
+fn variant(line: &mut Reader) -> Answer<(FieldName, (DType, Option<u8>))> {
     let name = FieldName::read(line)?;
     let tag = if line.eat("@") { Some(line.number()?) } else { None };
     line.between("=")?;
@@ -220,16 +196,14 @@ impl<T: Told> Told for Option<T> {
 /// Says how values of these types are told.
 macro_rules! told {
     ($($($kind:ty),+: $tell:expr;)*) => {
-        $($(impl crate::types::Told for $kind {
-            fn told(self) -> crate::types::Answer {
-                let tell: fn(Self) -> crate::types::Answer = $tell;
+        $($(impl Told for $kind {
+            fn told(self) -> Answer {
+                let tell: fn(Self) -> Answer = $tell;
                 tell(self)
             }
         })+)*
     };
 }
-
-pub(crate) use told;
 
 told! {
     bool, u8, i8, i32, u64, usize, &str, String, PType, DecimalType, &DecimalDType: |it| Ok(it.to_string());
@@ -252,36 +226,17 @@ told! {
     &MapDType: |it| DType::Map(it.clone(), Nullability::NonNullable).told();
     &ExtDTypeRef: |it| DType::Extension(it.clone()).told();
     DType, Arc<DType>, DecimalDType, Field, FieldMask, FieldName, FieldNames, FieldPath: |it| (&it).told();
-    StructFields, UnionVariants, MapDType, ExtDTypeRef, pb::DType: |it| (&it).told();
+    StructFields, UnionVariants, MapDType, ExtDTypeRef: |it| (&it).told();
 }
 
-/// A text that a call gives.
-pub struct Text<T>(pub T);
-
-impl<T: std::fmt::Display> Told for Text<T> {
-    fn told(self) -> Answer {
-        let text = self.0.to_string().replace('\n', "\\n");
-        Ok(if text.is_empty() { "\"\"".to_owned() } else { text })
-    }
-}
-
-/// Items with a blank between them.
-pub fn several(items: impl IntoIterator<Item = impl Told>) -> Answer {
-    joined(items, " ")
-}
-
+/// Items with a text between them.
 pub fn joined(items: impl IntoIterator<Item = impl Told>, between: &str) -> Answer {
     let items = items.into_iter().map(Told::told).collect::<Answer<Vec<String>>>()?;
     Ok(if items.is_empty() { "-".to_owned() } else { items.join(between) })
 }
 
-/// The words whose tests hold.
-pub fn holding(tests: impl IntoIterator<Item = (&'static str, bool)>) -> Answer {
-    several(tests.into_iter().filter(|(_, is)| *is).map(|(name, _)| name))
-}
-
 /// A text in quotes.
-pub fn quoted(text: &str) -> String {
+fn quoted(text: &str) -> String {
     let one = |sign: char| match sign {
         '\\' | '"' => format!("\\{sign}"),
         '\t' => "\\t".to_owned(),
@@ -304,7 +259,7 @@ pub fn name(text: &str) -> String {
     bare_or_quoted(text, false)
 }
 
-pub fn id(extension: &ExtDTypeRef) -> String {
+fn id(extension: &ExtDTypeRef) -> String {
     bare_or_quoted(extension.id().as_ref(), true)
 }
 
@@ -338,11 +293,4 @@ fn parts(names: &FieldNames, types: impl Iterator<Item = DType>, behind: impl Fn
     let part =
         |(at, (of, dtype)): (usize, (&FieldName, DType))| Ok(format!("{}{}={}", of.told()?, behind(at), dtype.told()?));
     Ok(names.iter().zip(types).enumerate().map(part).collect::<Answer<Vec<_>>>()?.join(", "))
-}
-
-/// Paths in the order in which the console answers them.
-pub fn paths<'a>(paths: impl IntoIterator<Item = &'a FieldPath>) -> Answer {
-    let mut paths = paths.into_iter().map(Told::told).collect::<Answer<Vec<String>>>()?;
-    paths.sort();
-    several(paths)
 }

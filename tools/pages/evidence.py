@@ -4,7 +4,7 @@
 """What stands behind each public item of the libraries, for `reference`, computed from the sources: the laws about
 it, the mutations of it that the prover rejects, and what shows it. And the checks that none of it is lost (`faults`).
 
-An item has the name of its heading in docs/reference, as `FieldPathSet::insert`, `PartialEq for Field` or `PType`. A
+An item has the name of its heading on the pages, as `FieldPathSet::insert`, `PartialEq for Field` or `PType`. A
 law names what it is about in the last paragraph of its comment, as "About [`FieldPath::resolve`]." A mutation is of the
 public function whose body it changes; one of a private function, of a derive or of a constant names the items in a line
 `of:`, separated by commas. A line of the console's expected answers belongs to the calls of its command
@@ -14,7 +14,7 @@ import re
 from collections import defaultdict
 from glob import glob
 
-import golden
+import console
 from examples import commands, item_of, listed
 from repository import KEPT, anchor_of, bare, crates, functions, functions_of, law_of, libraries, public_calls, text_of
 
@@ -120,7 +120,7 @@ def lines_by_item():
     also = listed("*")
     calls = {row.name: [*named, *also.get(row.name, ())] for row, named in commands()}
     heading, found = "", defaultdict(list)
-    for line, answer in (it for file in golden.FILES for it in golden.tests(file)):
+    for line, answer in console.lines():
         if line.startswith("# == "):
             heading = line[5:]
         elif answer is not None:

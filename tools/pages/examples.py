@@ -1,8 +1,8 @@
 # SPDX-License-Identifier: Apache-2.0
 # SPDX-FileCopyrightText: Copyright the Vortex contributors
 
-"""The lines of the console that show each call, for `reference`: a command's example where the golden tests have
-it, else the first of them that is short, with its answer; and the first that is answered by an error. And checks for
+"""The lines of the console that show each call, for `reference`: a command's example where the transcript has
+it, else the first of its rows that is short, with its answer; and the first that is answered by an error. And checks for
 `pages` that something runs each public call: a contract lets a call return OutOfMemory for any input, and what a
 machine makes of a proved body is seen only where it runs.
 
@@ -11,19 +11,20 @@ NAMED have it (an impl is named by its trait and its type), and where none makes
 call that is run, in whose crate the call is made. A command with an asterisk runs these calls besides its own: its lines
 show them (evidence.py), and are no examples of them. A call that doesn't allocate isn't listed if the sources of
 the tests and programs show who makes it: they have it behind its type, or no other public call has its name."""
+import os
 import re
 from collections import defaultdict
+from glob import glob
 
-from repository import (
-    bare, code_of, console_rows, crates, functions, libraries, public_calls, signature_of, sources_of, text_of,
-)
+import console
+from repository import bare, code_of, crates, functions, libraries, public_calls, signature_of, sources_of, text_of
 
-TRANSCRIPT = "crates/dtype_console/stdout"
 RUN_BY = "tools/pages/run_by"
+RUST_TESTS = "rust/vortex-logical-types/tests/*.rs"
 SHORT = 90
 ALLOCATES = "alloc: Global|-> VortexResult<"
 # The crates above the libraries that aren't run: callers that are only proved.
-NOT_RUN = ["uses_types", "uses_paths"]
+NOT_RUN = ["uses"]
 # What an argument of this form may be, all of which lines ask for if it is the first of a command.
 INTEGERS = ["u8", "u16", "u32", "u64", "i8", "i16", "i32", "i64"]
 CHOICES = {"INT": INTEGERS, "PT": [*INTEGERS, "f16", "f32", "f64"], "N": ["NonNullable", "Nullable"],
@@ -73,9 +74,17 @@ def listed(mark=""):
             if found == mark}
 
 
+def rust_tests():
+    """The tests of the Rust crate, each its file without the ending, and its text."""
+    return {os.path.basename(file).removesuffix(".rs"): text_of(file) for file in sorted(glob(RUST_TESTS))}
+
+
 def fault_of_test(path):
-    """What is wrong with the path of a test, or None."""
+    """What is wrong with the path of a test, or None. The path of a test in Rust begins with `rust`."""
     crate, *rest = path.split("::")
+    if crate == "rust":
+        is_there = f"#[test]\nfn {rest[-1]}(" in rust_tests().get(rest[0], "")
+        return None if is_there else f"there is no test {path}"
     file = f"crates/{crate}/src/{'/'.join(rest[:-1])}.rt"
     is_there = any(it.file == file and it.name == rest[-1] and "#[test]" in it.attributes for it in functions([crate]))
     return None if is_there else f"there is no test {path}"
@@ -84,19 +93,17 @@ def fault_of_test(path):
 def commands():
     """The calls by the commands of the console, each its row."""
     known = listed()
-    for row in console_rows():
-        topic = row.file.rpartition("/")[2].removesuffix(".rt")
+    for row in console.commands():
         before = next((it for it in OWNERS if it.endswith("_") and row.name.startswith(it)), "")
-        owner, name = OWNERS.get(before or topic, ""), row.name.removeprefix(before)
+        owner, name = OWNERS.get(before or row.topic, ""), row.name.removeprefix(before)
         yield row, known.get(row.name, [NAMED.get(name, f"{{}}::{name}").format(owner)])
 
 
 def answered():
-    """The lines of the golden tests by command, each with its answer, in their order."""
-    lines, found = text_of(TRANSCRIPT).split("\n"), defaultdict(list)
-    for line, answer in zip(lines, lines[1:]):
-        if line.startswith("> ") and not answer.startswith("> "):
-            found[line[2:].split(" ")[0]].append((line, answer))
+    """The rows of the transcript by command, each with its answer, in their order."""
+    found = defaultdict(list)
+    for line, answer in console.rows(console.TRANSCRIPT):
+        found[line.split(" ")[0]].append((f"> {line}", answer))
     return found
 
 
@@ -131,9 +138,10 @@ def examples(names):
 
 
 def makes(name, files):
-    """Whether one of these sources makes a call of that name, or leaves it to an iterator or to `field_path!`."""
+    """Whether one of these sources makes a call of that name (in Rust also by its form with `try_`), or leaves it to an
+    iterator or to `field_path!`."""
     also = {"from_iter": r"|\.collect\(", "into_iter": r"|\bfor ", "from_texts": r"|field_path!\("}
-    call = re.compile(rf"(?<!fn )(?<!\w){name}(?:::<[^>]*>)?\({also.get(name, '')}")
+    call = re.compile(rf"(?<!fn )(?<!\w)(?:try_)?{name}(?:::<[^>]*>)?\(|\({name}\){also.get(name, '')}")
     return any(call.search(text_of(file)) for file in files)
 
 
@@ -151,11 +159,10 @@ def check():
     allocating = {it.path for _, it in public_calls() if it.body and re.search(ALLOCATES, it.signature)}
     for crate, it in public_calls():
         of_crates[it.path].add(crate)
-    console = [file for it in crates() if "console" in it for file in sources_of(it)]
     names = {row.name for row, _ in rows}
     for row, calls in rows:
         is_answered = any(is_value(answer) for _, answer in lines[row.name])
-        run.update(it for it in calls if it in allocating and is_answered and makes(it.rpartition("::")[2], console))
+        run.update(it for it in calls if it in allocating and is_answered and makes(it.rpartition("::")[2], console.sources()))
     faults += [(RUN_BY, f"{runner}*: there is no such command") for runner in listed("*").keys() - names]
     others = {runner: calls for runner, calls in listed().items() if runner not in names}
     named = {it for calls in [*others.values(), *(calls for _, calls in rows)] for it in calls}
@@ -177,6 +184,7 @@ def check_others():
     """How many public calls don't allocate, and each of them that nothing runs; and each first argument that a command
     is never asked for, where only a few are possible, so that the call of each type is run: where, and the fault."""
     others, names, faults, lines, rows = [], defaultdict(set), [], answered(), list(commands())
+    in_rust = " ".join(rust_tests().values())
     for _, it in public_calls():
         names[it.name].add(it.path)
         if it.body and not re.search(ALLOCATES, it.signature):
@@ -187,17 +195,17 @@ def check_others():
     also = [call for mark in ("", "*") for calls in listed(mark).values() for call in calls]
     shown.update(call for call in also if call not in unshown)
     sources = (file for crate in crates() if crate not in [*libraries(), *NOT_RUN] for file in sources_of(crate))
-    code = " ".join(bare(code_of(text_of(file))) for file in sources)
+    code = " ".join(bare(code_of(text_of(file))) for file in [*sources, *console.sources()])
     for it in others:
         called = rf"\b{re.escape(it.path.rpartition('::')[0])}(?:::<[^>]*>)?::{it.name}\b"
         if len(names[it.name]) == 1:
             called += rf"|(?<!fn )(?<!\w){it.name}(?:::<[^>]*>)?\("
         known = {it.path, item_of(it)}
-        if not known & shown and (known & unshown or not re.search(called, code)):
+        if not known & shown and (known & unshown or not re.search(called, code + in_rust)):
             faults.append((RUN_BY, f"{it.path} isn't run"))
     for row, _ in rows:
         asked = {line.split(" ")[2] for line, answer in lines[row.name]
                  if line.count(" ") > 1 and not answer.startswith("unreadable ")}
         left = [it for it in CHOICES.get(row.arguments.split(" ")[0], ()) if it not in asked]
-        faults += [(TRANSCRIPT, f"no line has {row.name} {', '.join(left)}")] * bool(left)
+        faults += [(console.TRANSCRIPT, f"no line has {row.name} {', '.join(left)}")] * bool(left)
     return len(others) + len(rows), faults

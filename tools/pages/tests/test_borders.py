@@ -2,6 +2,8 @@
 # SPDX-FileCopyrightText: Copyright the Vortex contributors
 
 """tools/pages/borders, with repository.py."""
+import os
+
 from planted import Planted
 
 PATH = "crates/dtype_paths/src/field_path.rt"
@@ -71,3 +73,7 @@ class Borders(Planted):
                          "docs/GLOSSARY.md doesn't explain hidden of Rattle.dtype_base.specs.Hidden")
         self.change("crates/vortex_dtype/specs/Lib.antt", "", "pub use Rattle.dtype_base.specs.Hidden\n")
         self.assertNotIn("can't be named", self.run_tool("borders")[1])
+
+    def test_tells_a_link(self):
+        os.symlink("LICENSE", f"{self.top}/docs/LICENSE")
+        self.assert_told("borders", "./docs/LICENSE: is a link")

@@ -2,8 +2,6 @@
 # SPDX-FileCopyrightText: Copyright the Vortex contributors
 
 """tools/pages/reference, over faults in what stands behind the calls."""
-import os
-
 from planted import Planted
 
 LAWS = "crates/dtype_paths/src/laws.rt"
@@ -49,11 +47,9 @@ class Reference(Planted):
                     "    {\n        0\n    }\n")
         self.assert_fails("PType::digits has neither a mutation nor an expected answer nor a test")
 
-    def test_a_mutation_that_is_gone_shows_in_the_reference(self):
-        os.remove(f"{self.top}/crates/dtype_paths/wrong/open_counts_no_visit.edit")
-        self.assert_fails("docs/reference/dtype_paths.md isn't of these sources")
-
-    def test_a_clause_that_is_gone_shows_in_the_reference(self):
-        file = "crates/dtype_paths/src/field_path_set.rt"
-        self.change(file, "        ensures err { OnErr result (self.new ≡ self.old) }\n", "")
-        self.assert_fails("docs/reference/dtype_paths.md isn't of these sources")
+    def test_a_page_links_the_sources_from_its_folder(self):
+        self.run_tool("reference", "made/here/reference")
+        page = self.read("made/here/reference/dtype_paths.md")
+        self.assertIn("(../../../crates/dtype_paths/src/field_path_set.rt)", page)
+        self.assertIn("- mutations that are rejected: ", page)
+        self.assertIn("- **ensures** err: `OnErr result (self.new ≡ self.old)`", page)

@@ -2,7 +2,7 @@
 # SPDX-FileCopyrightText: Copyright the Vortex contributors
 
 """The types of layers that GDAL makes, read from Python by their addresses. tools/bindings/bindings_runs runs this where the
-module `osgeo` can be imported. The layers are those of bindings/c/tests/gdal.c."""
+module `osgeo` can be imported. The layers are those of c/tests/gdal.c."""
 import contextlib
 import ctypes
 import ctypes.util

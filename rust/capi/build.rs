@@ -50,7 +50,7 @@ const PACKAGES: [(&str, &str); 3] = [
 fn main() -> Result<()> {
     let top = PathBuf::from(env::var("CARGO_MANIFEST_DIR")?).join("../..");
     let out = PathBuf::from(env::var("OUT_DIR")?);
-    let c = top.join("bindings/c");
+    let c = top.join("c");
     let header = read(&c.join(HEADER))?;
     let soname = format!("libvortex_logical_types.so.{}", abi_version(&header)?);
     exports(&top.join("crates"), &out)?;

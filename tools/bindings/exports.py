@@ -43,7 +43,7 @@ VARIANT = re.compile(r"((?:^    ///.*\n)+)(?:^    #\[.*\n)*^    (\w+)\b", re.M)
 # The names of results, where they aren't those of the sources.
 RESULT_NAMES = {"OK": "DONE", "NOT_UTF8": "UTF8", "TOO_DEEP": "DEEP", "TOO_SMALL": "SMALL"}
 MEMORY = 100
-# The struct of the nodes that bindings/c/arrow.c makes. The functions that take it are called by that file alone.
+# The struct of the nodes that c/arrow.c makes. The functions that take it are called by that file alone.
 INTERNAL = "ArrowNode"
 
 

@@ -16,7 +16,7 @@ LINK = re.compile(r"(?s)(?P<code>^```.*?^```$|`[^`\n]*`)|(?<!!)\[(?P<words>(?:`[
 def shipped():
     """The page, in which the links to pages that aren't in the archive are plain words."""
     with open(PAGE, encoding="utf-8") as it:
-        text = it.read().replace("](../bindings/RELEASE.md", "](README.md")
+        text = it.read().replace("](../tools/bindings/ARCHIVE.md", "](README.md")
     return LINK.sub(lambda found: found["code"] or found["words"], text)
 
 

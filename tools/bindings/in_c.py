@@ -23,7 +23,7 @@ TYPES = {"type_in": ("dtype", "a type"), "path_in": ("path", "a path"), "set_in"
          "paths_in": ("path_list", "a list of paths"), "mask_in": ("mask", "a mask"),
          "message_in": ("message", "the message of a type"), "fields_in": ("fields", "names with types"),
          "error_in": ("error", "an error")}
-# The public functions that are written by hand, in the layer and in bindings/c/arrow.c.
+# The public functions that are written by hand, in the layer and in c/arrow.c.
 BY_HAND = ["vlt_wrong_argument", "vlt_dtype_from_arrow", "vlt_dtype_to_arrow", "vlt_arrow_capsule"]
 C = {"bool": "bool", "usize": "size_t", **{f"{sign}{width}": f"{'u' * (sign == 'u')}int{width}_t"
                                           for sign in "ui" for width in (8, 16, 32, 64)}}

@@ -22,7 +22,7 @@ def exported():
     return ran.stdout.split()
 
 
-def soname(header=f"bindings/c/{CRATE}.h"):
+def soname(header=f"c/{CRATE}.h"):
     """The name by which a program asks for the shared library that has this header. It ends in the version of the interface."""
     with open(header, encoding="utf-8") as it:
         line = next(line for line in it if line.startswith("#define VLT_ABI_VERSION "))
@@ -33,7 +33,7 @@ def compiled(source, folder):
     """A source of C as an object, whose name is another than that of the proved object, because `ar` replaces an object by
     one of the same name."""
     made = f"{folder}/{'layer' if source == CRATE else source}.o"
-    run([*COMPILER, "-c", f"bindings/c/{source}.c", "-o", made])
+    run([*COMPILER, "-c", f"c/{source}.c", "-o", made])
     return made
 
 

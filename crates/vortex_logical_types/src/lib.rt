@@ -3,7 +3,7 @@
 
 //! The functions of the library for C. `rt lib` builds them into `out/libvortex_logical_types.a`. Their names begin
 //! with `vlt_core_`. Comments name the public functions over them, for example `vlt_dtype_eq` over `vlt_core_dtype_eq`,
-//! which are in `bindings/c/vortex_logical_types.c`.
+//! which are in `c/vortex_logical_types.c`.
 //!
 //! An exported function takes its objects in slots (`c_objects`). It returns a number: 0 to 10 (`errors`), or 100 plus
 //! the number of an error of the library. Three functions differ: `vlt_free` returns nothing, `vlt_kind` returns the

@@ -1,7 +1,7 @@
 // SPDX-License-Identifier: Apache-2.0
 // SPDX-FileCopyrightText: Copyright the Vortex contributors
 
-//! The allocator of the library: the three functions of `bindings/c/heap.c`, which a program may define itself.
+//! The allocator of the library: the three functions of `c/heap.c`, which a program may define itself.
 
 use std::alloc::{GlobalAlloc, Layout};
 use std::ptr::null_mut;

@@ -1,7 +1,7 @@
 // SPDX-License-Identifier: Apache-2.0
 // SPDX-FileCopyrightText: Copyright the Vortex contributors
 
-//! Types from and to Arrow. Which Arrow type is which is tested in C (`bindings/c/tests`), over the same proved source.
+//! Types from and to Arrow. Which Arrow type is which is tested in C (`c/tests`), over the same proved source.
 #![cfg(feature = "arrow")]
 #![allow(unsafe_code, reason = "a producer of Arrow's structs is C")]
 

@@ -174,7 +174,7 @@ CHANGES = [("refused 1\nWithin", "refused 100\nWithin"), ("(code ≡ 0) × (new 
            ("P x ⊎ refused 1", "P x ⊎ Unknown x"), ("code ≡ 2", "code ≢ 2"), ("code ≡ 2", "code ≡ 100 + number_of o"),
            ("code ≡ 2", "old ≡ 0 → code ≡ 2"), ("Fault [] code = code ≡ 1", "Fault [] code = code ≡ 100"),
            ("Fault bytes code", "Fault code bytes")]
-HEADER, LAYER, ARROW = "bindings/c/vortex_logical_types.h", "bindings/c/vortex_logical_types.c", "bindings/c/arrow.c"
+HEADER, LAYER, ARROW = "c/vortex_logical_types.h", "c/vortex_logical_types.c", "c/arrow.c"
 FIND = "Results: VLT_DONE, VLT_NONE, VLT_KIND or VLT_RANGE. */\nVLT_MUST_USE vlt_result vlt_find("
 # What each file has to have of these.
 WRITTEN = {
@@ -205,14 +205,14 @@ class Bindings(Planted):
         self.write(f"{SOURCES}/lib.rt", EXPORTS)
         self.write(f"{SOURCES}/errors.rt", ERRORS)
         self.write(f"{os.path.dirname(SOURCES)}/specs/Found.antt", SPECS)
-        self.write("bindings/c/tests/calls.c", CALLED)
+        self.write("c/tests/calls.c", CALLED)
         crates = [it for it in self.read("crates.txt").splitlines() if not it.startswith("vortex_logical_types")]
         self.write("crates.txt", "\n".join([*crates, "vortex_logical_types staticlib: dtype_base", ""]))
         self.assertEqual(self.run_tool("bindings"), (0, ""))
 
     def compiles(self, text, compiler=("cc", "-std=c99")):
         """Whether a program over the header that is written can be compiled without a warning."""
-        self.write("it.c", f'#include "bindings/c/vortex_logical_types.h"\n{text}')
+        self.write("it.c", f'#include "c/vortex_logical_types.h"\n{text}')
         ran = subprocess.run([*compiler, "-Wall", "-Wextra", "-pedantic", "-Werror", "-fsyntax-only", "it.c"], cwd=self.top,
                              check=False, stderr=subprocess.PIPE)
         return ran.returncode == 0
@@ -233,7 +233,7 @@ class Bindings(Planted):
         for compiler in [("cc", "-std=c99"), *[("cc", "-x", "c++", "-std=c++11")] * bool(shutil.which("g++"))]:
             self.assertTrue(self.compiles("", compiler))
         # (What is written by hand in the layer names these, which the exports above lack.)
-        self.write("more.h", '#include "bindings/c/vortex_logical_types.h"\nuint32_t vlt_core_kind(vlt_slot *slot);\n'
+        self.write("more.h", '#include "c/vortex_logical_types.h"\nuint32_t vlt_core_kind(vlt_slot *slot);\n'
                    "uint32_t vlt_core_dtype_kind(vlt_slot *slot, uint32_t *number);\n"
                    "enum { VLT_UTF8 = 3, VLT_CONDITION = 5, VLT_DTYPE_NULL = 1, VLT_DTYPE_STRUCT = 10 };\n")
         subprocess.run(["cc", "-std=c99", "-Wall", "-Wextra", "-pedantic", "-Werror", "-Wno-switch", "-include", "more.h", "-c", LAYER,
@@ -273,10 +273,10 @@ class Bindings(Planted):
         self.assertIn(FIND, self.read(HEADER))
 
     def test_tells_what_a_comment_leaves_out(self):
-        self.write("bindings/c/tests/calls.c", f"{CALLED} IS(VLT_NONE, vlt_find(&s, 0, 0, &at)); IS(VLT_KIND, vlt_find(&s));\n")
+        self.write("c/tests/calls.c", f"{CALLED} IS(VLT_NONE, vlt_find(&s, 0, 0, &at)); IS(VLT_KIND, vlt_find(&s));\n")
         self.assertEqual(self.run_tool("bindings", "--check"), (0, "4 passed, 0 failed\n"))
-        self.change("bindings/c/tests/calls.c", "IS(VLT_NONE", "IS(VLT_NEVER, vlt_find(1)); IS(117")
-        self.change("bindings/c/tests/calls.c", "vlt_join();", "")
+        self.change("c/tests/calls.c", "IS(VLT_NONE", "IS(VLT_NEVER, vlt_find(1)); IS(117")
+        self.change("c/tests/calls.c", "vlt_join();", "")
         self.change(f"{SOURCES}/lib.rt", "Returns 1 if there is none.", "The index is a `usize`.")
         self.change(f"{SOURCES}/lib.rt", " Returns 2 if a slot of `more` contains no path.", "")
         self.assertEqual(self.run_tool("bindings")[0], 0)

@@ -1,7 +1,7 @@
 // SPDX-License-Identifier: Apache-2.0
 // SPDX-FileCopyrightText: Copyright the Vortex contributors
 
-//! The tests in `bindings/c/tests` over the static library that Cargo built: each call, each allocation refused in turn,
+//! The tests in `c/tests` over the static library that Cargo built: each call, each allocation refused in turn,
 //! schemas of Arrow, threads and random calls. They run under valgrind and with the sanitizers, too.
 
 use crate::common::{

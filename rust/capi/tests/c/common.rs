@@ -50,10 +50,10 @@ pub fn shared() -> PathBuf {
 
 /// Returns the folder of the C sources.
 pub fn sources() -> PathBuf {
-    Path::new(env!("CARGO_MANIFEST_DIR")).join("../../bindings/c")
+    Path::new(env!("CARGO_MANIFEST_DIR")).join("../../c")
 }
 
-/// Returns the program that the compiler makes of these files of `bindings/c` and of the static library.
+/// Returns the program that the compiler makes of these files of the folder `c` and of the static library.
 pub fn compiled(name: &str, compiler: &[&str], options: &[&str], files: &[&str]) -> PathBuf {
     let program = room().join(name);
     let mut command = Command::new(compiler[0]);

@@ -4,7 +4,7 @@
 /* Types from and to Arrow's C data interface. Two proved functions translate between a type and an array of nodes, one
  * node for each field of Arrow. This file walks a struct ArrowSchema into such nodes, and makes one of them. It
  * understands no format and no metadata: it copies strings, measures metadata, counts fields and bounds how many there
- * are. It isn't proved, but tested (bindings/c/tests). tools/bindings/bindings writes the declarations of the two proved
+ * are. It isn't proved, but tested (c/tests). tools/bindings/bindings writes the declarations of the two proved
  * functions. */
 #define _GNU_SOURCE
 #include "vortex_logical_types.h"

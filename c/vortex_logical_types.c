@@ -4,7 +4,7 @@
 /* The public functions of vortex_logical_types.h. Each of them checks its arguments and then calls the proved function,
  * whose name begins with vlt_core_. The contract of a proved function supposes two things that no type of C ensures, and
  * that are checked here: no two slots of a call are the same slot or have the same object, and no pointer is null. This
- * file isn't proved, but tested (bindings/c/tests). tools/bindings/bindings writes the functions at its end. */
+ * file isn't proved, but tested (c/tests). tools/bindings/bindings writes the functions at its end. */
 #include "vortex_logical_types.h"
 
 #include <string.h>

@@ -74,6 +74,10 @@ class Borders(Planted):
         self.change("crates/vortex_dtype/specs/Lib.antt", "", "pub use Rattle.dtype_base.specs.Hidden\n")
         self.assertNotIn("can't be named", self.run_tool("borders")[1])
 
-    def test_tells_a_link(self):
+    def test_tells_what_rt_ci_refuses(self):
         os.symlink("LICENSE", f"{self.top}/docs/LICENSE")
-        self.assert_told("borders", "./docs/LICENSE: is a link")
+        for file in ("crates/dtype_base/specs/names.rt", "docs/Names.antt", "crates/no_crate/src/lib.rt", "rust/crates.txt"):
+            self.write(file, "")
+        self.assert_told("borders", "./docs/LICENSE: is a link", "./crates/dtype_base/specs/names.rt: is in no src of a crate",
+                         "./docs/Names.antt: is in no specs or proofs of a crate",
+                         "./crates/no_crate/src/lib.rt: is in no src of a crate", "./rust/crates.txt: is another list of crates")

@@ -2,8 +2,10 @@
 -- SPDX-FileCopyrightText: Copyright the Vortex contributors
 
 -- The message of a refusal.
-use Rattle.std.specs.Prelude.{ℕ, List, [], ◌∷◌, ◌++◌, Bool, true, false, map, codes}
+use Rattle.std.specs.Prelude.{ℕ, List, [], ◌∷◌, ◌++◌, Bool, true, false, nat_lt, if◌then◌else◌, length, map, take, codes}
+use Rattle.std.specs.Fmt.{decimal}
 use Rattle.std.specs.Str.Lossy.{utf8_lossy}
+use Rattle.dtype_base.specs.Escapes.{escaped}
 use Rattle.c_arrow.specs.declared.fault.Problem.{Problem}
 use Rattle.c_arrow.specs.declared.fault.Problem.TheVariants as p
 use Rattle.c_arrow.specs.declared.fault.Refusal.{Refusal}
@@ -43,16 +45,31 @@ is_about_format p.Entries = true
 is_about_format p.Dictionary = true
 is_about_format _ = false
 
--- names, the last first, each with a dot behind it. Bytes that aren't UTF-8 are replaced.
+-- how many bytes a text has, if it isn't shown as a whole
+abbrev pub length_told : Bool → ℕ → List ℕ
+length_told false n = []
+length_told true n = codes ".. (" ++ (decimal n ++ codes " bytes)")
+
+-- the bytes of a text that are shown: at most 64
+abbrev pub front : List ℕ → List ℕ
+front text = if nat_lt 64 (length text) then take 64 text else text
+
+-- A name or a format in a message. Bytes that aren't UTF-8 are replaced, and backslashes, double quotes and control characters are
+-- escaped, as `Display` of a name does. Of a text with more than 64 bytes, the first 64 are shown, and how many it has. For example,
+-- it is `a\"b` of the name `a"b`.
+unfoldable pub shown_text : List ℕ → List ℕ
+shown_text text = escaped (utf8_lossy (front text)) ++ length_told (nat_lt 64 (length text)) (length text)
+
+-- names, the last first, each with a dot behind it
 abbrev pub outer : List (List ℕ) → List ℕ
 outer [] = []
-outer (n ∷ ns) = outer ns ++ (utf8_lossy n ++ codes ".")
+outer (n ∷ ns) = outer ns ++ (shown_text n ++ codes ".")
 
 -- The beginning of the message about a field that isn't the root, whose names are these from itself outwards. For example, it is
 -- `column "a.item": ` of the names `item` and `a`.
 abbrev pub column : List (List ℕ) → List ℕ
 column [] = []
-column (n ∷ ns) = codes "column \"" ++ (outer ns ++ (utf8_lossy n ++ codes "\": "))
+column (n ∷ ns) = codes "column \"" ++ (outer ns ++ (shown_text n ++ codes "\": "))
 
 abbrev pub names_of : Refusal → List (List ℕ)
 names_of r = map (λ n. n.items) r.names.items
@@ -62,13 +79,13 @@ problem_of r = r.problem
 
 -- what is before the phrase, and behind it
 abbrev pub before : Bool → List ℕ → List ℕ
-before true format = codes "the Arrow format \"" ++ (utf8_lossy format ++ codes "\" ")
+before true format = codes "the Arrow format \"" ++ (shown_text format ++ codes "\" ")
 before false format = []
 
 abbrev pub behind : Bool → List ℕ → List ℕ
 behind true format = []
 behind false [] = []
-behind false (b ∷ format) = codes ", at the Arrow format \"" ++ (utf8_lossy (b ∷ format) ++ codes "\"")
+behind false (b ∷ format) = codes ", at the Arrow format \"" ++ (shown_text (b ∷ format) ++ codes "\"")
 
 -- The message about the field with these names, which are those of the fields from this one outwards, and this format. For
 -- example, it is `column "a.item": the Arrow format "tiM" has no type here` of the names `item` and `a`, the format `tiM` and the

@@ -4,13 +4,18 @@
 // Why a schema has no type here, or a type no schema.
 ghost use Rattle.std.specs.Prelude.{◌≡◌, ◌∷◌, [], ◌++◌, IfOk, Some, false, map, string_bytes, true};
 ghost use Rattle.std.specs.Str.Lossy.{utf8_lossy};
+ghost use Rattle.dtype_base.specs.Escapes.{escaped};
 ghost use Rattle.c_arrow.specs.Faults.{IsFault, IsMemory, IsWithin, problem_of_number, refused as refused_spec};
-ghost use Rattle.c_arrow.specs.Messages.{before, behind, column, is_about_format, message_of, outer, phrase, problem_of};
+ghost use Rattle.c_arrow.specs.Messages.{before, behind, column, front as front_spec, is_about_format, length_told, message_of, outer, phrase, problem_of, shown_text};
 ghost use Rattle.c_arrow.specs.declared.fault.ArrowFault.TheVariants.{OutOfMemory, Library, Refused};
 
-use dtype_base::VortexError;
+use dtype_base::{FieldName, VortexError};
 use std::alloc::{AllocError, AllocFailed, Global};
 use std::fmt;
+use std::rc::RcStr;
+
+// How many bytes of a name or a format a message has.
+const MOST_SHOWN: usize = 64;
 
 /// Why `dtype_of` or `nodes_of` failed.
 #[derive(Debug, Drop)]
@@ -231,7 +236,7 @@ fn push_column(alloc: Global, out: &mut String, names: &[Vec<u8>]) -> Result<(),
         [name, outer @ ..] => {
             out.push_str("column \"")?;
             push_outer(alloc, out, outer)?;
-            push_lossy(alloc, out, name)?;
+            push_shown(alloc, out, name)?;
             out.push_str("\": ")?;
         }
     }
@@ -246,7 +251,7 @@ fn push_outer(alloc: Global, out: &mut String, names: &[Vec<u8>]) -> Result<(), 
         [] => {}
         [name, rest @ ..] => {
             push_outer(alloc, out, rest)?;
-            push_lossy(alloc, out, name)?;
+            push_shown(alloc, out, name)?;
             out.push_str(".")?;
         }
     }
@@ -280,20 +285,55 @@ fn push_format(
     format: &[u8],
     end: &str,
 ) -> Result<(), AllocError>
-    ensures { IfOk result (λ _. string_bytes out.new ≡ string_bytes out.old ++ (start.now ++ (utf8_lossy format.now ++ end.now))) }
+    ensures { IfOk result (λ _. string_bytes out.new ≡ string_bytes out.old ++ (start.now ++ (shown_text format.now ++ end.now))) }
 {
     out.push_str(start)?;
-    push_lossy(alloc, out, format)?;
+    push_shown(alloc, out, format)?;
     out.push_str(end)?;
     Ok(())
 }
 
-// Appends a text, in which a replacement character stands for bytes that aren't UTF-8.
-fn push_lossy(alloc: Global, out: &mut String, text: &[u8]) -> Result<(), AllocError>
-    ensures { IfOk result (λ _. string_bytes out.new ≡ string_bytes out.old ++ utf8_lossy text.now) }
+// Appends a name or a format, of which at most so many bytes are shown.
+#[tactic(auto, unfolding(crate::specs::Messages::shown_text), using(std::proofs::lemmas::Bool::Decides::nat_tests))]
+fn push_shown(alloc: Global, out: &mut String, text: &[u8]) -> Result<(), AllocError>
+    ensures { IfOk result (λ _. string_bytes out.new ≡ string_bytes out.old ++ shown_text text.now) }
+{
+    push_escaped(alloc, out, front(text))?;
+    push_length(alloc, out, text.len() > MOST_SHOWN, text.len())?;
+    Ok(())
+}
+
+// Returns the bytes of a text that are shown.
+#[tactic(auto, using(std::proofs::lemmas::Bool::Decides::nat_tests))]
+fn front(text: &[u8]) -> &[u8]
+    ensures { result.now ≡ front_spec text.now }
+{
+    if text.len() <= MOST_SHOWN {
+        return text;
+    }
+    let (front, _) = text.split_at(MOST_SHOWN);
+    front
+}
+
+// Appends a text with escapes, in which a replacement character stands for bytes that aren't UTF-8.
+fn push_escaped(alloc: Global, out: &mut String, text: &[u8]) -> Result<(), AllocError>
+    ensures { IfOk result (λ _. string_bytes out.new ≡ string_bytes out.old ++ escaped (utf8_lossy text.now)) }
 {
     let text = String::from_utf8_lossy(alloc, text)?;
-    out.push_str(text.as_str())?;
+    let name = FieldName::from_inner(RcStr::from_str(alloc, text.as_str())?);
+    let shown = format!(in alloc; "{name}")?;
+    out.push_str(shown.as_str())?;
+    Ok(())
+}
+
+// Appends how many bytes a text has, if it isn't shown as a whole.
+fn push_length(alloc: Global, out: &mut String, is_cut: bool, length: usize) -> Result<(), AllocError>
+    ensures { IfOk result (λ _. string_bytes out.new ≡ string_bytes out.old ++ length_told is_cut length) }
+{
+    if is_cut {
+        let told = format!(in alloc; ".. ({length} bytes)")?;
+        out.push_str(told.as_str())?;
+    }
     Ok(())
 }
 

@@ -164,6 +164,29 @@ fn errors_name_the_part() {
         refusal(&mut foreign(c"d:3,4")).1,
         "decimal scale 4 is greater than precision 3"
     );
+    // (Names and formats are escaped, and long ones cut.)
+    let mut odd = Foreign {
+        name: c"b\x1b[31m\"".as_ptr(),
+        ..foreign(c"t\n")
+    };
+    let mut children = [&raw mut odd];
+    let mut with_odd = Foreign {
+        n_children: 1,
+        children: children.as_mut_ptr(),
+        ..foreign(c"+s")
+    };
+    assert_eq!(
+        refusal(&mut with_odd).1,
+        r#"column "b\x1b[31m\"": the Arrow format "t\n" has no type here"#
+    );
+    let long: &'static CStr = c"xxxxxxxxxxxxxxxxxxxxxxxxxxxxxxxxxxxxxxxxxxxxxxxxxxxxxxxxxxxxxxxxyz";
+    assert_eq!(
+        refusal(&mut foreign(long)).1,
+        format!(
+            "the Arrow format \"{}.. (66 bytes)\" has no type here",
+            "x".repeat(64)
+        )
+    );
     let deep = (0..130).fold(dtype("i8"), |element, _| DType::list(element, NonNullable));
     assert_eq!(
         deep.to_arrow().unwrap_err().to_string(),

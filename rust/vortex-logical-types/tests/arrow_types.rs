@@ -116,7 +116,7 @@ const TYPES: [(&str, &str); 27] = [
     ("x.a[0x](x.b[0x](i32))", "an extension type over another extension type has no Arrow type"),
     ("list(union(a@128=i32))", "column \"item\": a tag above 127 is no type id of Arrow"),
     ("fixed_size_list(u8)[2147483648]", "a fixed-size list in Arrow has at most 2147483647 elements"),
-    ("{\"a\\x00\"=i32}", "column \"a\u{0}\": a name, an id or a time zone with a NUL byte can't be written"),
+    ("{\"a\\x00\"=i32}", "column \"a\\x00\": a name, an id or a time zone with a NUL byte can't be written"),
 ];
 
 /// The nodes and the texts of a schema.

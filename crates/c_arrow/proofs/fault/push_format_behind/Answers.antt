@@ -3,11 +3,10 @@
 
 use Rattle.std.proofs.Common.{◌≡◌, ℕ, ◌≤◌, List, [], ◌∷◌, ◌++◌, length, false, refl, sym, ap, arith, string_bytes}
 use Rattle.std.specs.Prelude.{codes}
-use Rattle.std.specs.Str.Lossy.{utf8_lossy}
-use Rattle.c_arrow.specs.Messages.{behind}
+use Rattle.c_arrow.specs.Messages.{behind, shown_text}
 use Rattle.c_arrow.proofs.fault.push_format_behind.Goals as goal
 
-is_behind : (format : List ℕ) → 1 ≤ length format → behind false format ≡ codes ", at the Arrow format \"" ++ (utf8_lossy format ++ codes "\"")
+is_behind : (format : List ℕ) → 1 ≤ length format → behind false format ≡ codes ", at the Arrow format \"" ++ (shown_text format ++ codes "\"")
 is_behind [] some = absurd (omega (arith, some))
 is_behind (b ∷ format) some = refl
 

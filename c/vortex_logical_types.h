@@ -1341,7 +1341,7 @@ VLT_MUST_USE vlt_result vlt_error_position(const vlt_error *error, size_t *posit
 /* Writes the message of the error to `buffer`. For an error of the library it is the library's own text, for example
  * `index 9 out of bounds for struct with 2 fields`. If a text can't be read, it states what was expected at the
  * position of the error, for example `expected a type, not "int32"; nearest: i32`. For a schema of Arrow it names the
- * field, for example `column "a": the Arrow format "tiM" has no type here`. Returns VLT_KIND if the slot contains no
+ * field, for example `column "a": the Arrow format "tdX" has no type here`. Returns VLT_KIND if the slot contains no
  * error.
  *
  * Results: VLT_DONE, VLT_KIND, VLT_SMALL, VLT_RANGE or VLT_LIBRARY. */
@@ -1404,7 +1404,7 @@ struct ArrowArray {
  *
  * Returns VLT_ARROW if the field isn't one, if it has no type here, or if its type can't be one of this library for a reason
  * that has no number of its own. Then `error` has a message that begins with the path of the field and names the format, for
- * example `column "a.item": the Arrow format "tiM" has no type here`. Returns VLT_DEEP if the type has more than 128
+ * example `column "a.item": the Arrow format "tdX" has no type here`. Returns VLT_DEEP if the type has more than 128
  * levels, VLT_ERROR_PRECISION_ZERO to VLT_ERROR_SCALE_ABOVE_PRECISION for a decimal that the library refuses,
  * VLT_ERROR_MAP_KEY_NULLABLE for a map whose key is nullable, and one of the VLT_ERROR_UNION_.. below for a union that the
  * library refuses. Returns VLT_RANGE if `schema` is null.

@@ -114,7 +114,7 @@ static void formats(void) {
         {"b", "bool"}, {"c", "i8"}, {"C", "u8"}, {"s", "i16"}, {"S", "u16"}, {"i", "i32"}, {"I", "u32"}, {"l", "i64"},
         {"L", "u64"}, {"e", "f16"}, {"f", "f32"}, {"g", "f64"}, {"u", "utf8"}, {"U", "utf8"}, {"vu", "utf8"},
         {"z", "binary"}, {"Z", "binary"}, {"vz", "binary"},
-        {"w:0", "fixed_size_list(u8)[0]"}, {"w:16", "fixed_size_list(u8)[16]"}, {"w:4294967295", "fixed_size_list(u8)[4294967295]"},
+        {"w:0", "fixed_size_list(u8)[0]"}, {"w:16", "fixed_size_list(u8)[16]"}, {"w:2147483647", "fixed_size_list(u8)[2147483647]"},
         {"d:10,2", "decimal(10,2)"}, {"d:10,2,128", "decimal(10,2)"}, {"d:38,-3,32", "decimal(38,-3)"},
         {"d:76,76,256", "decimal(76,76)"}, {"d:1,0,64", "decimal(1,0)"}, {"d:5,-128", "decimal(5,-128)"},
     };
@@ -141,6 +141,13 @@ static void times(void) {
     READ("vortex.timestamp[0x020300555443](i64)", LEAF("tsm:UTC", 0));
     READ("vortex.timestamp[0x0106002b30313a3030](i64?)", LEAF("tsu:+01:00", NULLABLE));
     READ("vortex.timestamp[0x000200c3a4](i64)", LEAF("tsn:\xc3\xa4", 0));
+    READ("arrow.duration[0x744473](i64)", LEAF("tDs", 0));
+    READ("arrow.duration[0x74446d](i64?)", LEAF("tDm", NULLABLE));
+    READ("arrow.duration[0x744475](i64)", LEAF("tDu", 0));
+    READ("arrow.duration[0x74446e](i64)", LEAF("tDn", 0));
+    READ("arrow.interval[0x74694d](i32?)", LEAF("tiM", NULLABLE));
+    READ("arrow.interval[0x746944](fixed_size_list(u8)[8])", LEAF("tiD", 0));
+    READ("arrow.interval[0x74696e](fixed_size_list(u8)[16]?)", LEAF("tin", NULLABLE));
 }
 
 static void nested(void) {
@@ -149,7 +156,7 @@ static void nested(void) {
     READ("list(i32)", WITH("+vl", 0, LEAF("i", 0)));
     READ("list(i32?)", WITH("+vL", 0, LEAF("i", NULLABLE)));
     READ("fixed_size_list(f32?)[3]?", WITH("+w:3", NULLABLE, LEAF("f", NULLABLE)));
-    READ("fixed_size_list(f32)[4294967295]", WITH("+w:4294967295", 0, LEAF("f", 0)));
+    READ("fixed_size_list(f32)[2147483647]", WITH("+w:2147483647", 0, LEAF("f", 0)));
     READ("{}", LEAF("+s", 0));
     READ("{a=i32, \"b c\"=utf8?, \"\"=bool}?",
          WITH("+s", NULLABLE, NAMED("a", "i"), field_of("u", "b c", NULLABLE, 0), field_of("b", NULL, 0, 0)));
@@ -179,7 +186,7 @@ static void dictionaries(void) {
     READ("{a=f64?, b=bool}",
          WITH("+s", 0, with_dictionary(field_of("c", "a", NULLABLE, 0), LEAF("g", 0)), NAMED("b", "b")));
     REFUSED("\"f\"", "", with_dictionary(LEAF("f", 0), LEAF("u", 0)));
-    REFUSED("\"tiM\"", "", with_dictionary(LEAF("i", 0), LEAF("tiM", 0)));
+    REFUSED("\"tdX\"", "", with_dictionary(LEAF("i", 0), LEAF("tdX", 0)));
     REFUSED("column \"a\"", "\"u\"", WITH("+s", 0, with_dictionary(NAMED("a", "u"), LEAF("u", 0))));
 }
 
@@ -203,12 +210,12 @@ static void extensions(void) {
 
 static void refused_formats(void) {
     static const char *const rows[] = {
-        "", "x", "tDs", "tDm", "tDu", "tDn", "tiM", "tiD", "tin", "tdx", "ttx", "tsx:", "tss", "tsmUTC", "ii", "v", "vx", "+", "+x",
-        "+v", "+vx", "w", "w:", "w:-1", "w:4294967296", "w: 3", "w:3 ", "w:+3", "w:3x", "w:99999999999999999999999999",
+        "", "x", "tD", "tDx", "tDss", "ti", "tim", "tix", "tdx", "ttx", "tsx:", "tss", "tsmUTC", "ii", "v", "vx", "+", "+x",
+        "+v", "+vx", "w", "w:", "w:-1", "w:2147483648", "w:4294967296", "w: 3", "w:3 ", "w:+3", "w:3x", "w:99999999999999999999999999",
         "d", "d:", "d:10", "d:10,", "d:,2", "d:256,2", "d:10,2,", "d:10,2,16", "d:10,2,512", "d:10,2,128,", "d:-1,2", "d: 1,2",
         "d:1, 2", "d:10,200", "d:10,-129", "d:+10,2", "d:10,--2", "d:10,+2", "\xff", "i\xff",
     };
-    static const char *const lists[] = {"+w", "+w:", "+w:-1", "+w:4294967296", "+w: 1", "+w:1 "};
+    static const char *const lists[] = {"+w", "+w:", "+w:-1", "+w:2147483648", "+w:4294967296", "+w: 1", "+w:1 "};
     size_t at;
     for (at = 0; at < sizeof rows / sizeof *rows; at++) {
         FAILS(VLT_ARROW, LEAF(rows[at], 0));
@@ -216,8 +223,8 @@ static void refused_formats(void) {
     }
     for (at = 0; at < sizeof lists / sizeof *lists; at++)
         FAILS(VLT_ARROW, WITH(lists[at], 0, LEAF("i", 0)));
-    REFUSED("column \"a.item\": ", "\"tiM\"", WITH("+s", 0, field_with("+l", "a", 0, NAMED("item", "tiM"), NULL)));
-    REFUSED("\"tDs\"", "", LEAF("tDs", 0));
+    REFUSED("column \"a.item\": ", "\"tdX\"", WITH("+s", 0, field_with("+l", "a", 0, NAMED("item", "tdX"), NULL)));
+    REFUSED("\"tDD\"", "", LEAF("tDD", 0));
     FAILS(VLT_ERROR_PRECISION_ZERO, LEAF("d:0,0", 0));
     FAILS(VLT_ERROR_PRECISION_TOO_LARGE, LEAF("d:77,0", 0));
     FAILS(VLT_ERROR_PRECISION_TOO_LARGE, LEAF("d:255,0", 0));
@@ -243,8 +250,8 @@ static void refused_children(void) {
     FAILS(VLT_ARROW, WITH("+m", 0, WITH("+s", 0, LEAF("i", 0))));
     FAILS(VLT_ARROW, WITH("+m", 0, WITH("+s", 0, LEAF("i", 0), LEAF("i", 0), LEAF("i", 0))));
     FAILS(VLT_ERROR_MAP_KEY_NULLABLE, WITH("+m", 0, WITH("+s", 0, LEAF("i", NULLABLE), LEAF("i", 0))));
-    REFUSED("column \"m.entries.value\": ", "\"tin\"",
-            WITH("+s", 0, field_with("+m", "m", 0, field_with("+s", "entries", 0, NAMED("key", "i"), NAMED("value", "tin"), NULL), NULL)));
+    REFUSED("column \"m.entries.value\": ", "\"tdX\"",
+            WITH("+s", 0, field_with("+m", "m", 0, field_with("+s", "entries", 0, NAMED("key", "i"), NAMED("value", "tdX"), NULL), NULL)));
 }
 
 static void refused_unions(void) {
@@ -413,6 +420,10 @@ static void written(void) {
     WRITTEN("vortex.timestamp[0x020300555443](i64)", "tsm:UTC  0");
     WRITTEN("vortex.timestamp[0x0101005a](i64)", "tsu:Z  0");
     WRITTEN("vortex.timestamp[0x000000](i64)", "tsn:  0");
+    WRITTEN("arrow.duration[0x744473](i64?)", "tDs  2");
+    WRITTEN("{a=arrow.interval[0x74694d](i32)}", "+s  0 [tiM a 0]");
+    WRITTEN("arrow.interval[0x746944](fixed_size_list(u8)[8]?)", "tiD  2");
+    WRITTEN("list(arrow.interval[0x74696e](fixed_size_list(u8)[16]))", "+l  0 [tin item 0]");
 }
 
 /* An extension is its storage type with the two keys, also a temporal one with other metadata or another storage type. */

@@ -1015,9 +1015,9 @@ impl DType {
     ///
     /// Raises `LibraryError`:
     ///
-    /// - `ARROW` if a field has no type here, such as a duration. The text of the error begins with the path of the
-    ///   field and has its format. It is also raised if the schema or the stream was released, or if the stream has no
-    ///   schema.
+    /// - `ARROW` if a field has no type here, such as one with a format that isn't Arrow's. The text of the error begins
+    ///   with the path of the field and has its format. It is also raised if the schema or the stream was released, or if
+    ///   the stream has no schema.
     /// - `TOO_DEEP` if the type has more than 128 levels
     /// - the error of `decimal`, `map_` or `union` if they refuse the parts of a field, such as a decimal with 77 digits
     #[staticmethod]

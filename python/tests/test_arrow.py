@@ -142,19 +142,19 @@ class Arrow(unittest.TestCase):
                                    DType.from_arrow, Wrong(wrong))
 
     def test_errors_name_the_field_and_its_format(self):
-        duration = exported(DType("{a=list(i8)}"))
-        child = duration.children[0].contents.children[0].contents
+        wrong = exported(DType("{a=list(i8)}"))
+        child = wrong.children[0].contents.children[0].contents
         before = child.format
-        text = ctypes.create_string_buffer(b"tDs")
+        text = ctypes.create_string_buffer(b"tdX")
         ctypes.c_void_p.from_buffer(child).value = ctypes.addressof(text)
         with self.assertRaises(LibraryError) as caught:
-            DType.from_arrow_address(ctypes.addressof(duration))
+            DType.from_arrow_address(ctypes.addressof(wrong))
         self.assertIs(caught.exception.kind, ErrorKind.ARROW)
         self.assertIsNone(caught.exception.number)
         self.assertIn('column "a.item"', str(caught.exception))
-        self.assertIn('"tDs"', str(caught.exception))
+        self.assertIn('"tdX"', str(caught.exception))
         self.assertEqual(before, b"c")
-        release(duration)
+        release(wrong)
         for text in ("variant", "{a=x.y[0x](x.z[0x](i8))}", "union(a@128=i8)"):
             with self.assertRaises(LibraryError) as caught:
                 DType(text).__arrow_c_schema__()
@@ -199,7 +199,9 @@ class Arrow(unittest.TestCase):
         self.assertEqual(DType.from_arrow(schema), dtype)
         self.assertEqual(DType.from_arrow(schema.empty_table()), dtype)
         self.assertEqual(pyarrow.schema(dtype), schema)
-        self.assertRaises(LibraryError, DType.from_arrow, pyarrow.duration("s"))
+        for it in (pyarrow.duration("s"), pyarrow.month_day_nano_interval()):
+            schema = pyarrow.schema([("it", it)])
+            self.assertEqual(pyarrow.schema(DType.from_arrow(schema)), schema)
 
     @unittest.skipUnless(importlib.util.find_spec("polars"), "polars can't be imported")
     def test_polars(self):

@@ -22,9 +22,10 @@ use Rattle.dtype_text.specs.Read.{◌>>=◌, byte_at}
 use Rattle.c_arrow.specs.Faults.{Fault}
 use Rattle.c_arrow.specs.Formats.{format_of, word_of, word_in, nested_word_of, time_of, parametric_of, nested_of, union_of, or_else}
 use Rattle.c_arrow.specs.FormatsWritten.{letter_of, bytes_format, decimal_format, fixed_size_format, union_format, width_of, joined, is_id}
+use Rattle.c_arrow.specs.Kept.{kept_of}
 use Rattle.c_arrow.specs.Ids.{ids_of, ids_after, ended, id_with}
 use Rattle.c_arrow.specs.Ids.{digits_value as value_of}
-use Rattle.c_arrow.specs.Numbers.{number_of, number_after, digit_after, small_of, signed_of, not_comma, is_width, decimal_parts}
+use Rattle.c_arrow.specs.Numbers.{number_of, number_after, digit_after, size_of, small_of, signed_of, not_comma, is_width, decimal_parts}
 use Rattle.c_arrow.specs.declared.format.Format.{Format}
 use Rattle.c_arrow.specs.declared.format.Format.TheVariants as f
 use Rattle.c_arrow.proofs.Leaves.{both}
@@ -134,7 +135,7 @@ unfolding format_in
 same_made x y e = ap (format_in x) e
 
 pub fixed_again : (size : ℕ) (format : List ℕ) → fixed_size_format size ≡ Ok format → format_of format ≡ Some (f.FixedSizeList size)
-unfolding fixed_size_format word_of nested_word_of time_of parametric_of nested_of
+unfolding fixed_size_format size_of word_of nested_word_of time_of kept_of parametric_of nested_of
 fixed_again size format is = split (nat_le size 2147483647) refl where
   split : (c : Bool) → nat_le size 2147483647 ≡ c → format_of format ≡ Some (f.FixedSizeList size)
   split false test = absurd (let e = rw test at is in cc)
@@ -142,10 +143,10 @@ fixed_again size format is = split (nat_le size 2147483647) refl where
       let e : made (codes "+w:" ++ decimal size) ≡ made format = rw test at is in
       let lt : size < 2 ^ 32 = grind (arith, nat_tests) in
       let again = number_again size lt in
-      ap format_of (sym (same_made (codes "+w:" ++ decimal size) format e)) ∙ with_parameters (codes "+w:" ++ decimal size) refl ∙ rw again refl
+      ap format_of (sym (same_made (codes "+w:" ++ decimal size) format e)) ∙ with_parameters (codes "+w:" ++ decimal size) refl ∙ rw (again, test) refl
 
 pub bytes_again : (size : ℕ) (format : List ℕ) → bytes_format size ≡ Ok format → format_of format ≡ Some (f.FixedSizeBinary size)
-unfolding bytes_format word_of nested_word_of time_of parametric_of
+unfolding bytes_format size_of word_of nested_word_of time_of kept_of parametric_of
 bytes_again size format is = split (nat_le size 2147483647) refl where
   split : (c : Bool) → nat_le size 2147483647 ≡ c → format_of format ≡ Some (f.FixedSizeBinary size)
   split false test = absurd (let e = rw test at is in cc)
@@ -153,7 +154,7 @@ bytes_again size format is = split (nat_le size 2147483647) refl where
       let e : made (codes "w:" ++ decimal size) ≡ made format = rw test at is in
       let lt : size < 2 ^ 32 = grind (arith, nat_tests) in
       let again = number_again size lt in
-      ap format_of (sym (same_made (codes "w:" ++ decimal size) format e)) ∙ with_parameters (codes "w:" ++ decimal size) refl ∙ rw again refl
+      ap format_of (sym (same_made (codes "w:" ++ decimal size) format e)) ∙ with_parameters (codes "w:" ++ decimal size) refl ∙ rw (again, test) refl
 
 -- ---- decimals
 
@@ -224,7 +225,7 @@ small_again n le =
     rw (number_again n (omega (arith, le)), test) refl
 
 pub decimal_again : (precision : ℕ) (scale : ℤ) → IsDecimalWithin 76 precision scale → format_of (decimal_format precision scale) ≡ Some (f.Decimal precision scale)
-unfolding decimal_format decimal_parts word_of nested_word_of time_of parametric_of
+unfolding decimal_format decimal_parts word_of nested_word_of time_of kept_of parametric_of
 decimal_again precision scale h =
     let le : precision ≤ 76 = h.precision_at_most in
     let d = decimal_is_IsNumeral precision (omega (arith, le)) in
@@ -287,7 +288,7 @@ ids_again (n ∷ ns) all =
     (numeral_ids n (decimal n) (joined (codes ",") ns) d.0.0 d.0.1 d.1 le).1 ∙ more_ids n ns le h.1
 
 pub union_again : (tags format : List ℕ) → union_format tags ≡ Ok format → (format_of format ≡ Some f.Union) × (ids_of (drop 4 format) ≡ Some tags)
-unfolding union_format word_of nested_word_of time_of parametric_of nested_of union_of
+unfolding union_format word_of nested_word_of time_of kept_of parametric_of nested_of union_of
 union_again tags format is = split (list_all is_id tags) refl where
   split : (c : Bool) → list_all is_id tags ≡ c → (format_of format ≡ Some f.Union) × (ids_of (drop 4 format) ≡ Some tags)
   split false test = absurd (let e = rw test at is in cc)

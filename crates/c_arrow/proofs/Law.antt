@@ -17,7 +17,7 @@ use Rattle.c_arrow.specs.Flags.{is_nullable, has_sorted_keys}
 use Rattle.c_arrow.specs.Formats.{format_of}
 use Rattle.c_arrow.specs.Ids.{ids_of}
 use Rattle.c_arrow.specs.FromArrow.{own, Inner, none_inner, inner, inner_at, Part as Maker, child_from, part_from, each, with_none, list_from, fixed_from, struct_from, union_from, entries_from, map_of_entries, map_from, run_ends_from, format_from, values_from, storage_from, keyed_from, type_from, from_arrow}
-use Rattle.c_arrow.specs.Read.{Left, Field, Part, Inside, full, inside, inside_at, with_left, bytes_at, texts_at, field_at, name_of, level, inner_by, named_by, child_by, part_by, times, or_refuse, refuse, unless, unless_wrong, wrong_count, sound, keys_of, is_entries, is_struct, is_index, decimal_of, map_of, bytes_of, date_of, time_of, timestamp_of, list_by, fixed_by, struct_by, union_by, entries_by, map_with, map_by, run_ends_by, value_by, values_by, dictionary_by, after_format, format_by, storage_by, extension_by, keyed_by, type_by, read_flat, all_of}
+use Rattle.c_arrow.specs.Read.{Left, Field, Part, Inside, full, inside, inside_at, with_left, bytes_at, texts_at, field_at, name_of, level, inner_by, named_by, child_by, part_by, times, or_refuse, refuse, unless, unless_wrong, wrong_count, sound, keys_of, is_entries, is_struct, is_index, decimal_of, map_of, bytes_of, date_of, time_of, timestamp_of, kept_type, list_by, fixed_by, struct_by, union_by, entries_by, map_with, map_by, run_ends_by, value_by, values_by, dictionary_by, after_format, format_by, storage_by, extension_by, keyed_by, type_by, read_flat, all_of}
 use Rattle.c_arrow.specs.Schema.{Schema, schema, Schemas, no_schema, more, Values, no_values, values, count, node, flat_nodes, all_nodes, value_nodes, flat_texts, all_texts, value_texts}
 use Rattle.c_arrow.specs.declared.fault.Problem.TheVariants as problem
 use Rattle.c_arrow.specs.declared.format.Format.{Format}
@@ -244,6 +244,7 @@ module _ (w : Inside) (v : Inner) (alike : Alike w v) (flags : ℕ) (format name
   format_same (fmt.Date unit) cs vs left = leaf (date_of unit nullable levels) cs vs left
   format_same (fmt.Time unit) cs vs left = leaf (time_of unit nullable levels) cs vs left
   format_same (fmt.Timestamp unit) cs vs left = leaf (timestamp_of (it cs vs) unit nullable levels) cs vs left
+  format_same (fmt.Kept kept) cs vs left = leaf (kept_type (it cs vs) kept nullable levels) cs vs left
   format_same fmt.List no_schema vs left = refl
   format_same fmt.List (more c no_schema) vs left = list_same w v alike (it (more c no_schema) vs) nullable levels c left
   format_same fmt.List (more a (more b cs)) vs left = rw (not_one (count cs)) refl

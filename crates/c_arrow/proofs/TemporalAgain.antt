@@ -1,9 +1,9 @@
 -- SPDX-License-Identifier: Apache-2.0
 -- SPDX-FileCopyrightText: Copyright the Vortex contributors
 
--- A date, a time or a timestamp that is written is read again.
-use Rattle.std.proofs.Common.{◌≡◌, ℕ, zero, suc, ◌+◌, ◌*◌, ◌^◌, ◌<◌, Bool, true, false, ◌==◌, List, [], ◌∷◌, ◌++◌, length, drop, get_or, Option, Some, None, inl, inr, refl, sym, ap, subst, ◌∙◌, append-nil, arith}
-use Rattle.std.specs.Prelude.{IfSome, codes, nat_lt, is_some, ◌⊎◌}
+-- A date, a time, a timestamp, a duration or an interval that is written is read again.
+use Rattle.std.proofs.Common.{◌≡◌, ℕ, zero, suc, ◌+◌, ◌*◌, ◌^◌, ◌<◌, Bool, true, false, ◌==◌, ◌&&◌, List, [], ◌∷◌, ◌++◌, length, drop, get_or, Option, Some, None, inl, inr, refl, sym, ap, subst, ◌∙◌, append-nil, arith}
+use Rattle.std.specs.Prelude.{IfSome, codes, nat_lt, is_some, ◌⊎◌, if◌then◌else◌}
 use Rattle.std.specs.Int.{from_le_bytes, to_le_bytes, w16}
 use Rattle.std.specs.Str.{is_utf8}
 use Rattle.std.proofs.lemmas.Bool.{eqb-true}
@@ -13,15 +13,20 @@ use Rattle.std.proofs.lemmas.Option.{none-some, same_Some}
 use Rattle.std.proofs.lemmas.Slice.Eq.{bytes_eq-Decides}
 use Rattle.dtype_base.specs.Bytes.{Bytes}
 use Rattle.dtype_base.specs.declared.nullability.Nullability.{Nullability}
+use Rattle.dtype_base.specs.declared.nullability.Nullability.TheVariants.{NonNullable}
 use Rattle.dtype_base.specs.declared.ptype.PType.{PType}
 use Rattle.dtype_base.specs.declared.ptype.PType.TheVariants as p
-use Rattle.dtype_types.specs.tree.Tree.{Tree, primitive, extension}
+use Rattle.dtype_types.specs.tree.Tree.{Tree, primitive, fixed_size_list, extension}
 use Rattle.dtype_text.specs.Read.{◌>>=◌}
 use Rattle.dtype_text.specs.TypeParts.{is_text}
-use Rattle.c_arrow.specs.Again.{IsTemporal, StandsFor}
+use Rattle.dtype_text.specs.Leaves.{text_at}
+use Rattle.c_arrow.specs.Again.{IsTemporal, IsKept, StandsFor}
 use Rattle.c_arrow.specs.Formats.{format_of, word_of, nested_word_of, time_of, parametric_of, timestamp_of, unit_of_letter}
-use Rattle.c_arrow.specs.Temporal.{Written, byte_of, unit_of_byte, date_ptype, time_ptype, date_tree, time_tree, timestamp_tree, zoned, date_letters, time_letters, timestamp_letters, is_zone, unit_and_zone, letters_of, or_empty, temporal_of}
+use Rattle.c_arrow.specs.Temporal.{Written, byte_of, unit_of_byte, date_ptype, time_ptype, date_tree, time_tree, timestamp_tree, zoned, date_letters, time_letters, timestamp_letters, is_zone, unit_and_zone, letters_of, or_empty, temporal_of, kept_with, kept_written, first_of, written_of}
+use Rattle.c_arrow.specs.Kept.{kept_of, kept_in, id_of, storage_of, is_list, is_byte, byte_is, is_kept_as, has_bytes, only_if, nullability_in}
 use Rattle.c_arrow.specs.declared.format.Format.TheVariants as f
+use Rattle.c_arrow.specs.declared.kept.Kept.{Kept}
+use Rattle.c_arrow.specs.declared.kept.Kept.TheVariants as kept
 use Rattle.c_arrow.specs.declared.temporal.Unit.{Unit as TimeUnit}
 use Rattle.c_arrow.specs.declared.temporal.Unit.TheVariants as unit
 use Rattle.c_arrow.proofs.FormatsAgain.{word_again, with_parameters}
@@ -37,13 +42,13 @@ same_text a b = (bytes_eq-Decides a b).0
 -- ---- formats
 
 date_again : (u : TimeUnit) (t : PType) (letters : List ℕ) → date_letters u t ≡ Some letters → (format_of letters ≡ Some (f.Date u)) × (t ≡ date_ptype u)
-unfolding date_letters date_ptype word_of nested_word_of time_of
+unfolding date_letters date_ptype word_of nested_word_of time_of kept_of
 date_again unit.Days p.I32 letters e = (ap format_of (sym (same_Some _ _ e)) ∙ word_again (codes "tdD") (f.Date unit.Days) refl refl, refl)
 date_again unit.Milliseconds p.I64 letters e = (ap format_of (sym (same_Some _ _ e)) ∙ word_again (codes "tdm") (f.Date unit.Milliseconds) refl refl, refl)
 date_again _ _ letters e = absurd cc
 
 time_again : (u : TimeUnit) (t : PType) (letters : List ℕ) → time_letters u t ≡ Some letters → (format_of letters ≡ Some (f.Time u)) × (t ≡ time_ptype u)
-unfolding time_letters time_ptype word_of nested_word_of time_of
+unfolding time_letters time_ptype word_of nested_word_of time_of kept_of
 time_again unit.Seconds p.I32 letters e = (ap format_of (sym (same_Some _ _ e)) ∙ word_again (codes "tts") (f.Time unit.Seconds) refl refl, refl)
 time_again unit.Milliseconds p.I32 letters e = (ap format_of (sym (same_Some _ _ e)) ∙ word_again (codes "ttm") (f.Time unit.Milliseconds) refl refl, refl)
 time_again unit.Microseconds p.I64 letters e = (ap format_of (sym (same_Some _ _ e)) ∙ word_again (codes "ttu") (f.Time unit.Microseconds) refl refl, refl)
@@ -58,7 +63,7 @@ stamp u letters zone given e word format behind =
     subst (λ x. IsStamp u p.I64 x zone) e (with_parameters (given ++ zone) word ∙ format, behind, refl)
 
 timestamp_again : (u : TimeUnit) (t : PType) (letters zone : List ℕ) → timestamp_letters u t ≡ Some letters → IsStamp u t letters zone
-unfolding timestamp_letters word_of nested_word_of time_of parametric_of timestamp_of unit_of_letter
+unfolding timestamp_letters word_of nested_word_of time_of kept_of parametric_of timestamp_of unit_of_letter
 timestamp_again unit.Seconds p.I64 letters zone e = stamp unit.Seconds letters zone (codes "tss:") (same_Some _ _ e) refl refl refl
 timestamp_again unit.Milliseconds p.I64 letters zone e = stamp unit.Milliseconds letters zone (codes "tsm:") (same_Some _ _ e) refl refl refl
 timestamp_again unit.Microseconds p.I64 letters zone e = stamp unit.Microseconds letters zone (codes "tsu:") (same_Some _ _ e) refl refl refl
@@ -193,19 +198,113 @@ module _ (id m : List ℕ) (t : PType) (n : Nullability) (v : TimeUnit) (letters
   found (Some zone) e l = zoned_again zone e l
 
 abbrev as_written : List ℕ → Option (List ℕ) → Nullability → Written
-as_written letters z n = record { letters = letters; zone = or_empty z; nullability = n }
+as_written letters z n = record { letters = letters; zone = or_empty z; nullability = n; is_list = false }
 
-pub temporal_again : (id m : List ℕ) (s : Tree) (t : Written) → Bytes m → temporal_of id m s ≡ Some t → IsTemporal (t.letters ++ t.zone) t.nullability (extension id m s)
+abbrev IsDated : Written → Tree → Type 0
+IsDated t d = IsTemporal (t.letters ++ t.zone) t.nullability d × (t.is_list ≡ false)
+
+temporal_again : (id m : List ℕ) (s : Tree) (t : Written) → Bytes m → temporal_of id m s ≡ Some t → IsDated t (extension id m s)
 unfolding temporal_of
 temporal_again id m (primitive ptype n) t bytes e =
     let u = bind_some (unit_and_zone m) (λ u. letters_of id u.0 ptype (is_some u.1) >>= λ letters. Some (as_written letters u.1 n)) t e in
     let l = bind_some (letters_of id u.0.0 ptype (is_some u.0.1)) (λ letters. Some (as_written letters u.0.1 n)) t u.2 in
-    subst (λ (w : Written). IsTemporal (w.letters ++ w.zone) w.nullability (extension id m (primitive ptype n))) (same_Some _ _ l.2) (found id m ptype n u.0.0 l.0 bytes u.0.1 u.1 l.1)
+    subst (λ (w : Written). IsDated w (extension id m (primitive ptype n))) (same_Some _ _ l.2) (found id m ptype n u.0.0 l.0 bytes u.0.1 u.1 l.1, refl)
 temporal_again id m s t bytes e = absurd cc
 
-pub dates_again : (id m : List ℕ) (s : Tree) → Bytes m → IfSome (temporal_of id m s) (λ w. StandsFor w (extension id m s))
-dates_again id m s bytes = go (temporal_of id m s) refl
+-- ---- durations and intervals
+
+abbrev some_kept : Kept → Option Kept
+some_kept x = Some x
+
+word_kept : (given m : List ℕ) (it k : Kept) → is_text m given ≡ true → some_kept it ≡ some_kept k → format_of given ≡ Some (f.Kept it) → format_of m ≡ Some (f.Kept k)
+word_kept given m it k test same says = ap format_of (same_text m given test) ∙ says ∙ ap (λ x. Some (f.Kept x)) (same_Some _ _ same)
+
+kept_again : (m : List ℕ) (k : Kept) → kept_of m ≡ Some k → format_of m ≡ Some (f.Kept k)
+unfolding kept_of word_of nested_word_of time_of
+kept_again m k e = split (is_text m (codes "tDs")) (is_text m (codes "tDm")) (is_text m (codes "tDu")) (is_text m (codes "tDn")) (is_text m (codes "tiM")) (is_text m (codes "tiD")) (is_text m (codes "tin")) refl refl refl refl refl refl refl where
+  says : (given : List ℕ) (it : Kept) → is_text m given ≡ true → some_kept it ≡ some_kept k → format_of given ≡ Some (f.Kept it) → format_of m ≡ Some (f.Kept k)
+  says given it = word_kept given m it k
+
+  split : (a b c d x y z : Bool) → is_text m (codes "tDs") ≡ a → is_text m (codes "tDm") ≡ b → is_text m (codes "tDu") ≡ c → is_text m (codes "tDn") ≡ d → is_text m (codes "tiM") ≡ x → is_text m (codes "tiD") ≡ y → is_text m (codes "tin") ≡ z → format_of m ≡ Some (f.Kept k)
+  split true b c d x y z e0 e1 e2 e3 e4 e5 e6 = let g : some_kept kept.Duration ≡ some_kept k = rw e0 at e in says (codes "tDs") kept.Duration e0 g (word_again (codes "tDs") (f.Kept kept.Duration) refl refl)
+  split false true c d x y z e0 e1 e2 e3 e4 e5 e6 = let g : some_kept kept.Duration ≡ some_kept k = rw (e0, e1) at e in says (codes "tDm") kept.Duration e1 g (word_again (codes "tDm") (f.Kept kept.Duration) refl refl)
+  split false false true d x y z e0 e1 e2 e3 e4 e5 e6 = let g : some_kept kept.Duration ≡ some_kept k = rw (e0, e1, e2) at e in says (codes "tDu") kept.Duration e2 g (word_again (codes "tDu") (f.Kept kept.Duration) refl refl)
+  split false false false true x y z e0 e1 e2 e3 e4 e5 e6 = let g : some_kept kept.Duration ≡ some_kept k = rw (e0, e1, e2, e3) at e in says (codes "tDn") kept.Duration e3 g (word_again (codes "tDn") (f.Kept kept.Duration) refl refl)
+  split false false false false true y z e0 e1 e2 e3 e4 e5 e6 = let g : some_kept kept.Months ≡ some_kept k = rw (e0, e1, e2, e3, e4) at e in says (codes "tiM") kept.Months e4 g (word_again (codes "tiM") (f.Kept kept.Months) refl refl)
+  split false false false false false true z e0 e1 e2 e3 e4 e5 e6 = let g : some_kept kept.Days ≡ some_kept k = rw (e0, e1, e2, e3, e4, e5) at e in says (codes "tiD") kept.Days e5 g (word_again (codes "tiD") (f.Kept kept.Days) refl refl)
+  split false false false false false false true e0 e1 e2 e3 e4 e5 e6 = let g : some_kept kept.Nanoseconds ≡ some_kept k = rw (e0, e1, e2, e3, e4, e5, e6) at e in says (codes "tin") kept.Nanoseconds e6 g (word_again (codes "tin") (f.Kept kept.Nanoseconds) refl refl)
+  split false false false false false false false e0 e1 e2 e3 e4 e5 e6 = absurd (let g = rw (e0, e1, e2, e3, e4, e5, e6) at e in cc)
+
+kept_text : (m : List ℕ) (k : Kept) → kept_in m ≡ Some k → kept_of m ≡ Some k
+kept_text m k e = split (is_utf8 m) refl where
+  split : (c : Bool) → is_utf8 m ≡ c → kept_of m ≡ Some k
+  split true u = rw u at e
+  split false u = absurd (let g = rw u at e in cc)
+
+only_again : (c : Bool) (n n' : Nullability) → only_if c n ≡ Some n' → (c ≡ true) × (n ≡ n')
+only_again true n n' e = (refl, same_Some _ _ e)
+only_again false n n' e = absurd cc
+
+kept_as : (it : Kept) (t : PType) (n : Nullability) → is_kept_as it t ≡ true → storage_of it n ≡ primitive t n
+unfolding is_kept_as storage_of
+kept_as kept.Duration p.I64 n e = refl
+kept_as kept.Months p.I32 n e = refl
+kept_as _ _ n e = absurd cc
+
+pub a_byte : (t : Tree) → is_byte t ≡ true → t ≡ primitive p.U8 NonNullable
+unfolding is_byte byte_is
+a_byte (primitive p.U8 NonNullable) e = refl
+a_byte _ e = absurd cc
+
+kept_bytes : (it : Kept) (size : ℕ) (n : Nullability) → has_bytes it size ≡ true → storage_of it n ≡ fixed_size_list (primitive p.U8 NonNullable) size n
+unfolding has_bytes storage_of
+kept_bytes kept.Days size n e = ap (λ (k : ℕ). fixed_size_list (primitive p.U8 NonNullable) k n) (sym (eqb-true size 8 e))
+kept_bytes kept.Nanoseconds size n e = ap (λ (k : ℕ). fixed_size_list (primitive p.U8 NonNullable) k n) (sym (eqb-true size 16 e))
+kept_bytes kept.Duration size n e = absurd cc
+kept_bytes kept.Months size n e = absurd cc
+
+storage_again : (it : Kept) (s : Tree) (n : Nullability) → nullability_in it s ≡ Some n → storage_of it n ≡ s
+unfolding nullability_in
+storage_again it (primitive t n') n e =
+    let o = only_again (is_kept_as it t) n' n e in
+    kept_as it t n o.0 ∙ ap (primitive t) (sym o.1)
+storage_again it (fixed_size_list element size n') n e =
+    let o = only_again (has_bytes it size && is_byte element) n' n e in
+    let b = both (has_bytes it size) (is_byte element) o.0 in
+    kept_bytes it size n b.0 ∙ ap (λ x. fixed_size_list x size n) (sym (a_byte element b.1)) ∙ ap (fixed_size_list element size) (sym o.1)
+storage_again it s n e = absurd cc
+
+abbrev kept_record : Kept → List ℕ → Nullability → Written
+kept_record it m n = record { letters = m; zone = []; nullability = n; is_list = is_list it }
+
+kept_same : (id m : List ℕ) (s : Tree) (t : Written) (it : Kept) (n : Nullability) (c : Bool) → kept_of m ≡ Some it → nullability_in it s ≡ Some n → is_text id (id_of it) ≡ c → (if c then Some (kept_record it m n) else None) ≡ Some t → IsKept (t.letters ++ t.zone) t.nullability t.is_list (extension id m s)
+kept_same id m s t it n false says nul is e = absurd cc
+kept_same id m s t it n true says nul is e =
+    subst (λ (w : Written). IsKept (w.letters ++ w.zone) w.nullability w.is_list (extension id m s)) (same_Some _ _ e)
+    (it, ap format_of (append-nil m) ∙ kept_again m it says, refl,
+    ap (λ x. extension x (m ++ []) (storage_of it n)) (sym (same_text id (id_of it) is)) ∙ ap (λ x. extension id x (storage_of it n)) (append-nil m) ∙ ap (extension id m) (storage_again it s n nul))
+
+kept_found : (id m : List ℕ) (s : Tree) (t : Written) (it : Kept) → kept_of m ≡ Some it → kept_with it id m s ≡ Some t → IsKept (t.letters ++ t.zone) t.nullability t.is_list (extension id m s)
+unfolding kept_with
+kept_found id m s t it says e =
+    let n = bind_some (nullability_in it s) (λ n. if is_text id (id_of it) then Some (kept_record it m n) else None) t e in
+    kept_same id m s t it n.0 (is_text id (id_of it)) says n.1 refl n.2
+
+-- ---- all
+
+pub written_again : (id m : List ℕ) (s : Tree) (t : Written) → Bytes m → written_of id m s ≡ Some t → StandsFor t (extension id m s)
+unfolding written_of kept_written
+written_again id m s t bytes e = split (temporal_of id m s) refl where
+  split : (o : Option Written) → temporal_of id m s ≡ o → StandsFor t (extension id m s)
+  split (Some w) is = let g : Some w ≡ Some t = rw is at e in inl (temporal_again id m s t bytes (is ∙ g))
+  split None is =
+      let g : kept_written id m s ≡ Some t = rw is at e in
+      let b = bind_some (kept_in m) (λ it. kept_with it id m s) t g in
+      inr (kept_found id m s t b.0 (kept_text m b.0 b.1) b.2)
+
+pub dates_again : (id m : List ℕ) (s : Tree) → Bytes m → IfSome (written_of id m s) (λ w. StandsFor w (extension id m s))
+dates_again id m s bytes = go (written_of id m s) refl
   where
-    go : (r : Option Written) → temporal_of id m s ≡ r → IfSome r (λ w. StandsFor w (extension id m s))
-    go (Some w) is = temporal_again id m s w bytes is
+    go : (r : Option Written) → written_of id m s ≡ r → IfSome r (λ w. StandsFor w (extension id m s))
+    go (Some w) is = written_again id m s w bytes is
     go None is = tt

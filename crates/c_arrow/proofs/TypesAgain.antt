@@ -27,23 +27,26 @@ use Rattle.std.proofs.lemmas.Bool.Decides.{Decides-eqb, nat_tests}
 use Rattle.std.proofs.lemmas.Slice.Eq.{bytes_eq-Decides}
 use Rattle.std.proofs.lemmas.Map.Made.{IsDistinct-from_AllPairs}
 use Rattle.std.proofs.lemmas.Map.Keys.{IsDistinct-head, IsDistinct-tail}
-use Rattle.c_arrow.specs.Again.{IsTemporal, both_said}
+use Rattle.c_arrow.specs.Again.{StandsFor, both_said}
 use Rattle.c_arrow.specs.Faults.{Fault, ◌>>=◌, or_fault, read_within}
 use Rattle.c_arrow.specs.Flags.{is_nullable, has_sorted_keys}
 use Rattle.c_arrow.specs.Formats.{format_of}
 use Rattle.c_arrow.specs.FormatsWritten.{bytes_format, checked_nul, decimal_format, fixed_size_format, letter_of, union_format}
 use Rattle.c_arrow.specs.FromArrow.{own, child_from, part_from, each, list_from, fixed_from, struct_from, union_from, map_from, map_of_entries, entries_from, format_from, storage_from, keyed_from, type_from, inner_at, from_arrow}
+use Rattle.c_arrow.specs.Kept.{id_of, is_byte, is_list, storage_of}
 use Rattle.c_arrow.specs.Keys.{said_in, nothing_said, extension_metadata, is_tensor}
-use Rattle.c_arrow.specs.Read.{Field, bytes_of, keys_of, level, name_of, or_refuse, decimal_of, map_of, union_of, tagged, is_entries, is_struct, date_of, time_of, timestamp_of}
+use Rattle.c_arrow.specs.Read.{Field, bytes_of, keys_of, level, name_of, or_refuse, decimal_of, map_of, union_of, tagged, is_entries, is_struct, date_of, time_of, timestamp_of, kept_storage, kept_type}
 use Rattle.c_arrow.specs.Schema.{Schema, schema, Schemas, no_schema, more, no_values}
-use Rattle.c_arrow.specs.Temporal.{Written, temporal_in, temporal_of, date_tree, time_tree, timestamp_tree}
-use Rattle.c_arrow.specs.Write.{Label, called, storage_called, nullable_flag, map_flags, leaf, parent, none, before, byte_is, is_byte, are_bytes, bytes_field, fixed_field, map_field, named, child, child_of, children_of, field_of, to_arrow, temporal, metadata_for, inner_extension, outer_extension, extension_at}
+use Rattle.c_arrow.specs.Temporal.{Written, temporal_in, written_of, date_tree, time_tree, timestamp_tree}
+use Rattle.c_arrow.specs.Write.{Label, called, storage_called, nullable_flag, map_flags, leaf, parent, none, before, are_bytes, bytes_field, fixed_field, map_field, named, child, child_of, children_of, field_of, to_arrow, level_if, temporal, metadata_for, inner_extension, outer_extension, extension_at}
 use Rattle.c_arrow.specs.declared.fault.Problem.TheVariants as problem
 use Rattle.c_arrow.specs.declared.format.Format.{Format}
 use Rattle.c_arrow.specs.declared.format.Format.TheVariants as f
+use Rattle.c_arrow.specs.declared.kept.Kept.{Kept}
+use Rattle.c_arrow.specs.declared.kept.Kept.TheVariants as kept
 use Rattle.c_arrow.proofs.KeysAgain.{keys_again}
 use Rattle.c_arrow.proofs.Leaves.{both}
-use Rattle.c_arrow.proofs.TemporalAgain.{temporal_again}
+use Rattle.c_arrow.proofs.TemporalAgain.{a_byte, written_again}
 use Rattle.c_arrow.proofs.FormatsAgain.{ascii_utf8, words_again, letter_again, fixed_again, bytes_again, decimal_again, union_again}
 
 -- ---- results
@@ -192,11 +195,6 @@ module _ (k levels : ℕ) (label : Label) (s : Schema) (n : Nullability) where
       stored_by (suc k) levels label s (of.fixed_size_list t size n) (nullable_flag n) b.0 (more o.0 no_schema) (f.FixedSizeList size) is (fixed_again size b.0 b.1)
       (ap (λ (r : Result (List ℕ × Tree) Fault). r >>= λ c. Ok (of.fixed_size_list c.1 size (nullability_of (is_nullable (nullable_flag n))))) part ∙ ap (λ m. Ok (of.fixed_size_list t size m)) (nullability_again n))
 
-the_byte : (t : Tree) → is_byte t ≡ true → t ≡ of.primitive p.U8 NonNullable
-unfolding is_byte byte_is
-the_byte (of.primitive p.U8 NonNullable) e = refl
-the_byte _ e = absurd cc
-
 module _ (k levels : ℕ) (label : Label) (s : Schema) (n : Nullability) (t : Tree) (size : ℕ) where
   bytes_stored : is_byte t ≡ true → bytes_field levels label size n ≡ Ok s → IsStored k levels label s (of.fixed_size_list t size n)
   unfolding bytes_field leaf format_from bytes_of
@@ -207,7 +205,7 @@ module _ (k levels : ℕ) (label : Label) (s : Schema) (n : Nullability) (t : Tr
       stored_by k levels label s (of.fixed_size_list t size n) (nullable_flag n) b.0 no_schema (f.FixedSizeBinary size) (ok_is _ _ l.2) (bytes_again size b.0 b.1)
       (ap (λ (r : Result ℕ Fault). r >>= λ below. Ok (of.fixed_size_list (of.primitive p.U8 NonNullable) size m)) l.1
       ∙ ap (λ x. Ok (of.fixed_size_list (of.primitive p.U8 NonNullable) size x)) (nullability_again n)
-      ∙ ap (λ x. Ok (of.fixed_size_list x size n)) (sym (the_byte t byte)))
+      ∙ ap (λ x. Ok (of.fixed_size_list x size n)) (sym (a_byte t byte)))
 
 sized_stored : (k levels : ℕ) (label : Label) (s : Schema) (n : Nullability) (t : Tree) (size : ℕ) → Reads k levels t → field_of levels label (of.fixed_size_list t size n) ≡ Ok s → IsStored (suc k) levels label s (of.fixed_size_list t size n)
 unfolding are_bytes
@@ -381,25 +379,39 @@ decimal_read d m h =
 
 -- ---- extensions
 
-temporal_stored : (k below : ℕ) (label : Label) (s : Schema) (w : Written) (t : Tree) → IsTemporal (w.letters ++ w.zone) w.nullability t → temporal label w ≡ Ok s → IsStored k (suc below) label s t
+kept_made : (field : Field) (it : Kept) (nullable : Bool) (below x : ℕ) → level_if (is_list it) below ≡ Ok x → kept_type field it nullable (suc below) ≡ Ok (extension (id_of it) field.format (storage_of it (nullability_of nullable)))
+unfolding kept_type kept_storage level_if storage_of is_list bytes_of
+kept_made field kept.Duration nullable below x e = refl
+kept_made field kept.Months nullable below x e = refl
+kept_made field kept.Days nullable zero x e = absurd cc
+kept_made field kept.Days nullable (suc below) x e = refl
+kept_made field kept.Nanoseconds nullable zero x e = absurd cc
+kept_made field kept.Nanoseconds nullable (suc below) x e = refl
+
+temporal_stored : (k below : ℕ) (label : Label) (s : Schema) (w : Written) (t : Tree) → StandsFor w t → temporal below label w ≡ Ok s → IsStored k (suc below) label s t
 unfolding temporal leaf format_from date_of time_of timestamp_of
 temporal_stored k below label s w t which e =
     let format = w.letters ++ w.zone in
-    let b = bind_ok (checked_nul w.zone) (λ _. leaf format label w.nullability) s e in
-    let is : whole (nullable_flag w.nullability) format label no_schema ≡ s = ok_is _ _ b.2 in
+    let b = bind_ok (checked_nul w.zone) (λ _. level_if w.is_list below >>= λ _. leaf format label w.nullability) s e in
+    let l = bind_ok (level_if w.is_list below) (λ _. leaf format label w.nullability) s b.2 in
+    let is : whole (nullable_flag w.nullability) format label no_schema ≡ s = ok_is _ _ l.2 in
     let field = own (whole (nullable_flag w.nullability) format label no_schema) in
-    let u = which.0 in
     let n = nullability_again w.nullability in
-    elim which.1 [
-      | inl h ↦ stored_by k (suc below) label s t (nullable_flag w.nullability) format no_schema (f.Date u) is h.0 (ap (λ m. Ok (date_tree u m)) n ∙ ap (λ x. Ok x) h.1)
-      | inr other ↦ elim other [
-        | inl h ↦ stored_by k (suc below) label s t (nullable_flag w.nullability) format no_schema (f.Time u) is h.0 (ap (λ m. Ok (time_tree u m)) n ∙ ap (λ x. Ok x) h.1)
-        | inr h ↦ stored_by k (suc below) label s t (nullable_flag w.nullability) format no_schema (f.Timestamp u) is h.0
-            (ap (λ m. or_refuse field problem.Zone (timestamp_tree u (drop 4 format) m)) n ∙ ap (or_refuse field problem.Zone) h.1)
+    elim which [
+      | inl dated ↦ elim dated.0.1 [
+        | inl h ↦ stored_by k (suc below) label s t (nullable_flag w.nullability) format no_schema (f.Date dated.0.0) is h.0 (ap (λ m. Ok (date_tree dated.0.0 m)) n ∙ ap (λ x. Ok x) h.1)
+        | inr other ↦ elim other [
+          | inl h ↦ stored_by k (suc below) label s t (nullable_flag w.nullability) format no_schema (f.Time dated.0.0) is h.0 (ap (λ m. Ok (time_tree dated.0.0 m)) n ∙ ap (λ x. Ok x) h.1)
+          | inr h ↦ stored_by k (suc below) label s t (nullable_flag w.nullability) format no_schema (f.Timestamp dated.0.0) is h.0
+              (ap (λ m. or_refuse field problem.Zone (timestamp_tree dated.0.0 (drop 4 format) m)) n ∙ ap (or_refuse field problem.Zone) h.1)
+        ]
       ]
+      | inr h ↦ stored_by k (suc below) label s t (nullable_flag w.nullability) format no_schema (f.Kept h.0) is h.1
+          (kept_made field h.0 (is_nullable (nullable_flag w.nullability)) below l.0 (ap (λ c. level_if c below) (sym h.2) ∙ l.1)
+          ∙ ap (λ m. Ok (extension (id_of h.0) format (storage_of h.0 m))) n ∙ ap (λ x. Ok x) h.3)
     ]
 
-inner_stored : (k levels : ℕ) (label : Label) (s : Schema) (t : Tree) (o : Option Written) → ((w : Written) → o ≡ Some w → IsTemporal (w.letters ++ w.zone) w.nullability t) → inner_extension levels label o ≡ Ok s → IsStored k levels label s t
+inner_stored : (k levels : ℕ) (label : Label) (s : Schema) (t : Tree) (o : Option Written) → ((w : Written) → o ≡ Some w → StandsFor w t) → inner_extension levels label o ≡ Ok s → IsStored k levels label s t
 unfolding inner_extension
 inner_stored k zero label s t None which e = absurd cc
 inner_stored k (suc below) label s t None which e = absurd cc
@@ -430,7 +442,7 @@ module _ (k : ℕ) (id bytes : List ℕ) (storage : Tree) (utf8 : is_utf8 id ≡
   abbrev ReadsStorage : ℕ → List ℕ → Type 0
   ReadsStorage levels name = (below : ℕ) (m : List ℕ) (c : Schema) → levels ≡ suc below → field_of below (storage_called name m) storage ≡ Ok c → IsStored k below (storage_called name m) c storage
 
-  outer_read : (levels : ℕ) (name : List ℕ) (s : Schema) (o : Option Written) → ((w : Written) → o ≡ Some w → IsTemporal (w.letters ++ w.zone) w.nullability (extension id bytes storage)) → ReadsStorage levels name → outer_extension levels name o (metadata_for id bytes) (λ below l. field_of below l storage) ≡ Ok s → IsRead k levels name s (extension id bytes storage)
+  outer_read : (levels : ℕ) (name : List ℕ) (s : Schema) (o : Option Written) → ((w : Written) → o ≡ Some w → StandsFor w (extension id bytes storage)) → ReadsStorage levels name → outer_extension levels name o (metadata_for id bytes) (λ below l. field_of below l storage) ≡ Ok s → IsRead k levels name s (extension id bytes storage)
   unfolding outer_extension
   outer_read zero name s None which reads e = absurd cc
   outer_read zero name s (Some w) which reads e = absurd cc
@@ -460,15 +472,15 @@ stored_both k levels label s t stored = (λ _. stored, λ _ m. plain_read k leve
 extension_both : (k levels : ℕ) (label : Label) (s : Schema) (id bytes : List ℕ) (storage : Tree) (utf8 : is_utf8 id ≡ true) → Bytes bytes → ReadsStorage k id bytes storage utf8 levels label.name → field_of levels label (extension id bytes storage) ≡ Ok s → Both k levels label s (extension id bytes storage)
 unfolding extension_at temporal_in
 extension_both k levels label s id bytes storage utf8 are_bytes reads e = split label.is_storage refl where
-  which : (w : Written) → temporal_of id bytes storage ≡ Some w → IsTemporal (w.letters ++ w.zone) w.nullability (extension id bytes storage)
-  which w is = temporal_again id bytes storage w are_bytes is
+  which : (w : Written) → written_of id bytes storage ≡ Some w → StandsFor w (extension id bytes storage)
+  which w is = written_again id bytes storage w are_bytes is
 
   by : Bool → Result Schema Fault
-  by c = if c then inner_extension levels label (temporal_of id bytes storage) else outer_extension levels label.name (temporal_of id bytes storage) (metadata_for id bytes) (λ below l. field_of below l storage)
+  by c = if c then inner_extension levels label (written_of id bytes storage) else outer_extension levels label.name (written_of id bytes storage) (metadata_for id bytes) (λ below l. field_of below l storage)
 
   split : (c : Bool) → label.is_storage ≡ c → Both k levels label s (extension id bytes storage)
-  split true is = (λ _. inner_stored k levels label s (extension id bytes storage) (temporal_of id bytes storage) which (sym (ap by is) ∙ e), λ no_. absurd (let clash : true ≡ false = sym is ∙ no_ in cc))
-  split false is = (λ plain. absurd (let clash : true ≡ false = sym plain ∙ is in cc), λ _ _. outer_read k id bytes storage utf8 levels label.name s (temporal_of id bytes storage) which reads (sym (ap by is) ∙ e))
+  split true is = (λ _. inner_stored k levels label s (extension id bytes storage) (written_of id bytes storage) which (sym (ap by is) ∙ e), λ no_. absurd (let clash : true ≡ false = sym is ∙ no_ in cc))
+  split false is = (λ plain. absurd (let clash : true ≡ false = sym plain ∙ is in cc), λ _ _. outer_read k id bytes storage utf8 levels label.name s (written_of id bytes storage) which reads (sym (ap by is) ∙ e))
 
 mutual
   unfolding format_from

@@ -2,17 +2,17 @@
 -- SPDX-FileCopyrightText: Copyright the Vortex contributors
 
 -- What is written of a field, by what is written of its parts.
-use Rattle.std.proofs.Common.{◌≡◌, ℕ, suc, ◌-◌, ◌<◌, List, [], ◌∷◌, ◌++◌, length, codes, Bool, Option, Some, None, Result, Ok, Err, refl, sym, ap, ◌∙◌, append_assoc, append-nil, arith}
+use Rattle.std.proofs.Common.{◌≡◌, ℕ, suc, ◌-◌, ◌<◌, List, [], ◌∷◌, ◌++◌, length, codes, Bool, Option, Some, None, Result, Ok, Err, refl, sym, ap, subst, ◌∙◌, append_assoc, append-nil, arith}
 use Rattle.dtype_base.specs.declared.nullability.Nullability.{Nullability}
 use Rattle.dtype_base.specs.declared.nullability.Nullability.TheVariants.{NonNullable}
 use Rattle.dtype_types.specs.tree.Tree.{Tree, fields, variants}
-use Rattle.c_arrow.specs.Added.{Out, with_node, with_field, with_fields}
+use Rattle.c_arrow.specs.Added.{Out, Writes, with_node, with_field, with_fields}
 use Rattle.c_arrow.specs.Faults.{Fault, ◌>>=◌, read_within, too_deep, Stops}
 use Rattle.c_arrow.specs.FormatsWritten.{bytes_format, checked_nul}
 use Rattle.c_arrow.specs.Read.{level}
 use Rattle.c_arrow.specs.Schema.{Schema, Schemas, count, all_nodes, all_texts, flat_nodes, flat_texts}
 use Rattle.c_arrow.specs.Temporal.{Written}
-use Rattle.c_arrow.specs.Write.{Label, called, storage_called, no_type, nullable_flag, map_flags, leaf, parent, none, before, entries, bytes_field, map_field, named, child, child_of, children_of, temporal, inner_extension, outer_extension}
+use Rattle.c_arrow.specs.Write.{Label, called, storage_called, no_type, nullable_flag, map_flags, leaf, parent, none, before, entries, bytes_field, level_if, map_field, named, child, child_of, children_of, temporal, inner_extension, outer_extension}
 use Rattle.c_arrow.specs.declared.fault.ArrowFault.{ArrowFault}
 use Rattle.c_arrow.specs.declared.fault.Problem.TheVariants as problem
 use Rattle.c_arrow.specs.declared.node.ArrowNode.{ArrowNode}
@@ -129,7 +129,7 @@ pub outer_too_deep : (levels : ℕ) (name : List ℕ) (t : Option Written) (meta
 unfolding with_field outer_extension
 outer_too_deep levels name t metadata storage o e = rw e refl
 
-pub outer_temporal : (levels : ℕ) (name : List ℕ) (t : Written) (metadata : Result (List ℕ) Fault) (storage : ℕ → Label → Result Schema Fault) → 0 < levels → outer_extension levels name (Some t) metadata storage ≡ temporal (called name) t
+pub outer_temporal : (levels : ℕ) (name : List ℕ) (t : Written) (metadata : Result (List ℕ) Fault) (storage : ℕ → Label → Result Schema Fault) → 0 < levels → outer_extension levels name (Some t) metadata storage ≡ temporal (levels - 1) (called name) t
 unfolding outer_extension
 outer_temporal levels name t metadata storage lt =
     let e : levels ≡ suc (levels - 1) = omega arith in ap (λ (n : ℕ). outer_extension n name (Some t) metadata storage) e
@@ -147,7 +147,7 @@ pub inner_refused : (levels : ℕ) (label : Label) (o : Out) → with_field (inn
 unfolding with_field inner_extension
 inner_refused levels label o = refl
 
-pub inner_temporal : (levels : ℕ) (label : Label) (t : Written) → 0 < levels → inner_extension levels label (Some t) ≡ temporal label t
+pub inner_temporal : (levels : ℕ) (label : Label) (t : Written) → 0 < levels → inner_extension levels label (Some t) ≡ temporal (levels - 1) label t
 unfolding inner_extension
 inner_temporal levels label t lt =
     let e : levels ≡ suc (levels - 1) = omega arith in ap (λ (n : ℕ). inner_extension n label (Some t)) e
@@ -158,6 +158,27 @@ inner_temporal levels label t lt =
 pub before_stops : {A : Type 0} (e : ArrowFault) (made : Result A Fault) (field : A → Result Schema Fault) (o : Out) → Stops e made → Stops e (with_field (made >>= field) o)
 unfolding with_field
 before_stops e made field o h = stops_all e made (with_field (made >>= field) o) h (λ f is. rw is refl)
+
+module _ (levels : ℕ) (label : Label) (t : Written) (o : Out) where
+  abbrev as_leaf : Result Schema Fault
+  as_leaf = leaf (t.letters ++ t.zone) label t.nullability
+
+  pub temporal_stops : (e : ArrowFault) → Stops e (checked_nul t.zone) → Stops e (with_field (temporal levels label t) o)
+  unfolding temporal
+  temporal_stops e h = before_stops e (checked_nul t.zone) (λ _. level_if t.is_list levels >>= λ _. as_leaf) o h
+
+  pub temporal_level_stops : (e : ArrowFault) (u : Unit {0}) → checked_nul t.zone ≡ Ok u → Stops e (level_if t.is_list levels) → Stops e (with_field (temporal levels label t) o)
+  unfolding temporal
+  temporal_level_stops e u checked h = rw checked (before_stops e (level_if t.is_list levels) (λ _. as_leaf) o h)
+
+  pub temporal_added : (u : Unit {0}) (l : ℕ) → checked_nul t.zone ≡ Ok u → level_if t.is_list levels ≡ Ok l → with_field (temporal levels label t) o ≡ with_field as_leaf o
+  unfolding temporal
+  temporal_added u l checked left = rw (checked, left) refl
+
+  -- the format that is made is that of the definition
+  pub temporal_written : (result : Result Unit ArrowFault) (after : Out) (u : Unit {0}) (l : ℕ) (given : List ℕ) → checked_nul t.zone ≡ Ok u → level_if t.is_list levels ≡ Ok l → given ≡ t.letters ++ t.zone → Writes result after (with_field (leaf given label t.nullability) o) → Writes result after (with_field (temporal levels label t) o)
+  temporal_written result after u l given checked left made rest =
+      subst (Writes result after) (ap (λ (g : List ℕ). with_field (leaf g label t.nullability) o) made ∙ sym (temporal_added u l checked left)) rest
 
 module _ (levels size : ℕ) (label : Label) (n : Nullability) (o : Out) where
   pub bytes_stops : (e : ArrowFault) → Stops e (bytes_format size) → Stops e (with_field (bytes_field levels label size n) o)

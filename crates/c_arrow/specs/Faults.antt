@@ -17,7 +17,7 @@ IsMemory error.OutOfMemory e = e ≡ OutOfMemory
 IsMemory v e = e ≡ Library v
 
 -- A fault. That a field is refused tells the names of the fields from this one outwards, the format of the field, and what is
--- wrong with it. For example, it tells the names `item` and `a`, and the format `tiM`, for the child of a list in the column `a`.
+-- wrong with it. For example, it tells the names `item` and `a`, and the format `tdX`, for the child of a list in the column `a`.
 pub data Fault : Type 0 where
   out_of_range : Fault
   too_deep : Fault

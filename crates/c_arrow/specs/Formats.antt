@@ -7,13 +7,14 @@ use Rattle.dtype_base.specs.declared.ptype.PType.TheVariants as p
 use Rattle.dtype_text.specs.Leaves.{text_at}
 use Rattle.dtype_text.specs.Read.{◌>>=◌, byte_at}
 use Rattle.dtype_text.specs.TypeParts.{is_text}
-use Rattle.c_arrow.specs.Numbers.{number_of, decimal_parts}
+use Rattle.c_arrow.specs.Kept.{kept_of}
+use Rattle.c_arrow.specs.Numbers.{size_of, decimal_parts}
 use Rattle.c_arrow.specs.declared.format.Format.{Format}
 use Rattle.c_arrow.specs.declared.format.Format.TheVariants as f
 use Rattle.c_arrow.specs.declared.temporal.Unit.{Unit}
 use Rattle.c_arrow.specs.declared.temporal.Unit.TheVariants as unit
 
--- the formats of dates and times
+-- the formats of dates, times, durations and intervals
 unfoldable pub time_of : List ℕ → Option Format
 time_of w =
     if is_text w (codes "tdD") then Some (f.Date unit.Days)
@@ -22,7 +23,7 @@ time_of w =
     else if is_text w (codes "ttm") then Some (f.Time unit.Milliseconds)
     else if is_text w (codes "ttu") then Some (f.Time unit.Microseconds)
     else if is_text w (codes "ttn") then Some (f.Time unit.Nanoseconds)
-    else None
+    else (kept_of w >>= λ kept. Some (f.Kept kept))
 
 -- the formats of binary strings, texts, lists, structs, maps and run-end encoded types
 unfoldable pub nested_word_of : List ℕ → Option Format
@@ -90,7 +91,7 @@ union_of (b ∷ bytes) = if b == 100 || b == 115 then (byte_at 58 bytes >>= λ i
 unfoldable pub nested_of : List ℕ → Option Format
 nested_of [] = None
 nested_of (b ∷ bytes) =
-    if b == 119 then (byte_at 58 bytes >>= λ w. number_of w >>= λ n. Some (f.FixedSizeList n))
+    if b == 119 then (byte_at 58 bytes >>= λ w. size_of w >>= λ n. Some (f.FixedSizeList n))
     else if b == 117 then union_of bytes
     else None
 
@@ -98,7 +99,7 @@ nested_of (b ∷ bytes) =
 unfoldable pub parametric_of : List ℕ → Option Format
 parametric_of [] = None
 parametric_of (b ∷ bytes) =
-    if b == 119 then (byte_at 58 bytes >>= λ w. number_of w >>= λ n. Some (f.FixedSizeBinary n))
+    if b == 119 then (byte_at 58 bytes >>= λ w. size_of w >>= λ n. Some (f.FixedSizeBinary n))
     else if b == 100 then (byte_at 58 bytes >>= λ w. decimal_parts w >>= λ d. Some (f.Decimal d.0 d.1))
     else if b == 43 then nested_of bytes
     else if b == 116 then (byte_at 115 bytes >>= timestamp_of)
@@ -108,6 +109,6 @@ abbrev pub or_else : {A : Type 0} → Option A → Option A → Option A
 or_else (Some x) y = Some x
 or_else None y = y
 
--- What a format says. For example, `+w:3` is `FixedSizeList` with the size 3, and `tiM` has no type here.
+-- What a format says. For example, `+w:3` is `FixedSizeList` with the size 3, and `tDX` has no type here.
 unfoldable pub format_of : List ℕ → Option Format
 format_of bytes = or_else (word_in bytes) (parametric_of bytes)

@@ -11,7 +11,7 @@ use Rattle.c_arrow.specs.Faults.{Fault, ◌>>=◌, read_within}
 use Rattle.c_arrow.specs.Flags.{is_nullable, has_sorted_keys}
 use Rattle.c_arrow.specs.Formats.{format_of}
 use Rattle.c_arrow.specs.Ids.{ids_of}
-use Rattle.c_arrow.specs.Read.{Field, bytes_of, date_of, decimal_of, is_index, is_entries, keys_of, level, map_of, name_of, or_refuse, refuse, time_of, timestamp_of, union_of}
+use Rattle.c_arrow.specs.Read.{Field, bytes_of, date_of, decimal_of, is_index, is_entries, kept_type, keys_of, level, map_of, name_of, or_refuse, refuse, time_of, timestamp_of, union_of}
 use Rattle.c_arrow.specs.Schema.{Schema, schema, Schemas, no_schema, more, Values, no_values, values, node}
 use Rattle.c_arrow.specs.Temporal.{or_empty}
 use Rattle.c_arrow.specs.declared.fault.Problem.TheVariants as problem
@@ -105,6 +105,7 @@ format_from w field (f.Decimal precision scale) nullable levels cs = with_none f
 format_from w field (f.FixedSizeBinary size) nullable levels cs = with_none field cs (bytes_of size nullable levels)
 format_from w field (f.Date unit) nullable levels cs = with_none field cs (date_of unit nullable levels)
 format_from w field (f.Time unit) nullable levels cs = with_none field cs (time_of unit nullable levels)
+format_from w field (f.Kept it) nullable levels cs = with_none field cs (kept_type field it nullable levels)
 format_from w field (f.Timestamp unit) nullable levels cs = with_none field cs (timestamp_of field unit nullable levels)
 format_from w field f.List nullable levels cs = list_from w field nullable levels cs
 format_from w field (f.FixedSizeList size) nullable levels cs = fixed_from w field size nullable levels cs

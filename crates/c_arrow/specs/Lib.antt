@@ -9,6 +9,7 @@ pub mod Formats
 pub mod FormatsWritten
 pub mod FromArrow
 pub mod Ids
+pub mod Kept
 pub mod Keys
 pub mod Messages
 pub mod Numbers

@@ -88,7 +88,7 @@ behind false [] = []
 behind false (b ∷ format) = codes ", at the Arrow format \"" ++ (shown_text (b ∷ format) ++ codes "\"")
 
 -- The message about the field with these names, which are those of the fields from this one outwards, and this format. For
--- example, it is `column "a.item": the Arrow format "tiM" has no type here` of the names `item` and `a`, the format `tiM` and the
+-- example, it is `column "a.item": the Arrow format "tdX" has no type here` of the names `item` and `a`, the format `tdX` and the
 -- problem `Format`.
 unfoldable pub message_from : List (List ℕ) → List ℕ → Problem → List ℕ
 message_from names format problem =

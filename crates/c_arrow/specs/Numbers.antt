@@ -24,6 +24,10 @@ number_of (c ∷ cs) = number_after 0 (c ∷ cs)
 abbrev pub at_most : ℕ → ℕ → Option ℕ
 at_most most n = if nat_le n most then Some n else None
 
+-- a size, which is a signed number of 32 bits in Arrow: a number from 0 to 2^31 - 1
+unfoldable pub size_of : List ℕ → Option ℕ
+size_of w = number_of w >>= at_most 2147483647
+
 -- a number from 0 to 255
 unfoldable pub small_of : List ℕ → Option ℕ
 small_of w = number_of w >>= at_most 255

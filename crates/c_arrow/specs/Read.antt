@@ -20,6 +20,7 @@ use Rattle.c_arrow.specs.Faults.{Fault, out_of_range, too_deep, library, refused
 use Rattle.c_arrow.specs.Flags.{is_nullable, has_sorted_keys}
 use Rattle.c_arrow.specs.Formats.{format_of}
 use Rattle.c_arrow.specs.Ids.{ids_of}
+use Rattle.c_arrow.specs.Kept.{id_of}
 use Rattle.c_arrow.specs.Keys.{Said, said_in}
 use Rattle.c_arrow.specs.Temporal.{date_tree, time_tree, timestamp_tree, or_empty}
 use Rattle.c_arrow.specs.declared.fault.ArrowFault.{ArrowFault}
@@ -27,6 +28,8 @@ use Rattle.c_arrow.specs.declared.fault.Problem.{Problem}
 use Rattle.c_arrow.specs.declared.fault.Problem.TheVariants as problem
 use Rattle.c_arrow.specs.declared.format.Format.{Format}
 use Rattle.c_arrow.specs.declared.format.Format.TheVariants as f
+use Rattle.c_arrow.specs.declared.kept.Kept.{Kept}
+use Rattle.c_arrow.specs.declared.kept.Kept.TheVariants as kept
 use Rattle.c_arrow.specs.declared.node.ArrowNode.{ArrowNode}
 use Rattle.c_arrow.specs.declared.temporal.Unit.{Unit as TimeUnit}
 
@@ -239,6 +242,17 @@ time_of unit nullable levels = level levels >>= λ l. Ok (time_tree unit (nullab
 unfoldable pub timestamp_of : Field → TimeUnit → Bool → ℕ → Result Tree Fault
 timestamp_of field unit nullable levels = level levels >>= λ l. or_refuse field problem.Zone (timestamp_tree unit (drop 4 field.format) (nullability_of nullable))
 
+-- the storage type of what is kept: as many bytes as a value of Arrow has
+unfoldable pub kept_storage : Kept → Bool → ℕ → Result Tree Fault
+kept_storage kept.Duration nullable levels = Ok (of.primitive p.I64 (nullability_of nullable))
+kept_storage kept.Months nullable levels = Ok (of.primitive p.I32 (nullability_of nullable))
+kept_storage kept.Days nullable levels = bytes_of 8 nullable levels
+kept_storage kept.Nanoseconds nullable levels = bytes_of 16 nullable levels
+
+-- The extension that keeps the format of a field. For example, it is `arrow.duration` over `i64` with the metadata `tDs` for `tDs`.
+unfoldable pub kept_type : Field → Kept → Bool → ℕ → Result Tree Fault
+kept_type field it nullable levels = level levels >>= λ l. kept_storage it nullable l >>= λ t. Ok (of.extension (id_of it) field.format t)
+
 unfoldable pub list_by : Inside → Field → Bool → ℕ → Reader Tree
 list_by within field nullable levels left = do
   c ← part_by within field levels left
@@ -300,6 +314,7 @@ after_format within field (f.FixedSizeBinary size) nullable levels left = with_l
 after_format within field (f.Date unit) nullable levels left = with_left left (date_of unit nullable levels)
 after_format within field (f.Time unit) nullable levels left = with_left left (time_of unit nullable levels)
 after_format within field (f.Timestamp unit) nullable levels left = with_left left (timestamp_of field unit nullable levels)
+after_format within field (f.Kept it) nullable levels left = with_left left (kept_type field it nullable levels)
 after_format within field f.List nullable levels left = list_by within field nullable levels left
 after_format within field (f.FixedSizeList size) nullable levels left = fixed_by within field size nullable levels left
 after_format within field f.Struct nullable levels left = struct_by within field nullable levels left

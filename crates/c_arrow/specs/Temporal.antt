@@ -1,8 +1,8 @@
 -- SPDX-License-Identifier: Apache-2.0
 -- SPDX-FileCopyrightText: Copyright the Vortex contributors
 
--- The extensions of dates, times and timestamps.
-use Rattle.std.specs.Prelude.{ℕ, ◌^◌, List, [], ◌∷◌, ◌++◌, ◌==◌, nat_lt, Bool, not, ◌&&◌, Option, Some, None, if◌then◌else◌, is_some, length, codes}
+-- The extensions of dates, times and timestamps, and how Arrow writes these and what is kept.
+use Rattle.std.specs.Prelude.{ℕ, ◌^◌, List, [], ◌∷◌, ◌++◌, ◌==◌, nat_lt, Bool, false, not, ◌&&◌, Option, Some, None, if◌then◌else◌, is_some, length, codes}
 use Rattle.std.specs.Int.{from_le_bytes, to_le_bytes, w16}
 use Rattle.std.specs.Str.{is_utf8}
 use Rattle.dtype_base.specs.declared.nullability.Nullability.{Nullability}
@@ -11,6 +11,8 @@ use Rattle.dtype_base.specs.declared.ptype.PType.TheVariants as p
 use Rattle.dtype_types.specs.tree.Tree.{Tree, primitive, extension}
 use Rattle.dtype_text.specs.Read.{◌>>=◌}
 use Rattle.dtype_text.specs.TypeParts.{is_text}
+use Rattle.c_arrow.specs.Kept.{id_of, is_list, kept_in, nullability_in}
+use Rattle.c_arrow.specs.declared.kept.Kept.{Kept}
 use Rattle.c_arrow.specs.declared.temporal.Unit.{Unit}
 use Rattle.c_arrow.specs.declared.temporal.Unit.TheVariants as unit
 
@@ -112,11 +114,13 @@ letters_of id u ptype has_zone =
     else if is_text id (codes "vortex.timestamp") && has_zone then timestamp_letters u ptype
     else None
 
--- how Arrow writes a temporal extension: the format without the time zone, the time zone, and whether it is nullable
+-- How Arrow writes a temporal extension: the format without the time zone, the time zone, whether it is nullable, and whether
+-- its storage type is a list, which takes a level.
 pub record Written : Type 0 where
   pub letters : List ℕ
   pub zone : List ℕ
   pub nullability : Nullability
+  pub is_list : Bool
 
 -- the time zone, which is no bytes if there is none
 abbrev pub or_empty : Option (List ℕ) → List ℕ
@@ -129,10 +133,29 @@ unfoldable pub temporal_of : List ℕ → List ℕ → Tree → Option Written
 temporal_of id metadata (primitive ptype n) = do
   u ← unit_and_zone metadata
   letters ← letters_of id u.0 ptype (is_some u.1)
-  Some (record { letters = letters; zone = or_empty u.1; nullability = n })
+  Some (record { letters = letters; zone = or_empty u.1; nullability = n; is_list = false })
 temporal_of id metadata _ = None
+
+-- the same of an extension with this id, if it keeps a format and has its storage type
+unfoldable pub kept_with : Kept → List ℕ → List ℕ → Tree → Option Written
+kept_with it id metadata storage = do
+  n ← nullability_in it storage
+  if is_text id (id_of it) then Some (record { letters = metadata; zone = []; nullability = n; is_list = is_list it }) else None
+
+-- How Arrow writes the extension with this id, metadata and storage type, if it keeps a format, which is the metadata. For example,
+-- it is `tDs` of `arrow.duration` over i64 with the metadata `tDs`.
+unfoldable pub kept_written : List ℕ → List ℕ → Tree → Option Written
+kept_written id metadata storage = kept_in metadata >>= λ it. kept_with it id metadata storage
+
+abbrev pub first_of : {A : Type 0} → Option A → Option A → Option A
+first_of (Some x) y = Some x
+first_of None y = y
+
+-- how Arrow writes a date, a time, a timestamp, a duration or an interval
+unfoldable pub written_of : List ℕ → List ℕ → Tree → Option Written
+written_of id metadata storage = first_of (temporal_of id metadata storage) (kept_written id metadata storage)
 
 -- the same of a type
 unfoldable pub temporal_in : Tree → Option Written
-temporal_in (extension id metadata storage) = temporal_of id metadata storage
+temporal_in (extension id metadata storage) = written_of id metadata storage
 temporal_in _ = None

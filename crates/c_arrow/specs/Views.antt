@@ -21,12 +21,12 @@ abbrev pub said : Keys → Said
 said k = record { name = shown (λ t. t.now) k.name; metadata = shown (λ t. t.now) k.metadata }
 
 abbrev pub written : Temporal → Written
-written t = record { letters = t.letters.now; zone = t.zone.now; nullability = t.nullability }
+written t = record { letters = t.letters.now; zone = t.zone.now; nullability = t.nullability; is_list = t.is_list }
 
 -- the type of a map with its nullability
 abbrev pub map_tree : MapDType → Nullability → Tree
 map_tree m n = map_of (map_shown m).0 (map_shown m).1 (map_shown m).2 n
 
--- an extension that is no other's storage type; it is a date, a time or a timestamp if t is there
+-- an extension that is no other's storage type; Arrow has a format for it, such as one of dates, if t is there
 abbrev pub outer_of : ℕ → List ℕ → Option Written → ExtDTypeRef → Result Schema Fault
 outer_of levels name t e = write.outer_extension levels name t (write.metadata_for (extension_id e) (extension_metadata e)) (λ below l. write.field_of below l (storage_tree e))

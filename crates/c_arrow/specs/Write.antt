@@ -6,13 +6,12 @@
 use Rattle.std.specs.Prelude.{ℕ, zero, suc, List, [], ◌++◌, codes, Bool, true, false, not, ◌&&◌, Option, Some, None, Result, Ok, Err, if◌then◌else◌}
 use Rattle.dtype_base.specs.declared.nullability.Nullability.{Nullability}
 use Rattle.dtype_base.specs.declared.nullability.Nullability.TheVariants.{NonNullable, Nullable}
-use Rattle.dtype_base.specs.declared.ptype.PType.{PType}
-use Rattle.dtype_base.specs.declared.ptype.PType.TheVariants as p
 use Rattle.dtype_types.specs.parts.Lookups.{variant_tags}
 use Rattle.dtype_types.specs.tree.Tree.{Tree, Holder, Items, no_items, item, triples, null, bool, primitive, decimal, utf8, binary, list, fixed_size_list, map_of, struct, union, variant, extension}
 use Rattle.c_arrow.specs.Faults.{Fault, ◌>>=◌, or_fault, read_within, refused, too_deep}
 use Rattle.c_arrow.specs.Flags.{flags_of}
 use Rattle.c_arrow.specs.FormatsWritten.{bytes_format, checked_nul, decimal_format, fixed_size_format, letter_of, union_format}
+use Rattle.c_arrow.specs.Kept.{is_byte}
 use Rattle.c_arrow.specs.Keys.{extension_metadata, is_tensor}
 use Rattle.c_arrow.specs.Read.{level}
 use Rattle.c_arrow.specs.Schema.{Schema, Schemas, schema, no_schema, more, no_values, flat}
@@ -69,15 +68,6 @@ before first rest = do
   cs ← rest
   Ok (more c cs)
 
--- bytes that can't be null
-unfoldable pub byte_is : PType → Nullability → Bool
-byte_is p.U8 NonNullable = true
-byte_is _ _ = false
-
-unfoldable pub is_byte : Tree → Bool
-is_byte (primitive ptype n) = byte_is ptype n
-is_byte _ = false
-
 -- Whether a fixed-size list of these elements is written as byte strings of one length: if its elements are bytes that can't be
 -- null, and it isn't the storage type of a tensor. For example, so is `fixed_size_list(u8)[16]`, which a column of UUIDs has.
 unfoldable pub are_bytes : Label → Tree → Bool
@@ -113,27 +103,36 @@ unfoldable pub child : ℕ → List ℕ → (ℕ → Label → Result Schema Fau
 child zero name field = Err too_deep
 child (suc levels) name field = read_within name (named name (field levels (called name)))
 
--- a date, a time or a timestamp
-unfoldable pub temporal : Label → Written → Result Schema Fault
-temporal label t = checked_nul t.zone >>= λ _. leaf (t.letters ++ t.zone) label t.nullability
+-- a level less, if it is taken
+unfoldable pub level_if : Bool → ℕ → Result ℕ Fault
+level_if true levels = level levels
+level_if false levels = Ok levels
 
--- An extension within an extension. It has an Arrow type only if it is a date, a time or a timestamp.
+-- a date, a time, a timestamp, a duration or an interval, whose storage type may have so many levels
+unfoldable pub temporal : ℕ → Label → Written → Result Schema Fault
+temporal levels label t = do
+  u ← checked_nul t.zone
+  below ← level_if t.is_list levels
+  leaf (t.letters ++ t.zone) label t.nullability
+
+-- An extension within an extension. It has an Arrow type only if it is a date, a time, a timestamp, a duration or an interval.
 unfoldable pub inner_extension : ℕ → Label → Option Written → Result Schema Fault
 inner_extension levels label None = Err (no_type problem.Extension)
 inner_extension zero label (Some t) = Err too_deep
-inner_extension (suc levels) label (Some t) = temporal label t
+inner_extension (suc levels) label (Some t) = temporal levels label t
 
 -- the metadata that says which extension a field is
 unfoldable pub metadata_for : List ℕ → List ℕ → Result (List ℕ) Fault
 metadata_for id bytes = checked_nul id >>= λ _. or_fault (no_type problem.Length) (extension_metadata id bytes)
 
--- An extension that is no other's storage type: a date, a time or a timestamp, or else its storage type with metadata.
+-- An extension that is no other's storage type: a date, a time, a timestamp, a duration or an interval, or else its storage type
+-- with metadata.
 unfoldable pub outer_extension : ℕ → List ℕ → Option Written → Result (List ℕ) Fault → (ℕ → Label → Result Schema Fault) → Result Schema Fault
 outer_extension zero name t metadata storage = Err too_deep
-outer_extension (suc levels) name (Some t) metadata storage = temporal (called name) t
+outer_extension (suc levels) name (Some t) metadata storage = temporal levels (called name) t
 outer_extension (suc levels) name None metadata storage = metadata >>= λ bytes. storage levels (storage_called name bytes)
 
--- an extension with this id and these bytes of metadata, which is a date, a time or a timestamp if `t` is there
+-- an extension with this id and these bytes of metadata, which has a format of its own if `t` is there
 unfoldable pub extension_at : ℕ → Label → List ℕ → List ℕ → Option Written → (ℕ → Label → Result Schema Fault) → Result Schema Fault
 extension_at levels label id bytes t storage = if label.is_storage then inner_extension levels label t else outer_extension levels label.name t (metadata_for id bytes) storage
 

@@ -189,7 +189,7 @@ impl Refusal {
     }
 
     /// Returns the message, which names the path of the field and its format. For example, it is
-    /// `column "a.item": the Arrow format "tiM" has no type here`.
+    /// `column "a.item": the Arrow format "tdX" has no type here`.
     ///
     /// # Errors
     ///

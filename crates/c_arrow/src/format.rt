@@ -7,7 +7,8 @@ ghost use Rattle.dtype_text.specs.Leaves.{text_at};
 ghost use Rattle.dtype_text.specs.Read.{shown};
 ghost use Rattle.c_arrow.specs.Formats.{format_of, nested_of as nested_spec, nested_word_of as nested_word_spec, parametric_of as parametric_spec, time_of as time_spec, timestamp_of as timestamp_spec, union_of as union_spec, word_in, word_of as word_spec};
 
-use crate::numbers::{after, decimal_parts, number_of};
+use crate::kept::Kept;
+use crate::numbers::{after, decimal_parts, size_in};
 use crate::temporal::Unit;
 use dtype_base::PType;
 use std::str;
@@ -47,6 +48,8 @@ pub enum Format {
     Time(Unit),
     /// `tss:..`, `tsm:..`, `tsu:..` or `tsn:..`
     Timestamp(Unit),
+    /// `tDs`, `tDm`, `tDu`, `tDn`, `tiM`, `tiD` or `tin`
+    Kept(Kept),
 }
 
 impl Format {
@@ -69,9 +72,9 @@ fn word_of_bytes(bytes: &[u8]) -> Option<Format>
     word_of(text_of(bytes)?)
 }
 
-// Returns the text of bytes, if they are UTF-8.
+/// Returns the text of bytes, if they are UTF-8.
 #[tactic(auto, using(crate::proofs::Leaves::utf8))]
-fn text_of(bytes: &[u8]) -> Option<&str>
+pub(crate) fn text_of(bytes: &[u8]) -> Option<&str>
     ensures { shown (λ t. t.now) result ≡ text_at bytes.now }
 {
     match str::from_utf8(bytes) {
@@ -126,7 +129,7 @@ fn nested_word_of(text: &str) -> Option<Format>
     }
 }
 
-// Returns what the format of a date or a time says.
+// Returns what the format of a date, a time, a duration or an interval says.
 #[tactic(auto, unfolding(crate::specs::Formats::time_of))]
 fn time_of(text: &str) -> Option<Format>
     ensures { result ≡ time_spec text.now }
@@ -138,7 +141,7 @@ fn time_of(text: &str) -> Option<Format>
         "ttm" => Some(Format::Time(Unit::Milliseconds)),
         "ttu" => Some(Format::Time(Unit::Microseconds)),
         "ttn" => Some(Format::Time(Unit::Nanoseconds)),
-        _ => None,
+        _ => Some(Format::Kept(Kept::of(text)?)),
     }
 }
 
@@ -148,7 +151,7 @@ fn parametric_of(bytes: &[u8]) -> Option<Format>
     ensures { result ≡ parametric_spec bytes.now }
 {
     match bytes {
-        [b'w', rest @ ..] => Some(Format::FixedSizeBinary(number_of(after(rest, b':')?)?)),
+        [b'w', rest @ ..] => Some(Format::FixedSizeBinary(size_in(after(rest, b':')?)?)),
         [b'd', rest @ ..] => {
             let (precision, scale) = decimal_parts(after(rest, b':')?)?;
             Some(Format::Decimal(precision, scale))
@@ -165,7 +168,7 @@ fn nested_of(bytes: &[u8]) -> Option<Format>
     ensures { result ≡ nested_spec bytes.now }
 {
     match bytes {
-        [b'w', rest @ ..] => Some(Format::FixedSizeList(number_of(after(rest, b':')?)?)),
+        [b'w', rest @ ..] => Some(Format::FixedSizeList(size_in(after(rest, b':')?)?)),
         [b'u', rest @ ..] => union_of(rest),
         _ => None,
     }

@@ -11,7 +11,7 @@ ghost use Rattle.c_arrow.specs.Ids.{ids_of};
 ghost use Rattle.c_arrow.specs.Keys.{extension_metadata, said_in};
 ghost use Rattle.c_arrow.specs.Read.{read_flat};
 ghost use Rattle.c_arrow.specs.Schema.{Schema, flat_nodes, flat_texts};
-ghost use Rattle.c_arrow.specs.Temporal.{temporal_of};
+ghost use Rattle.c_arrow.specs.Temporal.{written_of};
 ghost use Rattle.c_arrow.specs.Write.{nodes_and_texts, to_arrow};
 ghost use Rattle.c_arrow.specs.declared.format.Format.TheVariants as format;
 ghost use Rattle.dtype_base.specs.Bytes.{Bytes};
@@ -62,10 +62,10 @@ pub fn metadata_that_is_written_is_read()
     ensures { (id bytes metadata : List ℕ) → extension_metadata id bytes ≡ Some metadata → said_in metadata ≡ Some (both_said id bytes) }
 {}
 
-/// The format that is written of a date, a time or a timestamp stands for this extension.
+/// The format that is written of a date, a time, a timestamp, a duration or an interval stands for this extension.
 ///
 /// For example, `tss:UTC` is written of the extension `vortex.timestamp` over `i64` whose metadata has the unit of seconds and
 /// the time zone `UTC`, and it stands for this extension.
 pub fn dates_and_times_that_are_written_are_read()
-    ensures { (id m : List ℕ) (s : Tree) → Bytes m → IfSome (temporal_of id m s) (λ w. StandsFor w (extension id m s)) }
+    ensures { (id m : List ℕ) (s : Tree) → Bytes m → IfSome (written_of id m s) (λ w. StandsFor w (extension id m s)) }
 {}

@@ -38,6 +38,7 @@ mod fault;
 mod format;
 mod formats_written;
 mod ids;
+mod kept;
 mod keys;
 pub mod laws;
 mod node;

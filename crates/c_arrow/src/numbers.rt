@@ -6,7 +6,10 @@ ghost use Rattle.std.specs.Prelude.{◌≡◌, ◌≤◌, length, neg_ℤ, pos};
 ghost use Rattle.std.specs.List.{prefix_len};
 ghost use Rattle.dtype_text.specs.Leaves.{front, past};
 ghost use Rattle.dtype_text.specs.Read.{byte_at, shown};
-ghost use Rattle.c_arrow.specs.Numbers.{decimal_parts as decimal_parts_spec, digit_after, is_width as is_width_spec, is_width_number as is_width_number_spec, not_comma, number_of as number_spec, signed_of as signed_spec, small_of as small_spec};
+ghost use Rattle.c_arrow.specs.Numbers.{decimal_parts as decimal_parts_spec, digit_after, is_width as is_width_spec, is_width_number as is_width_number_spec, not_comma, number_of as number_spec, signed_of as signed_spec, size_of as size_spec, small_of as small_spec};
+
+// The greatest size that Arrow's signed numbers of 32 bits have.
+const MAX_SIZE: u32 = 2147483647;
 
 // Returns the number with one more digit, if it is below 2^32.
 #[tactic(auto, using(std::proofs::lemmas::Bool::Decides::nat_tests))]
@@ -19,9 +22,9 @@ fn with_digit(value: u32, digit: u8) -> Option<u32>
     value.checked_mul(10)?.checked_add(u32::from(digit - b'0'))
 }
 
-/// Returns the number of these digits, if it is below 2^32 and there is a digit.
+// Returns the number of these digits, if it is below 2^32 and there is a digit.
 #[tactic(auto, using(crate::proofs::Leaves::numbers), unfolding(crate::specs::Numbers::number_of))]
-pub(crate) fn number_of(word: &[u8]) -> Option<u32>
+fn number_of(word: &[u8]) -> Option<u32>
     ensures { result ≡ number_spec word.now }
 {
     if word.is_empty() {
@@ -32,6 +35,15 @@ pub(crate) fn number_of(word: &[u8]) -> Option<u32>
         value = with_digit(value, *digit)?;
     }
     Some(value)
+}
+
+/// Returns the number of these digits, if it is at most 2^31 - 1.
+#[tactic(auto, unfolding(crate::specs::Numbers::size_of), using(std::proofs::lemmas::Bool::Decides::nat_tests))]
+pub(crate) fn size_in(word: &[u8]) -> Option<u32>
+    ensures { result ≡ size_spec word.now }
+{
+    let size = number_of(word)?;
+    if size <= MAX_SIZE { Some(size) } else { None }
 }
 
 /// Returns what is behind this byte, if the bytes begin with it.

@@ -9,12 +9,13 @@ ghost use Rattle.dtype_text.specs.Read.{shown};
 ghost use Rattle.dtype_types.specs.tree.TreeOf.{tree};
 ghost use Rattle.dtype_types.specs.tree.Valid.{Valid};
 ghost use Rattle.c_arrow.specs.Faults.{Gives};
-ghost use Rattle.c_arrow.specs.Read.{Reads, bytes_of, child_by, date_of, dictionary_by, entries_by, extension_by, fixed_by, format_by, inner_by, inside_at, is_entries as is_entries_spec, is_index as is_index_spec, list_by, map_by, map_with, named_by, part_by, read_flat, run_ends_by, storage_by, struct_by, time_of as time_spec, timestamp_of, type_by, union_by, value_by, values_by};
+ghost use Rattle.c_arrow.specs.Read.{Reads, bytes_of, child_by, date_of, dictionary_by, entries_by, extension_by, kept_storage as kept_storage_spec, kept_type as kept_type_spec, fixed_by, format_by, inner_by, inside_at, is_entries as is_entries_spec, is_index as is_index_spec, list_by, map_by, map_with, named_by, part_by, read_flat, run_ends_by, storage_by, struct_by, time_of as time_spec, timestamp_of, type_by, union_by, value_by, values_by};
 ghost use Rattle.c_arrow.specs.Rests.{ReadsPart, ReadsType, child, children_by, left, seen, seen_by, seen_entries_by};
 
 use crate::fault::{ArrowFault, Problem};
 use crate::format::{Format, parameter};
 use crate::ids::ids_of;
+use crate::kept::Kept;
 use crate::node::ArrowNode;
 use crate::place::Place;
 use crate::rest::{Field, Rest};
@@ -221,6 +222,7 @@ fn read_format(
         Format::Date(unit) => Ok(date_type(alloc, unit, place)?),
         Format::Time(unit) => Ok(time_type(alloc, unit, place)?),
         Format::Timestamp(unit) => Ok(timestamp_type(alloc, field, unit, place)?),
+        Format::Kept(kept) => Ok(kept_type(alloc, field, kept, place)?),
         Format::List => read_list(alloc, rest, field, place),
         Format::FixedSizeList(size) => read_fixed(alloc, rest, field, size, place),
         Format::Struct => read_struct(alloc, rest, field, place),
@@ -280,6 +282,38 @@ fn timestamp_type(
     match timestamp(alloc, unit, parameter(field.format), n)? {
         Some(dtype) => Ok(dtype),
         None => Err(field.refused(alloc, Problem::Zone)),
+    }
+}
+
+// Returns the extension that keeps the format of a field.
+#[tactic(auto, unfolding(crate::specs::Read::kept_type))]
+fn kept_type(
+    alloc: Global,
+    field: &Field<'_>,
+    kept: Kept,
+    place: Place,
+) -> Result<DType, ArrowFault>
+    ensures read { Gives tree result (kept_type_spec (seen field.now) kept place.nullable place.levels) }
+    ensures valid { IfOk result (λ d. Valid (tree d)) }
+    ensures levels { IfOk result (λ d. levels_of (tree d) ≤ place.levels) }
+{
+    let storage = kept_storage(alloc, kept, place.storage()?)?;
+    let format = Vec::from_slice(alloc, field.format)?;
+    Ok(extension(alloc, kept.id(), format, storage)?)
+}
+
+// Returns the storage type of what is kept.
+#[tactic(auto, unfolding(crate::specs::Read::kept_storage))]
+fn kept_storage(alloc: Global, kept: Kept, place: Place) -> Result<DType, ArrowFault>
+    ensures read { Gives tree result (kept_storage_spec kept place.nullable place.levels) }
+    ensures valid { IfOk result (λ d. Valid (tree d)) }
+    ensures levels { IfOk result (λ d. levels_of (tree d) ≤ place.levels) }
+{
+    match kept {
+        Kept::Duration => Ok(DType::Primitive(PType::I64, place.nullability())),
+        Kept::Months => Ok(DType::Primitive(PType::I32, place.nullability())),
+        Kept::Days => Ok(fixed_size_binary(alloc, 8, place)?),
+        Kept::Nanoseconds => Ok(fixed_size_binary(alloc, 16, place)?),
     }
 }
 

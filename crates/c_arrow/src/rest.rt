@@ -169,6 +169,7 @@ fn wrong_count(format: Format, children: usize) -> Option<Problem>
         | Format::Decimal(_, _)
         | Format::Date(_)
         | Format::Time(_)
-        | Format::Timestamp(_) => unless_so(children == 0, Problem::NoChildren),
+        | Format::Timestamp(_)
+        | Format::Kept(_) => unless_so(children == 0, Problem::NoChildren),
     }
 }

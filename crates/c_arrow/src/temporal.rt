@@ -9,12 +9,14 @@ ghost use Rattle.dtype_base.specs.Errors.{Makes};
 ghost use Rattle.dtype_text.specs.Grammar.{levels};
 ghost use Rattle.dtype_text.specs.Read.{shown};
 ghost use Rattle.dtype_types.specs.tree.Tree as of;
-ghost use Rattle.dtype_types.specs.tree.TreeOf.{extension_tree, tree};
+ghost use Rattle.dtype_types.specs.tree.TreeOf.{extension_id, extension_metadata, extension_tree, storage_tree, tree};
 ghost use Rattle.dtype_types.specs.tree.Valid.{Valid};
 ghost use Rattle.c_arrow.specs.Formats.{unit_of_letter};
-ghost use Rattle.c_arrow.specs.Temporal.{byte_of, date_letters as date_letters_spec, date_ptype as date_ptype_spec, date_tree, is_zone as is_zone_spec, letters_of as letters_spec, temporal_in, time_letters as time_letters_spec, time_ptype as time_ptype_spec, time_tree, timestamp_letters as timestamp_letters_spec, timestamp_tree, unit_and_zone as unit_and_zone_spec, unit_of_byte};
+ghost use Rattle.c_arrow.specs.Temporal.{byte_of, date_letters as date_letters_spec, date_ptype as date_ptype_spec, date_tree, is_zone as is_zone_spec, kept_written, letters_of as letters_spec, temporal_in, temporal_of, time_letters as time_letters_spec, time_ptype as time_ptype_spec, time_tree, timestamp_letters as timestamp_letters_spec, timestamp_tree, unit_and_zone as unit_and_zone_spec, unit_of_byte};
 ghost use Rattle.c_arrow.specs.Views.{written};
 
+use crate::format::text_of;
+use crate::kept::Kept;
 use dtype_base::{Nullability, PType, VortexResult};
 use dtype_types::{DType, ExtDTypeRef, ExtId};
 use std::alloc::Global;
@@ -173,18 +175,31 @@ fn time_ptype(unit: Unit) -> PType
 #[derive(Clone, Copy)]
 pub(crate) struct Temporal<'a> {
     /// The format, without the time zone.
-    pub(crate) letters: &'static str,
+    pub(crate) letters: &'a [u8],
     /// The time zone of a timestamp, and otherwise no bytes.
     pub(crate) zone: &'a [u8],
     pub(crate) nullability: Nullability,
+    /// Whether the storage type is a list, which takes a level.
+    pub(crate) is_list: bool,
 }
 
 impl<'a> Temporal<'a> {
-    /// Returns how Arrow writes an extension, or `None` if it is none of the three temporal extensions, or if its metadata
-    /// or its storage type is another than that of Arrow's types.
-    #[tactic(auto, unfolding(crate::specs::Temporal::temporal_in, crate::specs::Temporal::temporal_of))]
+    /// Returns how Arrow writes an extension, or `None` if it is no date, time, timestamp, duration or interval, or if its
+    /// metadata or its storage type is another than that of Arrow's types.
+    #[tactic(auto, unfolding(crate::specs::Temporal::temporal_in, crate::specs::Temporal::written_of))]
     pub(crate) fn of(extension: &'a ExtDTypeRef) -> Option<Temporal<'a>>
         ensures { shown written result ≡ temporal_in (extension_tree extension.now) }
+    {
+        match Temporal::of_unit(extension) {
+            Some(temporal) => Some(temporal),
+            None => Temporal::of_kept(extension),
+        }
+    }
+
+    // Returns how Arrow writes a date, a time or a timestamp.
+    #[tactic(auto, unfolding(crate::specs::Temporal::temporal_of))]
+    fn of_unit(extension: &'a ExtDTypeRef) -> Option<Temporal<'a>>
+        ensures { shown written result ≡ temporal_of (extension_id extension.now) (extension_metadata extension.now) (storage_tree extension.now) }
     {
         let DType::Primitive(ptype, nullability) = extension.storage_dtype() else {
             return None;
@@ -192,9 +207,28 @@ impl<'a> Temporal<'a> {
         let (unit, zone) = unit_and_zone(extension.metadata_bytes())?;
         let letters = letters_of(extension.id().as_str(), unit, *ptype, zone.is_some())?;
         Some(Temporal {
-            letters,
+            letters: letters.as_bytes(),
             zone: zone.unwrap_or(&[]),
             nullability: *nullability,
+            is_list: false,
+        })
+    }
+
+    // Returns how Arrow writes an extension that keeps a format, which is its metadata.
+    #[tactic(auto, unfolding(crate::specs::Temporal::kept_written, crate::specs::Temporal::kept_with))]
+    fn of_kept(extension: &'a ExtDTypeRef) -> Option<Temporal<'a>>
+        ensures { shown written result ≡ kept_written (extension_id extension.now) (extension_metadata extension.now) (storage_tree extension.now) }
+    {
+        let kept = Kept::of(text_of(extension.metadata_bytes())?)?;
+        let nullability = kept.nullability_in(extension.storage_dtype())?;
+        if extension.id().as_str() != kept.id() {
+            return None;
+        }
+        Some(Temporal {
+            letters: extension.metadata_bytes(),
+            zone: &[],
+            nullability,
+            is_list: kept.is_list(),
         })
     }
 }

@@ -16,11 +16,12 @@ use crate::fault::{ArrowFault, Problem};
 use crate::formats_written::{
     bytes_format, check_nul, decimal_format, fixed_size_format, letter_of, union_format,
 };
+use crate::kept::is_byte;
 use crate::keys::{extension_metadata, is_tensor};
 use crate::node::{ArrowNode, flags_of};
 use crate::reader::MAX_LEVELS;
 use crate::temporal::Temporal;
-use dtype_base::{Nullability, PType};
+use dtype_base::Nullability;
 use dtype_types::{DType, ExtDTypeRef, MapDType, StructFields, UnionVariants};
 use std::alloc::Global;
 
@@ -80,20 +81,6 @@ impl<'a> Label<'a> {
         ensures { result ≡ write.are_bytes (label_of self.entry) (tree element.now) }
     {
         is_byte(element) && !is_tensor(self.metadata)
-    }
-}
-
-// Returns whether values of this type are bytes that can't be null.
-#[tactic(auto, unfolding(crate::specs::Write::is_byte, crate::specs::Write::byte_is))]
-fn is_byte(dtype: &DType) -> bool
-    ensures { result ≡ write.is_byte (tree dtype.now) }
-{
-    let DType::Primitive(ptype, n) = dtype else {
-        return false;
-    };
-    match (*ptype, *n) {
-        (PType::U8, Nullability::NonNullable) => true,
-        _ => false,
     }
 }
 
@@ -285,7 +272,7 @@ impl Flat {
     {
         match temporal {
             Some(_) if levels == 0 => Err(ArrowFault::TooDeep),
-            Some(temporal) => self.temporal(alloc, label, &temporal),
+            Some(temporal) => self.temporal(alloc, label, &temporal, levels - 1),
             None => Err(ArrowFault::refused(alloc, &[], Problem::Extension)),
         }
     }
@@ -307,7 +294,9 @@ impl Flat {
             return Err(ArrowFault::TooDeep);
         }
         match temporal {
-            Some(temporal) => self.temporal(alloc, Label::called(name), &temporal),
+            Some(temporal) => {
+                self.temporal(alloc, Label::called(name), &temporal, levels - 1)
+            }
             None => {
                 let metadata = metadata_for(alloc, extension)?;
                 let label = Label {
@@ -320,18 +309,20 @@ impl Flat {
         }
     }
 
-    // Adds a date, a time or a timestamp.
-    #[tactic(auto, using(crate::proofs::Writing::before_stops), unfolding(crate::specs::Write::temporal))]
+    // Adds a date, a time, a timestamp, a duration or an interval, whose storage type may have so many levels.
+    #[tactic(auto, using(crate::proofs::Writing::temporal_stops))]
     fn temporal(
         &mut self,
         alloc: Global,
         label: Label<'_>,
         temporal: &Temporal<'_>,
+        levels: u32,
     ) -> Result<(), ArrowFault>
-        ensures { WritesField result self.old self.new (write.temporal (label_of label.entry) (written temporal.now)) }
+        ensures { WritesField result self.old self.new (write.temporal levels (label_of label.entry) (written temporal.now)) }
     {
         check_nul(alloc, temporal.zone)?;
-        let mut format = Vec::from_slice(alloc, temporal.letters.as_bytes())?;
+        level_if(temporal.is_list, levels)?;
+        let mut format = Vec::from_slice(alloc, temporal.letters)?;
         format.extend_from_slice(temporal.zone)?;
         self.leaf(label, &format, temporal.nullability)
     }
@@ -433,6 +424,20 @@ impl Flat {
             self.child(alloc, name.as_str().as_bytes(), dtype, levels)?;
         }
         Ok(())
+    }
+}
+
+// Returns how many levels are left, if one is taken or none.
+#[tactic(auto, unfolding(crate::specs::Write::level_if))]
+fn level_if(is_taken: bool, levels: u32) -> Result<u32, ArrowFault>
+    ensures { Gives (λ l. l) result (write.level_if is_taken levels) }
+{
+    if !is_taken {
+        return Ok(levels);
+    }
+    match levels.checked_sub(1) {
+        Some(levels) => Ok(levels),
+        None => Err(ArrowFault::TooDeep),
     }
 }
 

@@ -16,6 +16,6 @@ pub enum Failure {
     /// A text contains a type that is inside more than 128 others. `position` is that of its first byte, counted from 1.
     Deep { position: usize },
     /// A schema of Arrow has no type of this library, or a type no schema. `message` says which field it is and why, for
-    /// example `column "a.item": the Arrow format "tiM" has no type here`.
+    /// example `column "a.item": the Arrow format "tdX" has no type here`.
     Arrow { message: String },
 }

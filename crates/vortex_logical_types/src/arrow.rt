@@ -25,7 +25,7 @@ use std::alloc::Global;
 /// - 6 if a type is nested in more than 128 others.
 /// - 9 if the nodes and texts are those of no schema: if nodes or bytes end too early, or if some are left.
 /// - 10 if a field has no type here. `vlt_error_message` returns which field it is and why, for example
-///   `column "a.item": the Arrow format "tiM" has no type here`.
+///   `column "a.item": the Arrow format "tdX" has no type here`.
 /// - the number of the library's error if it refuses the type of a field: for a decimal 101 to 104, for a map 109 if its
 ///   key type is nullable, and for a union 111 if it has more or fewer type ids than children, 112 if it has no children,
 ///   113 if a type id occurs twice, and 115 if a name occurs twice.

@@ -87,7 +87,7 @@ pub extern "C" fn vlt_core_error_position(error: &mut Slot, position: &mut usize
 /// Writes the message of the error to `buffer`. For an error of the library it is the library's own text, for example
 /// `index 9 out of bounds for struct with 2 fields`. If a text can't be read, it states what was expected at the
 /// position of the error, for example `expected a type, not "int32"; nearest: i32`. For a schema of Arrow it names the
-/// field, for example `column "a": the Arrow format "tiM" has no type here`. Returns 2 if the slot contains no error.
+/// field, for example `column "a": the Arrow format "tdX" has no type here`. Returns 2 if the slot contains no error.
 #[unsafe(no_mangle)]
 pub extern "C" fn vlt_core_error_message(
     alloc: Global,

@@ -41,15 +41,18 @@
 //! | dictionary | the type of the values, which is nullable if the field is | that type |
 //! | run-end encoded | the type of the values, which is nullable if it or the field is | that type |
 //! | date, time, timestamp | those of the module [`time`](crate::time) | the same |
+//! | duration | the extension `arrow.duration` over `i64`, with Arrow's format as its metadata | the same |
+//! | interval | the extension `arrow.interval` over `i32`, or over as many bytes as a value has, with Arrow's format as its metadata | the same |
 //! | a field with an extension name | an extension over the type of the field | the same |
 //!
 //! So a type that is read from a view, a large type, a dictionary or a run-end encoded type is written as a plain one, and
 //! a dense union as a sparse one. The names of the fields inside lists and maps, and metadata other than that of
 //! extensions, are lost. What is written is read back as the same type.
 //!
-//! Durations, intervals and all other formats can't be read. These types can't be written: `variant`, an extension over an
-//! extension (unless the inner one is a date, a time or a timestamp), a union with a tag above 127, a fixed-size list longer
-//! than 2^31 - 1, and a name, an id or a time zone with a zero byte.
+//! Other formats can't be read, and neither can decimals whose scale is above their precision. These types can't be
+//! written: `variant`, an extension over an extension (unless the inner one is a date, a time, a timestamp, a duration or an
+//! interval), a union with a tag above 127, a fixed-size list longer than 2^31 - 1, and a name, an id or a time zone with a
+//! zero byte.
 //!
 //! What a format means is proved. The walk through the structs of C, which is in this file, is tested.
 
@@ -441,7 +444,7 @@ impl DType {
     ///
     /// - `Arrow`: the struct was released, or isn't a field, or a field in it has no type here. The text of the error begins
     ///   with the path of the field and has its format, for example
-    ///   `column "a.item": the Arrow format "tiM" has no type here`.
+    ///   `column "a.item": the Arrow format "tdX" has no type here`.
     /// - `TooDeep`: the type has more than 128 levels.
     /// - The errors 1 to 4 of `DecimalDType::try_new`, `MapKeyNullable` (9), and the errors 11, 12, 13 and 15 of
     ///   `UnionVariants::try_new`.

@@ -151,9 +151,9 @@ fn errors_name_the_part() {
         );
         assert!(error.to_string().contains(part), "{error}");
     }
-    let (kind, told) = refusal(&mut foreign(c"tiM"));
+    let (kind, told) = refusal(&mut foreign(c"tdX"));
     assert!(
-        kind == ErrorKind::Arrow && told.contains("\"tiM\""),
+        kind == ErrorKind::Arrow && told.contains("\"tdX\""),
         "{told}"
     );
     assert_eq!(
@@ -323,6 +323,56 @@ fn lists_of_bytes_are_binary_strings() {
             "{text}"
         );
     }
+}
+
+/// Durations and intervals keep their formats. Extensions with their ids and another metadata or storage type are like others.
+#[test]
+fn durations_and_intervals_are_kept() {
+    for (text, format, children) in [
+        ("arrow.duration[0x744473](i64)", "tDs", 0),
+        ("arrow.duration[0x74446d](i64)", "tDm", 0),
+        ("arrow.duration[0x744475](i64)", "tDu", 0),
+        ("arrow.duration[0x74446e](i64)", "tDn", 0),
+        ("arrow.interval[0x74694d](i32)", "tiM", 0),
+        ("arrow.interval[0x746944](fixed_size_list(u8)[8])", "tiD", 0),
+        (
+            "arrow.interval[0x74696e](fixed_size_list(u8)[16])",
+            "tin",
+            0,
+        ),
+        ("x.tag[0x01](arrow.duration[0x744473](i64))", "tDs", 0),
+        ("arrow.duration[0x744473](i32)", "i", 0),
+        ("arrow.duration[0x74694d](i64)", "l", 0),
+        ("arrow.duration[0x7444](i64)", "l", 0),
+        ("arrow.interval[0x744473](i64)", "l", 0),
+        (
+            "arrow.interval[0x746944](fixed_size_list(u8)[16])",
+            "w:16",
+            0,
+        ),
+        (
+            "arrow.interval[0x746944](fixed_size_list(u8?)[8])",
+            "+w:8",
+            1,
+        ),
+        ("arrow.interval[0x74696e](i32)", "i", 0),
+    ] {
+        assert_eq!(written(text), (format.to_owned(), 0, children), "{text}");
+    }
+    // Their storage type takes levels as any other.
+    let whole = |lists| {
+        let interval = dtype("arrow.interval[0x74696e](fixed_size_list(u8)[16])");
+        (0..lists).fold(interval, |element, _| DType::list(element, NonNullable))
+    };
+    assert!(
+        whole(126)
+            .to_arrow()
+            .is_ok_and(|it| DType::from_arrow(&it) == Ok(whole(126)))
+    );
+    assert_eq!(
+        whole(127).to_arrow().unwrap_err().kind(),
+        ErrorKind::TooDeep
+    );
 }
 
 /// Structs are made, sent, read and released on eight threads at once.

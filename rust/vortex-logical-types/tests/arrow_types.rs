@@ -13,13 +13,13 @@ type Field = (&'static str, &'static str, u64, usize, u32);
 
 /// The schema of each of these fields that stands alone, and the type that is read of it.
 #[rustfmt::skip]
-const LEAVES: [(&str, u64, &str); 46] = [
+const LEAVES: [(&str, u64, &str); 52] = [
     ("n", 0, "null"), ("n", 2, "null"), ("b", 2, "bool?"), ("b", 0, "bool"),
     ("c", 0, "i8"), ("C", 0, "u8"), ("s", 0, "i16"), ("S", 0, "u16"), ("i", 2, "i32?"), ("I", 0, "u32"),
     ("l", 0, "i64"), ("L", 0, "u64"), ("e", 0, "f16"), ("f", 0, "f32"), ("g", 6, "f64?"),
     ("u", 0, "utf8"), ("U", 2, "utf8?"), ("vu", 0, "utf8"), ("z", 0, "binary"), ("Z", 0, "binary"), ("vz", 2, "binary?"),
     ("w:16", 2, "fixed_size_list(u8)[16]?"), ("w:0", 0, "fixed_size_list(u8)[0]"),
-    ("w:4294967295", 0, "fixed_size_list(u8)[4294967295]"),
+    ("w:2147483647", 0, "fixed_size_list(u8)[2147483647]"),
     ("d:10,2", 0, "decimal(10,2)"), ("d:10,-2", 2, "decimal(10,-2)?"), ("d:40,2,256", 0, "decimal(40,2)"),
     ("d:9,0,32", 0, "decimal(9,0)"), ("d:9,0,64", 0, "decimal(9,0)"), ("d:38,38,128", 0, "decimal(38,38)"),
     ("tdD", 2, "vortex.date[0x04](i32?)"), ("tdm", 0, "vortex.date[0x02](i64)"),
@@ -30,22 +30,23 @@ const LEAVES: [(&str, u64, &str); 46] = [
     ("+s", 0, "{}"), ("+s", 2, "{}?"),
     ("d:76,-128", 0, "decimal(76,-128)"), ("d:010,02", 0, "decimal(10,2)"), ("tsn:Z", 0, "vortex.timestamp[0x0001005a](i64)"),
     ("d:76,76,256", 0, "decimal(76,76)"),
+    ("tDs", 2, "arrow.duration[0x744473](i64?)"), ("tDn", 0, "arrow.duration[0x74446e](i64)"), ("tDm", 0, "arrow.duration[0x74446d](i64)"),
+    ("tiM", 2, "arrow.interval[0x74694d](i32?)"), ("tiD", 0, "arrow.interval[0x746944](fixed_size_list(u8)[8])"),
+    ("tin", 2, "arrow.interval[0x74696e](fixed_size_list(u8)[16]?)"),
 ];
 
 /// The format of each of these fields that stands alone is refused with this message.
 #[rustfmt::skip]
-const NO_LEAVES: [(&str, &str); 36] = [
-    ("tiM", "the Arrow format \"tiM\" has no type here"),
-    ("tiD", "the Arrow format \"tiD\" has no type here"),
-    ("tin", "the Arrow format \"tin\" has no type here"),
-    ("tDs", "the Arrow format \"tDs\" has no type here"),
-    ("tDn", "the Arrow format \"tDn\" has no type here"),
+const NO_LEAVES: [(&str, &str); 34] = [
+    ("tix", "the Arrow format \"tix\" has no type here"),
+    ("tD", "the Arrow format \"tD\" has no type here"),
+    ("tDD", "the Arrow format \"tDD\" has no type here"),
     ("", "the Arrow format \"\" has no type here"),
     ("nn", "the Arrow format \"nn\" has no type here"),
     ("w", "the Arrow format \"w\" has no type here"),
     ("w:", "the Arrow format \"w:\" has no type here"),
     ("w:-1", "the Arrow format \"w:-1\" has no type here"),
-    ("w:4294967296", "the Arrow format \"w:4294967296\" has no type here"),
+    ("w:2147483648", "the Arrow format \"w:2147483648\" has no type here"),
     ("w: 1", "the Arrow format \"w: 1\" has no type here"),
     ("d:256,0", "the Arrow format \"d:256,0\" has no type here"),
     ("d:10", "the Arrow format \"d:10\" has no type here"),
@@ -94,8 +95,8 @@ const TREES: [(&[Field], &str); 22] = [
     (&[("C", "", 0, 0, 1), ("u", "", 2, 0, 0)], "utf8"),
     (&[("i", "", 2, 0, 1), ("i", "", 0, 0, 1), ("+l", "", 0, 1, 0), ("i", "item", 0, 0, 0)], "list(i32)?"),
     (&[("+s", "", 0, 1, 0), ("", "x", 0, 0, 0)], "?column \"x\": the Arrow format \"\" has no type here"),
-    (&[("+s", "", 0, 1, 0), ("+l", "a", 0, 1, 0), ("tiM", "item", 0, 0, 0)], "?column \"a.item\": the Arrow format \"tiM\" has no type here"),
-    (&[("+s", "", 0, 1, 0), ("+m", "a", 0, 1, 0), ("+s", "entries", 0, 2, 0), ("u", "key", 0, 0, 0), ("tin", "value", 2, 0, 0)], "?column \"a.entries.value\": the Arrow format \"tin\" has no type here"),
+    (&[("+s", "", 0, 1, 0), ("+l", "a", 0, 1, 0), ("tdX", "item", 0, 0, 0)], "?column \"a.item\": the Arrow format \"tdX\" has no type here"),
+    (&[("+s", "", 0, 1, 0), ("+m", "a", 0, 1, 0), ("+s", "entries", 0, 2, 0), ("u", "key", 0, 0, 0), ("tdX", "value", 2, 0, 0)], "?column \"a.entries.value\": the Arrow format \"tdX\" has no type here"),
     (&[("+s", "", 0, 1, 0), ("u", "a", 0, 0, 1), ("u", "", 0, 0, 0)], "?column \"a\": the Arrow format \"u\" is no integer type, so it can't have a dictionary"),
     (&[("+s", "", 0, 1, 0), ("+m", "a", 0, 1, 0), ("+l", "entries", 0, 1, 0), ("u", "key", 0, 0, 0)], "?column \"a\": the Arrow format \"+m\" needs a struct of a key and a value as its child"),
 ];

@@ -122,10 +122,12 @@ class Errors(unittest.TestCase):
         # (At the end of a text the position is one more than its length.)
         self.assertEqual((self.refused(DType, "{a=i8").position, self.refused(FieldPath, "a..b").position), (6, 3))
         # (A step in brackets is what other languages write.)
-        for text, position in (("a[0]", 2), ("lines[].sku", 6), ('"a"[0]', 4)):
+        for text, position in (("a[0]", 2), ("a[]", 2), ("lines[].sku", 6), ('"a"[0]', 4), ("a.[0]", 3)):
             error = self.refused(FieldPath, text)
             self.assertEqual(error.position, position)
             self.assertRegex(str(error), r"found `\[`; \[\] is a step of its own, for example in a\.\[\]\.b$")
+        error = self.refused(FieldPath, "a/b")
+        self.assertRegex(str(error), "found `/`; steps are joined by dots, for example a\\.\\[\\]\\.b$")
         # (The type at byte 646 is inside 129 others.)
         error = self.refused(DType, "list(" * 129 + "i8" + ")" * 129)
         self.assertEqual((type(error), error.kind, error.position), (Unreadable, ErrorKind.TOO_DEEP, 646))

@@ -2,8 +2,9 @@
 // SPDX-FileCopyrightText: Copyright the Vortex contributors
 
 // The sentences of the errors of texts.
-ghost use Rattle.std.specs.Prelude.{◌≡◌, IfOk};
+ghost use Rattle.std.specs.Prelude.{◌≡◌, ◌-◌, IfOk, IfSome, slice_get, string_bytes};
 ghost use Rattle.dtype_text.specs.Read.{shown};
+ghost use Rattle.text_hints.specs.PathHelp.{EndsWith, path_help as path_help_spec};
 ghost use Rattle.text_hints.specs.Positions.{position_of};
 
 use crate::near_types::{in_place_of, nearest_type};
@@ -77,6 +78,51 @@ pub fn hint_of(alloc: Global, error: &TextError, text: &str) -> Result<Option<Te
             message: message_of(alloc, *expected, *position, text)?,
         })),
     }
+}
+
+/// Returns what `hint_of` returns for an error of the text of a path, with [`path_help`] behind the message. For example, of
+/// the text `a[0]` the position is 2, and the message is ``expected the end of the text, found `[`; [] is a step of its own, for
+/// example in a.[].b``.
+///
+/// # Errors
+///
+/// `AllocError` if an allocation fails.
+pub fn hint_of_path(
+    alloc: Global,
+    error: &TextError,
+    text: &str,
+) -> Result<Option<TextHint>, AllocError>
+    ensures place { IfOk result (λ hint. shown (λ h. h.position) hint ≡ position_of error.now) }
+    // The message ends with what helps if no path goes on with the byte at the position.
+    ensures help { IfOk result (λ hint. IfSome hint (λ h.
+        EndsWith (path_help_spec (slice_get text.now (h.position - 1))) (string_bytes h.message))) }
+{
+    let Some(mut hint) = hint_of(alloc, error, text)? else {
+        return Ok(None);
+    };
+    hint.message
+        .push_str(path_help(byte_at(text, hint.position)))?;
+    Ok(Some(hint))
+}
+
+/// Returns what helps if no path goes on with this byte, or with the end of the text, for the end of a sentence that says so.
+/// It is `; [] is a step of its own, for example in a.[].b` for `[`, `; steps are joined by dots, for example a.[].b` for `/`,
+/// and empty for all others.
+pub fn path_help(next: Option<u8>) -> &'static str
+    ensures { result.now ≡ path_help_spec next }
+{
+    match next {
+        Some(b'[') => "; [] is a step of its own, for example in a.[].b",
+        Some(b'/') => "; steps are joined by dots, for example a.[].b",
+        _ => "",
+    }
+}
+
+// Returns the byte at this position of a text, counted from 1, or `None` behind its end.
+fn byte_at(text: &str, position: usize) -> Option<u8>
+    ensures { result ≡ slice_get text.now (position - 1) }
+{
+    text.as_bytes().get(position.saturating_sub(1)).copied()
 }
 
 fn message_of(

@@ -8,9 +8,10 @@ use crate::library;
 use crate::line::Line;
 use vortex_logical_types::dtype_text::{decimal_parts, path_at, path_step_at, type_at};
 use vortex_logical_types::fallible::Vec as List;
+use vortex_logical_types::text_hints::path_help;
 use vortex_logical_types::{
     DType, DecimalDType, DecimalType, ExtDTypeRef, ExtId, Field, FieldDType, FieldMask, FieldName, FieldNames,
-    FieldPath, FieldPathSet, MapDType, Nullability, PType, StructFields, UnionVariants, help_of_path, pb,
+    FieldPath, FieldPathSet, MapDType, Nullability, PType, StructFields, UnionVariants, pb,
 };
 
 /// What is read from a line, after the blanks before it.
@@ -130,11 +131,11 @@ arguments! {
     };
     FieldPath: |line| {
         let path = line.read(path_at)?;
-        let (expected, help) = match line.peek() {
-            None | Some(' ' | '\t' | '#') if path.is_root() => return Ok(path),
+        let (expected, help) = match (line.peek(), path_help(line.rest().bytes().next())) {
+            (None | Some(' ' | '\t' | '#'), _) if path.is_root() => return Ok(path),
             _ if path.is_root() => ("a blank", "; the root is . alone, any other path begins with a step"),
-            next if help_of_path(next).is_empty() => return line.end_word("-+#").map(|()| path),
-            next => ("a blank or a dot", help_of_path(next)),
+            (_, "") => return line.end_word("-+#").map(|()| path),
+            (_, help) => ("a blank or a dot", help),
         };
         Err(line.expected_not(expected, help))?
     };

@@ -45,8 +45,7 @@ pub use dtype_types::{
 };
 #[doc(inline)]
 pub use habits::{
-    Below, BrokenLaw, Error, ErrorKind, MergeConflict, Resolvable, check_plugin, fallible,
-    help_of_path, time,
+    Below, BrokenLaw, Error, ErrorKind, MergeConflict, Resolvable, check_plugin, fallible, time,
 };
 #[doc(inline)]
 pub use vortex_dtype::{

@@ -46,15 +46,21 @@ const NO_TYPES: [(&str, usize, &str); 12] = [
     ("{\"a", 4, "expected a closing quote"),
 ];
 
-/// Each text that stands for no path, and the position of the first byte with which no path goes on.
-const NO_PATHS: [(&str, usize); 7] = [
-    ("", 1),
-    ("a.", 3),
-    ("a..b", 3),
-    ("a b", 3),
-    ("a#b", 2),
-    ("a[0]", 2),
-    ("$", 2),
+/// Each text that stands for no path, the position of the first byte with which no path goes on, and the message.
+#[rustfmt::skip]
+const NO_PATHS: [(&str, usize, &str); 12] = [
+    ("", 1, "expected a name"),
+    ("a.", 3, "expected a name"),
+    ("a..b", 3, "expected a name, found `.`; names with other characters stand in double quotes"),
+    ("a b", 3, "expected the end of the text, found `b`"),
+    ("a#b", 2, "expected the end of the name, found `#`; names with other characters stand in double quotes"),
+    ("a[0]", 2, "expected the end of the text, found `[`; [] is a step of its own, for example in a.[].b"),
+    ("a[]", 2, "expected the end of the text, found `[`; [] is a step of its own, for example in a.[].b"),
+    ("a [0]", 3, "expected the end of the text, found `[`; [] is a step of its own, for example in a.[].b"),
+    ("[0]", 1, "expected a name, found `[`; [] is a step of its own, for example in a.[].b"),
+    ("a/b", 2, "expected the end of the text, found `/`; steps are joined by dots, for example a.[].b"),
+    ("a\u{e9}[0]", 4, "expected the end of the text, found `[`; [] is a step of its own, for example in a.[].b"),
+    ("$", 2, "expected a name"),
 ];
 
 #[test]
@@ -83,9 +89,10 @@ fn messages_say_what_was_found() {
 }
 
 #[test]
-fn misspelled_paths_have_a_position() {
-    for (text, position) in NO_PATHS {
-        let error = text.parse::<FieldPath>().expect_err("no path");
-        assert_eq!(error.position(), Some(position), "{text}");
+fn messages_of_paths_say_what_was_found() {
+    for (text, position, message) in NO_PATHS {
+        let message = message.to_owned();
+        let wanted = Error::Unreadable { position, message };
+        assert_eq!(text.parse::<FieldPath>(), Err(wanted), "{text}");
     }
 }

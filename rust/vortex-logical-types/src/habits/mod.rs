@@ -28,7 +28,6 @@ pub use merging::MergeConflict;
 pub use path_sets::Below;
 pub use paths::Resolvable;
 pub use sessions::{BrokenLaw, check_plugin};
-pub use text::help_of_path;
 
 use crate::memory::or_abort;
 use std::fmt;

@@ -8,7 +8,8 @@ use crate::dtype_base::{DecimalType, PType, VortexError, VortexResult};
 use crate::dtype_paths::FieldPath;
 use crate::dtype_text::{TextError, read_dtype, read_path, try_write_dtype, try_write_path};
 use crate::dtype_types::{DType, Kind};
-use crate::text_hints::hint_of;
+use crate::rattle_std::alloc::AllocError;
+use crate::text_hints::{TextHint, hint_of, hint_of_path};
 use std::fmt;
 use std::str::FromStr;
 
@@ -89,7 +90,7 @@ impl FromStr for DType {
     type Err = Error;
 
     fn from_str(text: &str) -> Result<Self, Error> {
-        read_dtype(text).map_err(|error| unreadable(&error, text))
+        read_dtype(text).map_err(|error| unreadable(&error, text, hint_of))
     }
 }
 
@@ -104,46 +105,22 @@ impl FromStr for DType {
 ///
 /// # Errors
 ///
-/// - `Unreadable`: the text isn't spelled like a path. For example, of `a[0]` the message is ``expected the end, found `[`; []
-///   is a step of its own, for example in a.[].b``.
+/// - `Unreadable`: the text isn't spelled like a path. For example, of `a[0]` the message is ``expected the end of the text,
+///   found `[`; [] is a step of its own, for example in a.[].b``.
 /// - `OutOfMemory` (0): an allocation fails.
 impl FromStr for FieldPath {
     type Err = Error;
 
     fn from_str(text: &str) -> Result<Self, Error> {
-        read_path(text).map_err(|error| match unreadable(&error, text) {
-            Error::Unreadable { position, message } => {
-                let found = text
-                    .get(position - 1..)
-                    .and_then(|rest| rest.chars().next());
-                let message = message + help_of_path(found);
-                Error::Unreadable { position, message }
-            }
-            error => error,
-        })
+        read_path(text).map_err(|error| unreadable(&error, text, hint_of_path))
     }
 }
 
-/// Returns what helps if a path can't go on with this character, for the end of a sentence that says so. It is empty for most
-/// characters. Doesn't allocate.
-///
-/// ```
-/// use vortex_logical_types::help_of_path;
-///
-/// assert_eq!(help_of_path(Some('[')), "; [] is a step of its own, for example in a.[].b");
-/// assert_eq!(help_of_path(None), "");
-/// ```
-#[must_use]
-pub fn help_of_path(found: Option<char>) -> &'static str {
-    match found {
-        Some('[') => "; [] is a step of its own, for example in a.[].b",
-        Some('/') => "; steps are joined by dots, for example a.[].b",
-        _ => "",
-    }
-}
+// Returns the place and the message of an error of this text, or `None` if the error has no place.
+type HintOf = fn(&TextError, &str) -> Result<Option<TextHint>, AllocError>;
 
 // Returns the error of a text that can't be read, with what may have been meant.
-fn unreadable(error: &TextError, text: &str) -> Error {
+fn unreadable(error: &TextError, text: &str, hint_of: HintOf) -> Error {
     match error {
         TextError::Refused(error) => Error::Vortex(*error),
         TextError::TooDeep { position } => Error::TooDeep {

@@ -920,8 +920,9 @@ impl DType {
     /// - A struct has the fields of the first type in their order, and then those that only the second has. A field
     ///   that both have is merged by these rules. A field that only one of the two has is nullable.
     /// - `null` can be merged with every type, which is made nullable.
-    /// - Lists, fixed-size lists of the same size, maps with the same `keys_sorted`, and extensions with the same id
-    ///   and the same metadata are merged by their parts. Maps whose merged key type would be nullable can't be merged.
+    /// - Lists, fixed-size lists of the same size, maps, and extensions with the same id and the same metadata are
+    ///   merged by their parts. Maps whose merged key type would be nullable can't be merged. The merged map declares
+    ///   sorted keys only if both maps do, and if their key types are equal except for nullabilities.
     /// - Unions with the same names and tags in the same order are merged variant by variant. Structs in which a name
     ///   repeats are merged field by field, if both have the same names in the same order, because their columns can't
     ///   be told apart by name.

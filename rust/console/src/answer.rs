@@ -149,11 +149,7 @@ pub struct Shown<T>(pub T);
 impl<T: Display> Answer for Shown<T> {
     fn write(self, answer: &mut Text) -> Result<()> {
         let text = format_in!("{}", self.0)?;
-        for (number, line) in text.split('\n').enumerate() {
-            answer.push_str(if number > 0 { "\\n" } else { "" })?;
-            answer.push_str(line)?;
-        }
-        Ok(answer.push_str(if text.is_empty() { "\"\"" } else { "" })?)
+        if text.is_empty() { "\"\"".write(answer) } else { Joined("\\n", text.split('\n')).write(answer) }
     }
 }
 

@@ -4,14 +4,14 @@
 //! The arguments of commands, each of a type that says how it is read.
 
 use crate::error::{Error, Result};
-use crate::library;
 use crate::line::Line;
 use vortex_logical_types::dtype_text::{decimal_parts, path_at, path_step_at, type_at};
-use vortex_logical_types::fallible::Vec as List;
+use vortex_logical_types::fallible::{String as Text, Vec as List};
+use vortex_logical_types::rattle_std::alloc::AllocError;
 use vortex_logical_types::text_hints::path_help;
 use vortex_logical_types::{
     DType, DecimalDType, DecimalType, ExtDTypeRef, ExtId, Field, FieldDType, FieldMask, FieldName, FieldNames,
-    FieldPath, FieldPathSet, MapDType, Nullability, PType, StructFields, UnionVariants, pb,
+    FieldPath, FieldPathSet, MapDType, Nullability, PType, StructFields, UnionVariants, format_in,
 };
 
 /// What is read from a line, after the blanks before it.
@@ -86,30 +86,17 @@ arguments! {
     StructFields: |line| read_kind(line, "a struct", DType::into_struct_fields_opt)?;
     UnionVariants: |line| read_kind(line, "a union", DType::into_union_variants_opt)?;
     MapDType: |line| read_kind(line, "a map", DType::into_map_opt)?;
-    ExtDTypeRef: |line| read_kind(line, "an extension", |dtype| match dtype {
-        DType::Extension(extension) => Some(extension),
-        _ => None,
-    })?;
+    ExtDTypeRef: |line| read_kind(line, "an extension", |dtype| dtype.as_extension_opt().cloned())?;
     bool: |line| line.one_of("true or false")? == "true";
     Nullability: |line| Nullability::from(line.one_of("NonNullable or Nullable")? == "Nullable");
     FieldName: |line| line.name()?;
     FieldNames: |line| FieldNames::from(read_joined(line, FieldName::read)?);
     ExtId: |line| line.id()?;
-    u8: |line| line.number("a number from 0 to 255")?;
-    u16: |line| line.number("a number from 0 to 65535")?;
-    u32: |line| line.number("a number from 0 to 4294967295")?;
-    u64: |line| line.number("a number from 0 to 18446744073709551615")?;
-    i8: |line| line.number("a number from -128 to 127")?;
-    i16: |line| line.number("a number from -32768 to 32767")?;
-    i32: |line| line.number("a number from -2147483648 to 2147483647")?;
-    i64: |line| line.number("a number from -9223372036854775808 to 9223372036854775807")?;
     i128: |line| line.number("a number from -2^127 to 2^127 - 1")?;
     PType: |line| {
         let position = line.position();
         let word = line.word("a primitive type")?;
-        let ptypes = (0..).map_while(pb::PType::from_number).map(PType::from);
-        let ptype = library::named(ptypes, word)?;
-        ptype.ok_or_else(|| Error::expected_text(position, library::expected_ptype(word), false))?
+        named(PType::ALL, word, |ptype| format_in!("{ptype}"))?.ok_or_else(|| Error::expected_ptype(position, word))?
     };
     DecimalDType: |line| {
         if !line.accepts("decimal") {
@@ -121,7 +108,7 @@ arguments! {
     DecimalType: |line| {
         const EXPECTED: &str = "a decimal's storage type";
         let position = line.position();
-        let stored = library::named(STORED, line.word(EXPECTED)?)?;
+        let stored = named(STORED, line.word(EXPECTED)?, |stored| format_in!("{stored}"))?;
         stored.ok_or_else(|| Error::expected(position, EXPECTED))?
     };
     Field: |line| {
@@ -153,21 +140,25 @@ arguments! {
     Bytes: |line| Bytes(line.hexadecimals()?.into_inner());
 }
 
-/// Whole numbers that stand for something, and what is expected of each. An index is counted from 0.
+/// Whole numbers, and those that stand for something, with what is expected of each. An index is counted from 0.
 macro_rules! numbers {
-    ($($name:ident($number:ty): $expected:literal;)*) => { $(
-        pub struct $name(pub $number);
+    ($($number:ident)*; $($name:ident($of:ident): $what:literal;)*) => {
+        $(pub struct $name(pub $of);)*
 
-        arguments! { $name: |line| $name(line.number($expected)?); }
-    )* };
+        arguments! {
+            $($number: |line| line.number(format_args!("a number from {} to {}", $number::MIN, $number::MAX))?;)*
+            $($name: |line| $name(line.number(format_args!(concat!($what, " from {} to {}"), $of::MIN, $of::MAX))?);)*
+        }
+    };
 }
 numbers! {
-    Precision(u8): "a precision from 0 to 255";
-    Scale(i8): "a scale from -128 to 127";
-    Size(u32): "a size from 0 to 4294967295";
-    Tag(u8): "a tag from 0 to 255";
-    Index(usize): "an index from 0 to 18446744073709551615";
-    Count(usize): "a count from 0 to 18446744073709551615";
+    u8 u16 u32 u64 i8 i16 i32 i64;
+    Precision(u8): "a precision";
+    Scale(i8): "a scale";
+    Size(u32): "a size";
+    Tag(u8): "a tag";
+    Index(usize): "an index";
+    Count(usize): "a count";
 }
 
 /// The tags of a union, joined by commas.
@@ -175,6 +166,20 @@ pub struct Tags(pub Vec<u8>);
 
 /// Bytes in hexadecimal.
 pub struct Bytes(pub Vec<u8>);
+
+/// Returns that of these values whose text is the word.
+pub fn named<T>(
+    values: impl IntoIterator<Item = T>,
+    word: &str,
+    text: impl Fn(&T) -> Result<Text, AllocError>,
+) -> Result<Option<T>> {
+    for value in values {
+        if text(&value)? == word {
+            return Ok(Some(value));
+        }
+    }
+    Ok(None)
+}
 
 /// Reads a type of one kind, of which `part` returns what it contains.
 fn read_kind<T>(line: &mut Line<'_>, expected: &'static str, part: fn(DType) -> Option<T>) -> Result<T> {

@@ -3,14 +3,14 @@
 
 //! The answer to a line, and the sets and sessions with a name, which stay from line to line.
 
-use crate::answer::{Answer, Joined};
+use crate::answer::{Answer, Joined, text_of};
 use crate::argument::Arguments;
 use crate::error::{Error, Result, unless};
-use crate::library;
 use crate::line::{Line, is_bare};
 use crate::table::{self, Row};
 use vortex_logical_types::fallible::{String as Text, Vec as List};
-use vortex_logical_types::{DTypeSession, FieldName, FieldPathSet, format_in};
+use vortex_logical_types::text_hints::Finding;
+use vortex_logical_types::{DTypeSession, FieldName, FieldPathSet};
 
 /// What stays from line to line.
 pub struct Console {
@@ -74,15 +74,13 @@ impl Console {
 
     /// Runs a command. If its first argument can't be read, the error ends with all of its arguments.
     fn run(&mut self, call: &mut Call<'_>, row: &Row) -> Result<()> {
-        let blanks = call.line.rest().len() - call.line.rest().trim_start_matches([' ', '\t']).len();
-        let first = call.line.position() + blanks;
+        let first = call.line.position() + call.line.rest().len() - call.line.after_blanks().len();
         if row.needs_argument() && call.line.is_at_end() {
             return Err(Error::expected(first, row.arguments));
         }
         (row.run)(call, self).map_err(|error| match error {
-            Error::Unreadable { position, expected, is_found: true } if position == first => {
-                let expected = format_in!("{expected}; {} {}", row.name, row.arguments);
-                Error::expected_text(position, expected, true)
+            Error::Unreadable { position, expected, finding: Finding::Found } if position == first => {
+                Error::expected(position, format_args!("{expected}; {} {}", row.name, row.arguments))
             }
             other => other,
         })
@@ -101,7 +99,7 @@ fn read_command(line: &mut Line<'_>) -> Result<&'static Row> {
         return Ok(row);
     }
     let names = table::commands().map(|row| row.name);
-    Err(Error::expected_text(position, library::expected_name("a command", word, table::meant(word), names), false))
+    Err(Error::expected_name(position, "a command", word, table::meant(word), names))
 }
 
 /// How many values of a kind have a name at most.
@@ -129,7 +127,7 @@ impl<T> Named<T> {
     /// Returns the value of a name, or the error that there is none.
     pub fn get(&self, name: &FieldName) -> Result<&T> {
         let value = self.values.iter().find(|(it, _)| it == name).map(|(_, value)| value);
-        value.map_or_else(|| Err(self.unknown(name)), Ok)
+        value.ok_or_else(|| self.unknown(name))
     }
 
     /// Answers a command that changes the value of a name, which is its first argument, by one of these words, which is
@@ -169,10 +167,9 @@ impl<T> Named<T> {
     }
 
     fn text_of_unknown(&self, name: &FieldName) -> Result<Text> {
-        let mut text = format_in!("no {} ", self.kind)?;
-        name.write(&mut text)?;
+        let mut text = text_of(("no", self.kind, name))?;
         if self.values.is_empty() {
-            return "; there are none".write(&mut text).map(|()| text);
+            return Ok(text.push_str("; there are none").map(|()| text)?);
         }
         text.push_str("; there are: ")?;
         Joined(", ", self.names()).write(&mut text).map(|()| text)

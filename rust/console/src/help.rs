@@ -6,7 +6,6 @@
 use crate::console::{Call, Console, Outcome};
 use crate::error::{Error, Result};
 use crate::forms::{self, Form};
-use crate::library;
 use crate::table::{self, Row, TOPICS, Topic, rows};
 use std::fmt::{self, Display, Formatter};
 use vortex_logical_types::fallible::String as Text;
@@ -41,8 +40,8 @@ fn help(call: &mut Call<'_>, _: &mut Console) -> Result<()> {
     }
     if shown.is_empty() {
         let names = TOPICS.iter().map(|topic| topic.name).chain(table::commands().map(|row| row.name));
-        let expected = library::expected_name("a topic, a command, a form or an error's number", text, None, names);
-        return Err(Error::expected_text(position, expected, false));
+        let expected = "a topic, a command, a form or an error's number";
+        return Err(Error::expected_name(position, expected, text, None, names));
     }
     call.say(shown.trim_start_matches('\n'))
 }

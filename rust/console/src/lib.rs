@@ -14,7 +14,6 @@ mod console;
 mod error;
 mod forms;
 mod help;
-mod library;
 mod line;
 mod protobuf;
 mod protobuf_text;
@@ -79,7 +78,7 @@ pub fn run(arguments: impl IntoIterator<Item = OsString>) -> u8 {
             let _ = error.print();
             return 2;
         }
-        Err(help) => print(&help.to_string()),
+        Err(help) => streams::check_open(1).and_then(|()| help.print()).map_err(Failure::from),
     };
     match done {
         // (nobody reads the answers any more, as behind `head`)
@@ -100,11 +99,4 @@ fn answer(options: &Options, has_unread: &mut bool) -> Result<(), Failure> {
     // (what was answered before a failure is written, too)
     run.flush()?;
     answered
-}
-
-/// Prints a text.
-fn print(text: &str) -> Result<(), Failure> {
-    streams::check_open(1)?;
-    io::stdout().write_all(text.as_bytes())?;
-    Ok(io::stdout().flush()?)
 }

@@ -4,7 +4,6 @@
 //! The rest of a line, and the words and numbers in it.
 
 use crate::error::{Error, Result};
-use crate::library;
 use std::fmt::Display;
 use std::str::FromStr;
 use vortex_logical_types::dtype_text::{self, Expected, Fault, TextError, is_bare_id, misread, not_an_id, quoted};
@@ -37,6 +36,11 @@ impl<'a> Line<'a> {
         &self.text[self.read..]
     }
 
+    /// Returns what hasn't been read, without the blanks before it.
+    pub fn after_blanks(&self) -> &'a str {
+        self.rest().trim_start_matches(BLANKS)
+    }
+
     /// Returns the next character, if there is one, and doesn't read it.
     pub fn peek(&self) -> Option<char> {
         self.rest().chars().next()
@@ -44,7 +48,7 @@ impl<'a> Line<'a> {
 
     /// Returns whether only blanks and a comment are left.
     pub fn is_at_end(&self) -> bool {
-        matches!(self.rest().trim_start_matches(BLANKS).chars().next(), None | Some('#'))
+        matches!(self.after_blanks().chars().next(), None | Some('#'))
     }
 
     /// Reads with a reader of the library.
@@ -63,17 +67,17 @@ impl<'a> Line<'a> {
     }
 
     /// Returns the error that this was expected here.
-    pub fn expected(&self, expected: &'static str) -> Error {
+    pub fn expected(&self, expected: impl Display) -> Error {
         Error::expected(self.position(), expected)
     }
 
     /// Returns the error that this was expected here, with the character that is here, and with what may help.
     pub fn expected_not(&self, expected: impl Display, hint: &str) -> Error {
-        Error::expected_text(self.position(), library::expected_not(expected, self.peek(), hint), true)
+        Error::expected_not(self.position(), expected, self.peek(), hint)
     }
 
     /// Returns the error that this was expected here, with the character that is here unless it is a blank or the end.
-    pub fn expected_here(&self, expected: &'static str) -> Error {
+    pub fn expected_here(&self, expected: impl Display) -> Error {
         match self.peek() {
             None | Some(' ' | '\t') => self.expected(expected),
             Some(_) => self.expected_not(expected, ""),
@@ -97,7 +101,7 @@ impl<'a> Line<'a> {
 
     /// Reads the blanks that are next, if any.
     pub fn skip_blanks(&mut self) {
-        self.take_while(|character| BLANKS.contains(&character));
+        self.read = self.text.len() - self.after_blanks().len();
     }
 
     /// Reads this text if it is next, and returns whether it was.
@@ -109,7 +113,7 @@ impl<'a> Line<'a> {
 
     /// Reads this text with the blanks before it, if it is next after blanks, and returns whether it was.
     pub fn accepts_after_blanks(&mut self, text: &str) -> bool {
-        let after = self.rest().trim_start_matches(BLANKS).strip_prefix(text);
+        let after = self.after_blanks().strip_prefix(text);
         self.read = self.text.len() - after.unwrap_or(self.rest()).len();
         after.is_some()
     }
@@ -154,7 +158,7 @@ impl<'a> Line<'a> {
     }
 
     /// Reads the word of a number, which may have a minus.
-    pub fn number_word(&mut self, expected: &'static str) -> Result<&'a str> {
+    pub fn number_word(&mut self, expected: impl Display) -> Result<&'a str> {
         match self.take_while(|character| character == '-' || is_bare(character)) {
             "" => Err(self.expected_here(expected)),
             word => Ok(word),
@@ -162,9 +166,9 @@ impl<'a> Line<'a> {
     }
 
     /// Reads a number.
-    pub fn number<T: FromStr>(&mut self, expected: &'static str) -> Result<T> {
+    pub fn number<T: FromStr>(&mut self, expected: impl Display) -> Result<T> {
         let position = self.position();
-        let word = self.number_word(expected)?;
+        let word = self.number_word(&expected)?;
         word.parse().map_err(|_| Error::expected_word(position, expected, word))
     }
 
@@ -220,20 +224,6 @@ impl<'a> Line<'a> {
             self.skip_blanks();
         }
         is_comma
-    }
-
-    /// Reads items that are joined by commas, up to this closing bracket. The opening one has been read.
-    pub fn items_to<T>(&mut self, close: &str, mut item: impl FnMut(&mut Self) -> Result<T>) -> Result<List<T>> {
-        let mut items = List::new();
-        self.skip_blanks();
-        while !self.accepts(close) {
-            if !items.is_empty() && !self.accepts_comma() {
-                return Err(self.expected_not(format_args!("`,` or `{close}`"), ""));
-            }
-            items.push(item(self)?)?;
-            self.skip_blanks();
-        }
-        Ok(items)
     }
 }
 

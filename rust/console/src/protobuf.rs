@@ -4,7 +4,7 @@
 //! Messages of types and of paths in protobuf's text format: how they are read and written.
 
 use crate::answer::{Answer, Joined};
-use crate::argument::Argument;
+use crate::argument::{Argument, named};
 use crate::error::{Error, Result};
 use crate::line::Line;
 use crate::protobuf_text::{
@@ -149,7 +149,17 @@ fn add_items<T>(
     if !line.accepts("[") {
         return Ok(items.push(item(line)?)?);
     }
-    Ok(line.items_to("]", item)?.into_iter().try_for_each(|item| items.push(item))?)
+    line.skip_blanks();
+    let mut is_first = true;
+    while !line.accepts("]") {
+        if !is_first && !line.accepts_comma() {
+            return Err(line.expected_not("`,` or `]`", ""));
+        }
+        items.push(item(line)?)?;
+        line.skip_blanks();
+        is_first = false;
+    }
+    Ok(())
 }
 
 /// Reads a message in brackets, a level deeper.
@@ -217,9 +227,9 @@ fn open(line: &mut Line<'_>) -> Result<&'static str> {
     if line.accepts("<") { Ok(">") } else { line.take("{").map(|()| "}") }
 }
 
-/// Reads the comma or the semicolon that may follow a field, with the blanks before it.
-fn end_field(line: &mut Line<'_>) {
-    let _ = line.accepts_after_blanks(",") || line.accepts_after_blanks(";");
+/// Reads the comma or the semicolon that may follow a field, with the blanks before it, and returns whether one did.
+fn end_field(line: &mut Line<'_>) -> bool {
+    line.accepts_after_blanks(",") || line.accepts_after_blanks(";")
 }
 
 /// Reads the number of a primitive type, or its name.
@@ -229,12 +239,8 @@ fn read_ptype(line: &mut Line<'_>) -> Result<i32> {
     }
     let position = line.position();
     let word = line.word(A_PTYPE)?;
-    for ptype in (0..).map_while(pb::PType::from_number) {
-        if format_in!("{ptype:?}")? == word {
-            return Ok(ptype.number());
-        }
-    }
-    Err(Error::expected_word(position, A_PTYPE, word))
+    let ptype = named((0..).map_while(pb::PType::from_number), word, |ptype| format_in!("{ptype:?}"))?;
+    ptype.map(|ptype| ptype.number()).ok_or_else(|| Error::expected_word(position, A_PTYPE, word))
 }
 
 /// A message of a type: a kind, or `{}`.
@@ -266,7 +272,7 @@ impl Argument for pb::FieldPath {
             line.take("path")?;
             accept_colon(line);
             add_items(line, &mut path, read_path_part)?;
-            if line.accepts_after_blanks(",") || line.accepts_after_blanks(";") {
+            if end_field(line) {
                 line.skip_blanks();
             } else {
                 line.separate()?;

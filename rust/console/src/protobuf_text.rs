@@ -68,30 +68,27 @@ fn read_escape(line: &mut Line<'_>, bytes: &mut List<u8>) -> Result<()> {
     Ok(())
 }
 
-/// Reads up to this many digits of a radix, and returns their value and how many there were.
-fn read_digits(line: &mut Line<'_>, radix: u32, most: usize) -> (u32, usize) {
+/// Reads up to this many digits of a radix, and returns them.
+fn read_digits<'a>(line: &mut Line<'a>, radix: u32, most: usize) -> &'a str {
     let rest = line.rest();
-    let digits = rest.chars().take(most).map_while(|next| next.to_digit(radix));
-    let (value, count) = digits.fold((0, 0), |(value, count), digit| (value * radix + digit, count + 1));
+    let count = rest.chars().take(most).take_while(|next| next.is_digit(radix)).count();
     line.accepts(&rest[..count]);
-    (value, count)
+    &rest[..count]
 }
 
 fn read_code(line: &mut Line<'_>, radix: u32, most: usize, expected: &'static str) -> Result<u8> {
     let position = line.position();
-    let (value, count) = read_digits(line, radix, most);
-    let byte = u8::try_from(value).ok().filter(|_| count > 0);
-    byte.ok_or_else(|| Error::expected(position, expected))
+    let byte = u8::from_str_radix(read_digits(line, radix, most), radix);
+    byte.map_err(|_| Error::expected(position, expected))
 }
 
 fn read_code_point(line: &mut Line<'_>, count: usize, expected: &'static str) -> Result<char> {
     let position = line.position();
-    let (value, read) = read_digits(line, 16, count);
-    if read < count {
-        return Err(Error::expected(position, expected));
-    }
+    let digits = read_digits(line, 16, count);
+    let code = u32::from_str_radix(digits, 16).ok().filter(|_| digits.len() == count);
+    let code = code.ok_or_else(|| Error::expected(position, expected))?;
     let what = "a code point from 0 to d7ff or from e000 to 10ffff";
-    char::from_u32(value).ok_or_else(|| Error::expected(position, what))
+    char::from_u32(code).ok_or_else(|| Error::expected(position, what))
 }
 
 /// Reads a number without a sign.

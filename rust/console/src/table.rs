@@ -53,11 +53,8 @@ macro_rules! rows {
             crate::table::rows!(@say call, $errors, ($($answer)*))
         })
     };
-    (@run $errors:expr, ($native:ident in integer; $($answer:tt)*)) => {
-        |call, _| for_integer!(call, $native, crate::table::rows!(@say call, $errors, ($($answer)*)))
-    };
-    (@run $errors:expr, ($native:ident in decimal; $($answer:tt)*)) => {
-        |call, _| for_decimal!(call, $native, crate::table::rows!(@say call, $errors, ($($answer)*)))
+    (@run $errors:expr, ($native:ident in $kind:tt; $($answer:tt)*)) => {
+        |call, _| for_native!(call, $native in $kind, crate::table::rows!(@say call, $errors, ($($answer)*)))
     };
     (@run $errors:expr, ($function:ident)) => { $function };
     (@run $errors:expr, (|$call:ident, $console:ident| $answer:expr)) => { |$call, $console| $answer };

@@ -5,6 +5,7 @@
 
 use super::prelude::*;
 use crate::argument::Bytes;
+use vortex_logical_types::rattle_std::boxed;
 
 pub const EXTENSIONS: &[Row] = rows! {
     ["extension", "ID HEX T", "x.tag 0x6162 utf8?", "the extension with this id, this metadata and this storage type"] (id: ExtId, metadata: Bytes, storage: DType => ExtDTypeRef::try_from_parts(id, metadata.0.into(), storage)?)
@@ -52,14 +53,14 @@ fn with_nullability<V: ExtVTable + Default>(n: Nullability, extension: ExtDTypeR
     Ok(typed.try_with_nullability(n)?)
 }
 
-type Plugin = fn() -> Box<dyn ExtDTypePlugin>;
+type Plugin = fn() -> Result<Box<dyn ExtDTypePlugin>>;
 
 /// What makes each plugin, by the words for them.
 pub const PLUGINS: [(&str, Plugin); 4] = [
-    ("x.tag", || Box::new(PluginOf::new(Tag))),
-    ("x.text", || Box::new(TextAlone)),
-    ("x.word", || Box::new(PluginOf::new(Word))),
-    ("kept", || Box::new(AllKept)),
+    ("x.tag", || Ok(boxed::new(PluginOf::new(Tag))?)),
+    ("x.text", || Ok(boxed::new(Kept("x.text", |metadata, storage| metadata.is_empty() && storage.is_utf8()))?)),
+    ("x.word", || Ok(boxed::new(PluginOf::new(Word))?)),
+    ("kept", || Ok(boxed::new(Kept("x.tag", |_, _| true))?)),
 ];
 
 /// The metadata of `x.tag` and `x.word`: bytes without capital letters or exclamation marks.
@@ -107,29 +108,20 @@ vtables! {
     Word "x.word" DType::is_utf8;
 }
 
-/// A second plugin of `x.tag`, which keeps all metadata as it is.
-struct AllKept;
+/// A plugin of this id that keeps metadata as it is, with the metadata and storage types that it accepts: `x.text` accepts
+/// `utf8` of either nullability with empty metadata, and a second plugin of `x.tag` accepts everything.
+struct Kept(&'static str, fn(&[u8], &DType) -> bool);
 
-impl ExtDTypePlugin for AllKept {
-    fn id(&self) -> &'static str {
-        "x.tag"
-    }
-
-    fn deserialize(&self, metadata: &[u8], _: &DType) -> VortexResult<fallible::Vec<u8>> {
-        Ok(fallible::Vec::from_slice(metadata)?)
-    }
-}
-
-/// The plugin of `x.text`, which accepts `utf8` of either nullability with empty metadata.
-struct TextAlone;
-
-impl ExtDTypePlugin for TextAlone {
-    fn id(&self) -> &'static str {
-        "x.text"
+impl ExtDTypePlugin for Kept {
+    fn id(&self) -> &str {
+        self.0
     }
 
     fn deserialize(&self, metadata: &[u8], storage: &DType) -> VortexResult<fallible::Vec<u8>> {
-        let is_accepted = metadata.is_empty() && storage.is_utf8();
-        if is_accepted { Ok(fallible::Vec::new()) } else { Err(VortexError::MetadataRefused) }
+        if self.1(metadata, storage) {
+            Ok(fallible::Vec::from_slice(metadata)?)
+        } else {
+            Err(VortexError::MetadataRefused)
+        }
     }
 }

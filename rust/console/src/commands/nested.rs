@@ -59,7 +59,7 @@ pub const MAPS: &[Row] = rows! {
 /// Returns the fields of these names. The error that a name isn't found ends with the name.
 fn project(fields: &StructFields, names: &FieldNames) -> Result<StructFields> {
     fields.project(names.as_slice()).map_err(|error| match error {
-        VortexError::FieldNotFound { position } => error_of(error, names.get(position)),
+        VortexError::FieldNotFound { position } => Error::of_subject(error, names.get(position).map(text_of)),
         other => other.into(),
     })
 }
@@ -67,18 +67,9 @@ fn project(fields: &StructFields, names: &FieldNames) -> Result<StructFields> {
 /// Returns the fields of both structs. The error that a name repeats ends with the first such name.
 fn disjoint_merge(fields: &StructFields, other: &StructFields) -> Result<StructFields> {
     fields.disjoint_merge(other).map_err(|error| match error {
-        VortexError::DuplicateNames => error_of(error, first_repeated(fields, other)),
+        VortexError::DuplicateNames => Error::of_subject(error, first_repeated(fields, other).map(text_of)),
         other => other.into(),
     })
-}
-
-/// Returns the library's error about a column, with the name of the column.
-fn error_of(error: VortexError, name: Option<&FieldName>) -> Error {
-    match name.map(text_of) {
-        Some(Ok(subject)) => Error::RefusedOf { error, subject },
-        Some(Err(memory)) => memory,
-        None => error.into(),
-    }
 }
 
 /// Returns the first name, of the fields of both structs in order, that an earlier field has, too.

@@ -8,7 +8,8 @@ use super::types::hash_of;
 use crate::argument::{Argument, Bytes, Count, Precision, Scale};
 use crate::line::Line;
 
-/// Evaluates an expression with the native type of a name, which is one of these.
+/// Evaluates an expression with the native type of a name, which is one of these. Of an `integer` or a `decimal` type, the
+/// name is read first.
 macro_rules! for_native {
     ($name:expr, $native:ident in [$($one:ident)*], $value:expr, $other:expr) => {
         match $name {
@@ -19,21 +20,14 @@ macro_rules! for_native {
             _ => $other,
         }
     };
-}
-
-/// Reads the name of a native decimal type, and evaluates an expression with it.
-macro_rules! for_decimal {
-    ($call:ident, $native:ident, $value:expr) => {{
+    ($call:ident, $native:ident in decimal, $value:expr) => {{
+        const EXPECTED: &str = "a native decimal type";
         $call.line.separate()?;
         let position = $call.line.position();
-        let name = $call.line.word("a native decimal type")?;
-        for_native!(name, $native in [i8 i16 i32 i64 i128], $value, Err(Error::expected(position, "a native decimal type")))
+        let name = $call.line.word(EXPECTED)?;
+        for_native!(name, $native in [i8 i16 i32 i64 i128], $value, Err(Error::expected(position, EXPECTED)))
     }};
-}
-
-/// Reads the name of an integer type, and evaluates an expression with its native type.
-macro_rules! for_integer {
-    ($call:ident, $native:ident, $value:expr) => {{
+    ($call:ident, $native:ident in integer, $value:expr) => {{
         $call.line.separate()?;
         let position = $call.line.position();
         let name = format_in!("{}", PType::read(&mut $call.line)?)?;

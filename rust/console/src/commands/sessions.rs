@@ -10,10 +10,7 @@ use crate::line::Line;
 
 pub const SESSIONS: &[Row] = rows! {
     ["session", "NAME new|register PLUGIN|allow_unknown|drop", "s register x.tag", "new makes the session with this name, register registers a plugin, allow_unknown makes the session keep extensions with unknown ids, and drop removes it; register and allow_unknown make the session too if there is none", "condition: at most 16 sessions; unknown: the session"] (|call, console| console.sessions.answer(call, CHANGES, &MAKES, change))
-    ["sessions", "", "", "the names of the sessions, in the order in which they were made"] (|call, console| {
-        call.line.end()?;
-        call.say(Joined(" ", console.sessions.names()))
-    })
+    ["sessions", "", "", "the names of the sessions, in the order in which they were made"] (|call, console| call.last().and_then(|()| call.say(Joined(" ", console.sessions.names()))))
     ["allows_unknown", "SESSION", "unknown,x.tag", "whether the session keeps extensions of unknown ids", "unknown: the session"] (session; => session.allows_unknown())
     ["registry", "SESSION ID", "x.tag,x.text x.text", "whether the session has a plugin under this id", "unknown: the session"] (session; id: ExtId => session.registry(id.as_str()))
     ["deserialize", "SESSION ID HEX T", "x.tag x.tag 0x4142 utf8", "the extension with this id and this storage type, and with the metadata that the session keeps when it reads these bytes", "MetadataRefused (22), ExtensionUnregistered (35); unknown: the session"] (session; id: ExtId, metadata: Bytes, storage: DType => session.deserialize(id.as_str(), &metadata.0, storage)?)
@@ -59,7 +56,7 @@ fn change(call: &mut Call<'_>, word: &str, session: &mut DTypeSession) -> Result
 /// Reads a plugin.
 fn read_plugin(line: &mut Line<'_>, expected: &'static str) -> Result<Box<dyn ExtDTypePlugin>> {
     let plugin = PLUGINS.into_iter().find(|(name, _)| line.accepts(name));
-    plugin.map(|(_, make)| make()).ok_or_else(|| line.expected(expected))
+    plugin.map_or_else(|| Err(line.expected(expected)), |(_, make)| make())
 }
 
 /// Reads the session that is the next argument, words or the name of one, and asks it.
@@ -89,12 +86,10 @@ pub fn with_session(
 
 /// Returns the type that a session reads from a message. The error of an unknown primitive type ends with its number.
 fn read(message: &pb::DType, session: &DTypeSession) -> Result<DType> {
-    DType::from_proto(message, session).map_err(|error| match (&error, unknown_number(message)) {
-        (VortexError::Message(MessageFault::PrimitiveNumber), Some(number)) => {
-            let subject = format_in!("{number}; U8 to F64 have the numbers 0 to 10");
-            subject.map_or_else(Error::from, |subject| Error::RefusedOf { error, subject })
-        }
-        _ => error.into(),
+    DType::from_proto(message, session).map_err(|error| {
+        let is_number = error == VortexError::Message(MessageFault::PrimitiveNumber);
+        let number = unknown_number(message).filter(|_| is_number);
+        Error::of_subject(error, number.map(|number| format_in!("{number}; U8 to F64 have the numbers 0 to 10")))
     })
 }
 

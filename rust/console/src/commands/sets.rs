@@ -15,10 +15,7 @@ pub const SETS: &[Row] = rows! {
     ["members", "PATH..", "a.b a x", "the paths, each once"] (paths: FieldPathSet => sorted(paths.try_iter()?)?)
     ["contains", "PATH PATH..", "a a.b x", "whether the first path is one of the others"] (path: FieldPath, paths: FieldPathSet => paths.contains(&path))
     ["set", "NAME new|insert PATH|extend PATH PATH..|contains PATH|below PATH|missing T|compare PATH..|union PATH..|iter|cover|drain|drop", "s insert a.c", "new makes an empty set with this name; insert and extend add paths, and make the set too if there is none; contains prints whether a path is in it, below how its paths continue after a path, missing those that a type lacks, compare how many paths it and the set of other paths have and how the two are related, union the paths of both, iter all, cover the fewest that cover it; drain prints the same and empties the set; drop removes it", "condition: at most 16 sets; unknown: the set"] (|call, console| console.sets.answer(call, CHANGES, &MAKES, change))
-    ["sets", "", "", "the names of the sets, in the order in which they were made"] (|call, console| {
-        call.line.end()?;
-        call.say(Joined(" ", console.sets.names()))
-    })
+    ["sets", "", "", "the names of the sets, in the order in which they were made"] (|call, console| call.last().and_then(|()| call.say(Joined(" ", console.sets.names()))))
     ["project_paths", "T PATH..", "{a=list({b=u32, c=utf8})?, d=bool} a.[].b", "the part of the type that a reader of the paths opens, or none if none of the paths exists in the type"] (dtype: DType, paths: FieldPathSet => dtype.try_project_paths(&paths)?)
 };
 
@@ -72,8 +69,8 @@ fn write_below(set: &FieldPathSet, path: &FieldPath, answer: &mut fallible::Stri
         names.push(text)?;
     }
     names.sort_unstable();
-    let ends = [("nothing ", here.is_empty()), ("end ", here.is_end()), ("[] ", here.element().is_some())];
-    ends.iter().filter(|(_, holds)| *holds).try_for_each(|(word, _)| answer.push_str(word))?;
+    let mut ends = words([("nothing ", here.is_empty()), ("end ", here.is_end()), ("[] ", here.element().is_some())]);
+    ends.1.try_for_each(|word| answer.push_str(word))?;
     write!(answer, "{}", names.len())?;
     Ok(names.iter().try_for_each(|name| write!(answer, " {name}"))?)
 }
@@ -81,12 +78,12 @@ fn write_below(set: &FieldPathSet, path: &FieldPath, answer: &mut fallible::Stri
 /// Writes how many paths each of two sets has, and how the two are related.
 fn write_compared(set: &FieldPathSet, other: &FieldPathSet, answer: &mut fallible::String) -> Result<()> {
     write!(answer, "{} {}", set.len(), other.len())?;
-    let related = [
+    let mut related = words([
         (" empty", set.is_empty()),
         (" equal", set == other),
         (" subset", set.is_subset(other)),
         (" superset", set.is_superset(other)),
         (" disjoint", set.is_disjoint(other)),
-    ];
-    Ok(related.iter().filter(|(_, holds)| *holds).try_for_each(|(word, _)| answer.push_str(word))?)
+    ]);
+    Ok(related.1.try_for_each(|word| answer.push_str(word))?)
 }

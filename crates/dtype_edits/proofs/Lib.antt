@@ -3,3 +3,4 @@
 
 pub mod lemmas
 mod PlacedFields
+mod LeftFields

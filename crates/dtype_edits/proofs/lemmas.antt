@@ -3,3 +3,4 @@
 
 -- Lemmas about the definitions, which a caller's proof may cite.
 pub mod Replacing
+pub mod Leaving

@@ -2,3 +2,4 @@
 -- SPDX-FileCopyrightText: Copyright the Vortex contributors
 
 pub mod Replaced
+pub mod Without

@@ -2,14 +2,16 @@
 // SPDX-FileCopyrightText: Copyright the Vortex contributors
 
 // Theorems about the definitions. Each function's contract is the theorem, and its body is empty.
-ghost use Rattle.std.specs.Prelude.{◌≡◌, ◌++◌, List, Some, option_and_then};
+ghost use Rattle.std.specs.Prelude.{◌≡◌, ◌++◌, ℕ, false, true, IsTrue, List, None, Some, option_and_then};
 ghost use Rattle.dtype_types.specs.tree.Tree.{Tree};
 ghost use Rattle.dtype_types.specs.tree.Valid.{Valid};
 ghost use Rattle.dtype_paths.specs.Along.{along};
 ghost use Rattle.dtype_paths.specs.At.{At, ExistsIn};
 ghost use Rattle.dtype_paths.specs.Overlaps.{Overlaps};
+ghost use Rattle.dtype_paths.specs.PathPredicates.{PathPredicate, after_steps, contains_above, no_path};
 ghost use Rattle.dtype_paths.specs.declared.field.Field.{Field};
 ghost use Rattle.dtype_edits.specs.Replaced.{replaced};
+ghost use Rattle.dtype_edits.specs.Without.{elements, without};
 
 /// For all types `t` and `u` and each path `p`, the part of `t` at `p` can be replaced by `u` exactly if there is a part
 /// at `p`. (It can be replaced if `replaced t p u` isn't `None`.) For example, `{a=i32}` has no part at `b`, so replacing
@@ -65,4 +67,46 @@ pub fn the_last_replacement_counts()
 #[tactic(auto, using(crate::proofs::lemmas::Replacing::replaced_valid))]
 pub fn a_valid_type_with_a_valid_part_is_valid()
     ensures { (t r u : Tree) (p : List Field) → replaced t p u ≡ Some r → Valid t → Valid u → Valid r }
+{}
+
+/// For each type `t` and all paths `w`, nothing is left of `t` without `w` exactly if a path of `w` that consists of
+/// element steps alone exists in `t`. For example, nothing is left of `list(list(i32))` without `[].[]`, because a list
+/// without its element isn't a type. With this law a caller knows for which sets `without_paths` returns a type: for
+/// example, it always returns one for a struct, if the set doesn't contain the root.
+///
+/// About [`without_paths`].
+pub fn nothing_is_left_exactly_without_elements()
+    ensures none { (t : Tree) (w : PathPredicate) → without t w ≡ None
+        → (k : ℕ) × IsTrue (w (elements k)) × ExistsIn t (elements k) }
+    ensures only { (k : ℕ) (t x : Tree) (w : PathPredicate) → w (elements k) ≡ true → At t (elements k) x → without t w ≡ None }
+{}
+
+/// Let `u` be the type `t` without the paths `w`. The law says to which types paths lead in `u`:
+/// - `gone`: a path of `w` doesn't exist in `u`.
+/// - `above`: if no path of `w` is a prefix of `q`, and `q` leads to `x` in `t`, then `q` leads in `u` to what is left of
+///   `x` without what remains of `w` after `q`. If nothing is left of `x`, the law says nothing of `q`.
+/// - `beside`: if no path of `w` overlaps `q`, and `q` leads to `x` in `t`, then `q` leads to `x` in `u`. Two paths overlap
+///   if one of them is a prefix of the other.
+///
+/// For example, let `u` be `{a={b=i32, c=u8}, d=utf8}` without `a.b`. The path `a.b` doesn't exist in `u`, `a.c` and `d`
+/// lead to `u8` and `utf8` as before, and `a` leads to `{c=u8}`.
+///
+/// About [`without_paths`].
+pub fn paths_that_are_left_out_lead_nowhere()
+    ensures gone { (t u : Tree) (w : PathPredicate) (p : List Field) → without t w ≡ Some u → w p ≡ true → ¬ (ExistsIn u p) }
+    ensures above { (t u x v : Tree) (w : PathPredicate) (q : List Field) → without t w ≡ Some u → At t q x
+        → contains_above w q ≡ false → without x (after_steps q w) ≡ Some v → At u q v }
+    ensures beside { (t u x : Tree) (w : PathPredicate) (q : List Field) → without t w ≡ Some u → At t q x
+        → ((p : List Field) → IsTrue (w p) → ¬ (Overlaps p q)) → At u q x }
+{}
+
+/// For each type `t` and all paths `w`, `t` without nothing is `t`, and `t` without `w` is valid if `t` is. For example,
+/// the variants of a union stay as they are, because a path doesn't lead into a union, so that a union keeps at least one
+/// variant.
+///
+/// About [`without_paths`].
+#[tactic(auto, using(crate::proofs::lemmas::Leaving::without_nothing, crate::proofs::lemmas::Leaving::valid_left))]
+pub fn what_is_left_of_a_valid_type_is_valid()
+    ensures nothing { (t : Tree) → without t no_path ≡ Some t }
+    ensures valid { (t u : Tree) (w : PathPredicate) → without t w ≡ Some u → Valid t → Valid u }
 {}

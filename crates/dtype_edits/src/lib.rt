@@ -1,7 +1,7 @@
 // SPDX-License-Identifier: Apache-2.0
 // SPDX-FileCopyrightText: Copyright the Vortex contributors
 
-//! Types made from other types by paths: a type with one part replaced.
+//! Types made from other types by paths: a type with one part replaced, and a type without some of its parts.
 //!
 //! The following is proved of `with_type_at`:
 //! - It returns a type exactly if the path exists in the original type.
@@ -9,13 +9,22 @@
 //! - Each path that doesn't overlap the path resolves in the result as in the original type.
 //! - The result is valid if the original type and the new type are.
 //!
+//! The following is proved of `without_paths`:
+//! - It returns a type unless the set contains a path of element steps alone that exists in the original type.
+//! - No path that the set covers exists in the result.
+//! - Each path of the original type that overlaps no path of the set resolves in the result as in the original type.
+//! - The result is valid if the original type is.
+//!
 //! The definitions are in `specs/`:
 //! - `Replaced`: a type with the part at a path replaced, by recursion on the path.
+//! - `Without`: a type without the parts to which some paths lead, by recursion on the type.
 //!
 //! `proofs/lemmas` contains the lemmas that callers may cite. `laws` states the theorems about the definitions.
 #![tactic(auto)]
 
 pub mod laws;
 mod replace;
+mod without;
 
 pub use replace::with_type_at;
+pub use without::without_paths;

@@ -70,6 +70,7 @@ pub use Rattle.dtype_paths.specs.PathPredicates
 pub use Rattle.dtype_paths.specs.PathOrder
 pub use Rattle.dtype_types.specs.nullability.Merged
 pub use Rattle.dtype_edits.specs.Replaced
+pub use Rattle.dtype_edits.specs.Without
 pub use Rattle.dtype_merging.specs.AllMerged
 pub use Rattle.dtype_merging.specs.Conflicts
 pub use Rattle.dtype_merging.specs.Filled

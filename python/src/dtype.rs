@@ -988,6 +988,23 @@ impl DType {
         Ok(self.dtype.try_project_paths(&paths)?.map(Self::from))
     }
 
+    /// Returns the type without the parts to which these paths lead, or None if nothing is left. A path that doesn't exist
+    /// in the type changes nothing. If several fields of a struct have the same name, a path leads to each of them here. A
+    /// struct that loses all its fields stays, without fields, and a list goes with its element.
+    ///
+    /// >>> DType("{id=u32, card={number=utf8}?, lines=list({sku=utf8})}").without_paths(["card.number", "lines.[].sku"])
+    /// DType('{id=u32, card={}?, lines=list({})}')
+    /// >>> print(DType("{id=u32}").without_paths(["."]))
+    /// None
+    #[pyo3(text_signature = "($self, paths)")]
+    fn without_paths(&self, paths: &PyAny) -> Made<Option<Self>> {
+        if let Ok(set) = paths.downcast::<PyCell<FieldPathSet>>() {
+            return Ok(self.dtype.try_without_paths(&set.borrow().paths)?.map(Self::from));
+        }
+        let paths = library::FieldPathSet::try_from_iter(self::paths(paths, "paths")?)?;
+        Ok(self.dtype.try_without_paths(&paths)?.map(Self::from))
+    }
+
     /// Returns the type with the part at the path replaced by `new`, or None if there is no part at the path. If several
     /// fields of a struct have the same name, the first is replaced. Every other part keeps its nullability.
     ///

@@ -121,13 +121,16 @@ class Calls(unittest.TestCase):
             (path.overlap(FieldPath("a")), path.overlap("a")), (path.join(path), path.join("a.b")),
             (whole.project_paths(FieldPathSet(["a.b"])), whole.project_paths(["a.b", path])),
             (whole.project_paths(FieldPathSet()), whole.project_paths(iter([]))),
+            (whole.without_paths(FieldPathSet(["a.b"])), whole.without_paths(["x", path])),
+            (whole.without_paths(FieldPathSet()), whole.without_paths(iter([]))),
             (whole.with_type_at(path, DType("utf8")), whole.with_type_at("a.b", "utf8")),
             (FieldPathSet(["a.b", "d"]).unresolved(whole), FieldPathSet(["a.b", "d"]).unresolved(whole.to_source())),
         ):
             self.assertEqual(given, text)
         for call in (DType.list_, path.resolve, whole.merge_columns, lambda it: DType.struct({"a": it})):
             self.assertEqual(self.refused(ErrorKind.UNREADABLE, call, "i33").position, 1)
-        self.refused(ErrorKind.UNREADABLE, whole.project_paths, ["a", "a..b"])
+        for call in (whole.project_paths, whole.without_paths):
+            self.refused(ErrorKind.UNREADABLE, call, ["a", "a..b"])
 
     def test_formats_have_a_width(self):
         self.assertEqual((f"{DType('i8'):>4}", f"{FieldPath('a'):4}|", f"{FieldMask.all():^17}"), ("  i8", "$a  |", " FieldMask.all() "))
@@ -154,6 +157,8 @@ class Calls(unittest.TestCase):
         self.assertEqual((len(other), len(paths)), (5, 4))
         self.assertEqual(DType("{a=i8, b=i8}").project_paths(FieldPathSet(["b"])), DType("{b=i8}"))
         self.assertIsNone(DType("{a=i8}").project_paths(FieldPathSet()))
+        self.assertEqual(DType("{a=i8, b=list(i8)}?").without_paths(["b.[]"]), DType("{a=i8}?"))
+        self.assertIsNone(DType("list(i8)").without_paths(FieldPathSet(["[]"])))
 
         def failing():
             yield "p"

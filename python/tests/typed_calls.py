@@ -69,6 +69,7 @@ def of_paths() -> None:
     above: Optional[FieldPath] = path.parent()
     dtype: tuple[Optional[DType], Optional[DType]] = (path.resolve(DType("i8")), path.resolve("i8"))
     part: Optional[DType] = DType.struct({"a": "i8"}).project_paths(["a", path])
+    left: Optional[DType] = DType.struct({"a": "i8"}).without_paths(["a", path])
     replaced: Optional[DType] = DType.struct({"a": "i8"}).with_type_at(path, "u8")
     paths: FieldPathSet = FieldPathSet(["a.b", path])
     members: MutableSet[FieldPath] = paths

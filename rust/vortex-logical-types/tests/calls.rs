@@ -287,6 +287,42 @@ fn a_part_is_replaced() {
     }
 }
 
+#[test]
+fn parts_are_left_out() {
+    for (whole, paths, left) in [
+        (
+            "{a={b=i32, c=u8}?, d=utf8}?",
+            &["a.b", "d"][..],
+            Some("{a={c=u8}?}?"),
+        ),
+        (
+            "{a={b=i32}?, d=utf8}",
+            &["a.b", "x"],
+            Some("{a={}?, d=utf8}"),
+        ),
+        ("{a=i32}?", &["a"], Some("{}?")),
+        (
+            "{a=list({b=i32, c=u8})?, f=fixed_size_list({b=i8})[3]?}",
+            &["a.[].b", "f.[].b"],
+            Some("{a=list({c=u8})?, f=fixed_size_list({})[3]?}"),
+        ),
+        ("{a=list(list(i32)), b=u8}", &["a.[].[]"], Some("{b=u8}")),
+        ("{a=i32, b=u8, a={b=i8}}", &["a"], Some("{b=u8}")),
+        (
+            "{a=i32, b=u8, a={b=i8}}",
+            &["a.b"],
+            Some("{a=i32, b=u8, a={}}"),
+        ),
+        ("union(a=i32)", &["a", "[]"], Some("union(a=i32)")),
+        ("{a=i32, b=u8}", &[], Some("{a=i32, b=u8}")),
+        ("{a=i32}", &["."], None),
+        ("list(list(i32))", &["a", "[].[]"], None),
+    ] {
+        let found = dtype(whole).without_paths(&set(paths));
+        assert_eq!(found, left.map(dtype), "{whole}");
+    }
+}
+
 fn merged(one: &str, other: &str) -> Option<String> {
     let both = dtype(one).merge_columns(&dtype(other));
     both.map(|it| it.to_source())

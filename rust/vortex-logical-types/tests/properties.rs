@@ -190,6 +190,23 @@ proptest! {
     }
 
     #[test]
+    fn what_is_left_out_leads_nowhere(dtype in dtype(), at in vec(any::<prop::sample::Index>(), 0..4)) {
+        let all = inside(&dtype);
+        let out: Vec<&FieldPath> = at.iter().map(|at| at.get(&all)).collect();
+        let Some(left) = dtype.without_paths(&out.iter().copied().collect()) else {
+            prop_assert!(out.iter().any(|path| !path.parts().iter().any(Field::is_named)));
+            return Ok(());
+        };
+        for path in &all {
+            if out.iter().any(|it| path.starts_with(it)) {
+                prop_assert!(!path.exists_in(&left));
+            } else if !out.iter().any(|it| path.overlap(it)) {
+                prop_assert_eq!(path.resolve(&left), path.resolve(&dtype));
+            }
+        }
+    }
+
+    #[test]
     fn sets_are_like_sets_of_rust(one in vec(path(), 0..8), other in vec(path(), 0..8)) {
         let (a, b) = (found(&one), found(&other));
         let (x, y): (FieldPathSet, FieldPathSet) = (one.iter().collect(), other.into_iter().rev().collect());

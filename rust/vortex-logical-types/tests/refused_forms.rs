@@ -163,6 +163,10 @@ fn of_types() -> Vec<Tried> {
             let (all, path, new) = (type_of(), path(), other.clone());
             move || dtype_edits::try_with_type_at(&all, &path, &new)
         }),
+        tried("try_without_paths", {
+            let (all, paths) = (type_of(), FieldPathSet::from([path()]));
+            move || dtype_edits::try_without_paths(&all, &paths)
+        }),
         tried("try_project_paths", {
             let (all, paths) = (
                 wide(),

@@ -17,6 +17,7 @@ pub const SETS: &[Row] = rows! {
     ["set", "NAME new|insert PATH|extend PATH PATH..|contains PATH|below PATH|missing T|compare PATH..|union PATH..|iter|cover|drain|drop", "s insert a.c", "new makes an empty set with this name; insert and extend add paths, and make the set too if there is none; contains prints whether a path is in it, below how its paths continue after a path, missing those that a type lacks, compare how many paths it and the set of other paths have and how the two are related, union the paths of both, iter all, cover the fewest that cover it; drain prints the same and empties the set; drop removes it", "condition: at most 16 sets; unknown: the set"] (|call, console| console.sets.answer(call, CHANGES, &MAKES, change))
     ["sets", "", "", "the names of the sets, in the order in which they were made"] (|call, console| call.last().and_then(|()| call.say(Joined(" ", console.sets.names()))))
     ["project_paths", "T PATH..", "{a=list({b=u32, c=utf8})?, d=bool} a.[].b", "the part of the type that a reader of the paths opens, or none if none of the paths exists in the type"] (dtype: DType, paths: FieldPathSet => dtype.try_project_paths(&paths)?)
+    ["without_paths", "T PATH..", "{a={b=i32, c=u8}?, d=utf8} a.b d", "the type without the parts to which the paths lead, or none if nothing is left"] (dtype: DType, paths: FieldPathSet => dtype.try_without_paths(&paths)?)
 };
 
 /// What `set` does to a set, and what makes one if there is none.

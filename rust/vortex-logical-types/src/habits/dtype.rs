@@ -201,6 +201,36 @@ impl DType {
         crate::dtype_projection::try_project_paths(self, paths)
     }
 
+    /// Returns the type without the parts to which the paths lead, or `None` if nothing is left. It is the complement of
+    /// `project_paths`. A path that doesn't exist in the type changes nothing.
+    ///
+    /// If several fields of a struct have the same name, a path leads to each of them here. A struct that loses all its
+    /// fields stays, without fields. A list goes with its element, because a list without one isn't a type. So nothing is
+    /// left exactly if a path of element steps alone, such as the root, is in the set and exists in the type.
+    ///
+    /// ```
+    /// use vortex_logical_types::{DType, FieldPathSet};
+    ///
+    /// let orders: DType = "{id=u32, card={number=utf8}?, lines=list({sku=utf8, note=utf8?})}".parse()?;
+    /// let hidden = FieldPathSet::parse(["card.number", "lines.[].note"])?;
+    /// assert_eq!(orders.without_paths(&hidden), Some("{id=u32, card={}?, lines=list({sku=utf8})}".parse()?));
+    /// assert_eq!(orders.without_paths(&FieldPathSet::parse(["."])?), None);
+    /// # Ok::<(), vortex_logical_types::Error>(())
+    /// ```
+    #[must_use]
+    pub fn without_paths(&self, paths: &FieldPathSet) -> Option<Self> {
+        or_abort(self.try_without_paths(paths))
+    }
+
+    /// Returns what `without_paths` returns.
+    ///
+    /// # Errors
+    ///
+    /// - `OutOfMemory` (0): an allocation fails, or a reference count is at its maximum.
+    pub fn try_without_paths(&self, paths: &FieldPathSet) -> VortexResult<Option<Self>> {
+        crate::dtype_edits::try_without_paths(self, paths)
+    }
+
     /// Returns the type with the part at the path replaced by `new`, or `None` if there is no part at the path. If several
     /// fields of a struct have the same name, the first is replaced. The new type has its own nullability, and every other
     /// part keeps its own. At the root it returns a copy of `new`.

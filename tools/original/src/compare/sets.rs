@@ -129,6 +129,7 @@ fn with_type(round: &mut Round, sets: &Sets, it: &Pair) {
     same! { round, format!("{:?} of {}", sets.ours, it.text());
         "unresolved" => sorted(sets.ours.unresolved(&it.ours).iter().copied()), sorted(unresolved);
         "project_paths" => Some(it.ours.project_paths(&sets.ours)), models::project_paths(&it.theirs, &parts).ok();
+        "without_paths" => Some(it.ours.without_paths(&sets.ours)), models::without_paths(&it.theirs, &parts).ok();
     }
 }
 

@@ -338,6 +338,33 @@ pub fn with_type_at(dtype: &DType, path: &[Field], new: &DType) -> Answer<Option
     with_parts(dtype, parts, is_marked(dtype).into()).map(Some)
 }
 
+/// A type without what the paths lead to, none where nothing is left of it: a list goes with its element, and a struct
+/// stays. Each field of a name counts.
+pub fn without_paths(dtype: &DType, paths: &[&[Field]]) -> Answer<Option<DType>> {
+    if paths.iter().any(|path| path.is_empty()) {
+        return Ok(None);
+    }
+    let steps = steps(dtype);
+    if steps.is_empty() {
+        return Ok(Some(dtype.clone()));
+    }
+    let (mut names, mut left) = (Vec::new(), Vec::new());
+    for (step, part) in steps.iter().zip(parts(dtype)) {
+        let below = paths
+            .iter()
+            .filter_map(|path| path.split_first().filter(|(first, _)| *first == step).map(|(_, rest)| rest));
+        if let Some(part) = without_paths(&part, &below.collect::<Vec<_>>())? {
+            names.extend(step.as_name().map(FieldName::from));
+            left.push(part);
+        }
+    }
+    match dtype {
+        DType::Struct(_, nullability) => Ok(Some(DType::Struct(StructFields::new(names.into(), left), *nullability))),
+        _ if left.is_empty() => Ok(None),
+        _ => with_parts(dtype, left, is_marked(dtype).into()).map(Some),
+    }
+}
+
 /// The projection of a type to paths, none where no path exists in it: a part is whole where a path ends at it, else
 /// what is kept of it by the paths through it. Of the fields of a name the first counts.
 pub fn project_paths(dtype: &DType, paths: &[&[Field]]) -> Answer<Option<DType>> {

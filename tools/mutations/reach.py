@@ -113,4 +113,4 @@ def rests_on(crate, mutation):
         folders = {it.name for it in changed} | {f"+{it}" for it in mutation.cycles}
         own += [text_of(it) for it in sources_of(crate, ("proofs",), (".antt",))
                 if os.path.basename(it) in OF_A_FUNCTION and os.path.basename(os.path.dirname(it)) in folders]
-    return [*own, *reached(crate, [*own, text_of(mutation.file)])]
+    return [*own, *reached(crate, [*own, *(text for _, *texts in mutation.edits for text in texts)])]

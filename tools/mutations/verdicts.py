@@ -9,14 +9,16 @@ import re
 import subprocess
 from collections import namedtuple
 
+from edits import applied
 from repository import (
     RT, below, code_of, crates, dependencies, functions, functions_of, owners_in, text_of,
 )
 
-# `changes` are the pairs of old and new text by file. `functions` are those whose proof must fail, or of an impl of a
-# trait, whose laws must fail, `impl TYPE TRAIT`. `paths` is what a check is asked for them, and `cycles` are those of
-# the functions: the functions of a cycle have one proof, in which each goal begins with the function that it is of.
-Mutation = namedtuple("Mutation", "name file changes functions paths cycles")
+# `edits` are as they are written, and `changes` are the pairs of old and new text by file. `functions` are those whose
+# proof must fail, or of an impl of a trait, whose laws must fail, `impl TYPE TRAIT`. `paths` is what a check is asked for
+# them, and `cycles` are those of the functions: the functions of a cycle have one proof, in which each goal begins with
+# the function that it is of.
+Mutation = namedtuple("Mutation", "name edits changes functions paths cycles")
 FUNCTION = re.compile(r"^(?:fn|impl) ([\w:<>& ]+?): (.*)$", re.M)
 # (behind the name of a record that is long, the line breaks)
 ERROR = re.compile(r"^\./(proofs/\S+?):\d+:\d+: error: (?:`([\w:-]+)`: )?(.*(?:\n  has no .*)?)", re.M)
@@ -42,37 +44,28 @@ def path_of(crate, function):
     return module_of(crate, function.file) if function.owner.trait else function.path.removeprefix("pb::")
 
 
-def read(file):
-    """The mutation that a file has, or None and why it can't be tried. A pair of texts applies to what earlier ones
-    made."""
-    crate, texts, found, impls, source, old = file.split("/")[1], {}, [], [], "", ""
-    for line in text_of(file).splitlines():
-        kind, _, text = line.partition(": ")
-        if kind == "file":
-            source = f"crates/{crate}/{text}"
-            texts.setdefault(source, text_of(source) if os.path.exists(source) else "")
-        elif kind == "old":
-            old = text
-            if texts[source].count(old) != 1:
-                return None, f"{file}: '{old}' doesn't stand in {source} exactly once"
-            at = text_of(source).find(old)
-            inside = [it for it in functions_of(source) if it.start <= at < it.end]
-            found += inside
-            if not inside and source.endswith(".rt"):
-                impls += [(source, it) for it in owners_in(code_of(text_of(source)))
-                          if it.kind == "impl" and it.trait and it.start <= at < it.end]
-        elif kind == "new":
-            texts[source] = texts[source].replace(old, text)
-        elif kind == "fails":
-            found += [it for it in functions([crate]) if it.path == text]
+def read(written):
+    """A mutation as it is tried, or None and why it can't be."""
+    found, impls, crate = [], [], written.crate
+    try:
+        texts = applied(written.edits)
+    except (OSError, ValueError) as why:
+        return None, f"{written.place}: {why}"
+    for source, old, _ in written.edits:
+        at = text_of(source).find(old)
+        inside = [it for it in functions_of(source) if it.start <= at < it.end]
+        found += inside
+        if not inside and source.endswith(".rt"):
+            impls += [(source, it) for it in owners_in(code_of(text_of(source)))
+                      if it.kind == "impl" and it.trait and it.start <= at < it.end]
+    found += [it for it in functions([crate]) if it.path == written.words.get("fails")]
     if not found and not impls:
-        return None, f"{file}: its text is in no function, so it needs a line `fails: FUNCTION`"
+        return None, f"{written.place}: its text is in no function, so it needs a line `fails: FUNCTION`"
     changes = tuple((it, changed_parts(text_of(it), text)) for it, text in texts.items())
-    name = os.path.basename(file).removesuffix(".edit")
     names = {it.path for it in found} or {f"impl {it.type} {it.trait}" for _, it in impls}
     paths = {path_of(crate, it) for it in found} or {module_of(crate, file) for file, _ in impls}
     cycles = {name for it in found for line in it.attributes for name in re.findall(r"^#\[cycle\((\w+)", line)}
-    return Mutation(name, file, changes, frozenset(names), frozenset(paths), frozenset(cycles)), None
+    return Mutation(written.name, written.edits, changes, frozenset(names), frozenset(paths), frozenset(cycles)), None
 
 
 def changed_parts(before, after):

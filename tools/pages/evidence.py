@@ -6,8 +6,8 @@ it, the mutations of it that the prover rejects, and what shows it. And the chec
 
 An item has the name of its heading on the pages, as `FieldPathSet::insert`, `PartialEq for Field` or `PType`. A
 law names what it is about in the last paragraph of its comment, as "About [`FieldPath::resolve`]." A mutation is of the
-public function whose body it changes; one of a private function, of a derive or of a constant names the items in a line
-`of:`, separated by commas. A line of the console's expected answers belongs to the calls of its command
+public function whose body it changes; one of a private function, of a derive or of a constant names the items behind its
+name, as `NAME of ITEM, ITEM`. A line of the console's expected answers belongs to the calls of its command
 (examples.py), and a test to the calls in its body. What a call or a test runs by the file run_by is shown by that."""
 import os
 import re
@@ -15,6 +15,7 @@ from collections import defaultdict
 from glob import glob
 
 import console
+from edits import mutations_of
 from examples import commands, item_of, listed
 from repository import KEPT, anchor_of, bare, crates, functions, functions_of, law_of, libraries, public_calls, text_of
 
@@ -55,22 +56,14 @@ def laws():
 
 
 def mutations():
-    """The mutations of the libraries: each its file, the items that it is of, and the functions that it changes."""
+    """The mutations of the libraries: each as it is written, the items that it is of, and the functions that it changes."""
     public = {(it.file, it.start): item_of(it) for _, it in public_calls()}
-    for file in sorted(glob("crates/*/wrong/*.edit")):
-        crate, text, source, named, changed = file.split("/")[1], text_of(file), "", [], []
-        if crate not in libraries():
-            continue
-        for kind, rest in re.findall(r"(?m)^(file|of|old): (.*)$", text):
-            if kind == "file":
-                source = f"crates/{crate}/{rest}"
-            elif kind == "of":
-                named += [it.strip() for it in rest.split(",")]
-            elif source.endswith(".rt") and os.path.exists(source):
-                at = text_of(source).find(rest)
-                changed += [it for it in functions_of(source) if it.start <= at < it.end]
-        named += [public[it.file, it.start] for it in changed if (it.file, it.start) in public]
-        yield file, list(dict.fromkeys(named)), {it.path for it in changed}
+    for it in (it for crate in libraries() for it in mutations_of(crate)):
+        places = [(source, text_of(source).find(old)) for source, old, _ in it.edits
+                  if source.endswith(".rt") and os.path.exists(source)]
+        changed = [function for source, at in places for function in functions_of(source) if function.start <= at < function.end]
+        named = it.of + [public[of.file, of.start] for of in changed if (of.file, of.start) in public]
+        yield it, list(dict.fromkeys(named)), {of.path for of in changed}
 
 
 class Graph:
@@ -160,9 +153,9 @@ class Evidence:
         for crate, law, about in laws():
             for item in about:
                 self.laws[item].append((crate, law))
-        for file, of, _ in mutations():
+        for mutation, of, _ in mutations():
             for item in of:
-                self.mutations[item].append(file)
+                self.mutations[item].append(mutation.name)
         self.lines, self.tests, self.runners = lines_by_item(), tests_by_item(), defaultdict(list)
         for runner, calls in listed().items():
             for call in calls if "::" in runner else ():
@@ -174,8 +167,7 @@ class Evidence:
             links = (f"[`{law}`]({crate}.md#{anchor_of(law)})" for crate, law in found)
             yield f"- laws: {', '.join(links)}"
         if found := list(dict.fromkeys(self.mutations.get(name, ()))):
-            names = (f"`{os.path.basename(it).removesuffix('.edit')}`" for it in found)
-            yield f"- mutations that are rejected: {', '.join(names)}"
+            yield f"- mutations that are rejected: {', '.join(f'`{it}`' for it in found)}"
         shown = list(self.shown_by(name, paths))
         if shown:
             yield f"- shown by: {'; '.join(shown)}"
@@ -218,14 +210,15 @@ def faults(names, behind):
         if not about:
             found.append((f"crates/{crate}", f"the law {law} names no call: its comment ends with \"About [`CALL`].\""))
         found += [(f"crates/{crate}", f"the law {law} is about {it}, which isn't there") for it in about if it not in names]
-    for file, of, changed in mutations():
+    for mutation, of, changed in mutations():
         count += 1
-        found += [(file, f"is of {it}, which isn't there") for it in of if it not in names]
+        told = lambda text, it=mutation: (it.place, f"{it.name} {text}")
+        found += [told(f"is of {it}, which isn't there") for it in of if it not in names]
         if not of:
-            found.append((file, "is of no public item: name it in a line `of:`"))
+            found.append(told("is of no public item: name one behind it, as `NAME of ITEM`"))
         reached = set().union(*map(graph.below, of))
         if reached and changed and not changed & reached:
-            found.append((file, f"changes {', '.join(sorted(changed))}, which {' and '.join(of)} doesn't reach"))
+            found.append(told(f"changes {', '.join(sorted(changed))}, which {' and '.join(of)} doesn't reach"))
     calls = public_calls()
     fixed = {it.path for _, it in calls if any(clause.kind == "ensures" for clause in it.clauses)}
     for _, it in calls:

@@ -13,7 +13,7 @@ CRATE = "crates/uses"
 # Two functions, and mutations of each.
 SOURCE = "pub fn one() -> u8 {\n    1\n}\n\npub fn two() -> u8 {\n    2\n}\n"
 CHANGED = SOURCE.replace("    1\n", "    let a = 5;\n    1\n")
-ONE, TWO = "file: src/two.rt\nold:     1\nnew:     3\n", "file: src/two.rt\nold:     2\nnew:     4\n"
+ONE, TWO = "-     1\n+     3\n", "-     2\n+     4\n"
 # What a check says of the function `one`, and after it of `two`.
 BY_SEARCH = "no proof: expected answers in ./proofs/two/one/Answers.antt; `search` did not prove `returns-clause-is`"
 # What it says of both, if they are of one cycle.
@@ -24,7 +24,7 @@ NO_FIELD = "./proofs/two/two/Answers.antt:7:1: error: `c.two` has no field `thre
 NO_FIELD_BROKEN = "./proofs/two/two/Answers.antt:7:1: error: `returns`: record `R.two.After-one` (nearest: .one-2)\n  has no field `one`"
 # The impl of a trait with a law, and what a check says of it.
 IMPL = "\npub trait Wide {\n    const X: u8;\n}\n\nimpl Wide for u8 {\n    const X: u8 = 5;\n}\n"
-WIDER = "file: src/two.rt\nold:     const X: u8 = 5;\nnew:     const X: u8 = 6;\n"
+WIDER = "-     const X: u8 = 5;\n+     const X: u8 = 6;\n"
 LAWS = "Rattle.uses.specs.contracts.two.U8Wide.TheImpl.Laws"
 BY_LAW = f"not proved; antt refuses `wide_law-value` in `{LAWS}`: help: mend the term at the error above"
 UNFINISHED = f"not proved; antt did not finish `{LAWS}`, for what it cites"
@@ -38,8 +38,8 @@ class Mutations(Planted):
 
     def tried(self, mutations, *said):
         """What the tool prints of these mutations, and its status, where a check says this; each check is counted."""
-        for name, text in mutations.items():
-            self.write(f"{CRATE}/wrong/{name}.edit", text)
+        written = [f"{name}\n{text}" for name, text in mutations.items()]
+        self.write(f"{CRATE}/wrong.txt", f"file: src/two.rt\n{''.join(written)}")
         lines = "\n".join([*said, "only=1 holes=0"])
         self.write("said", f"{lines}\n")
         self.script("rt", "[ \"$1\" != version ] || echo kit")
@@ -109,16 +109,16 @@ class Mutations(Planted):
 
     def test_what_is_recorded_is_not_tried_again(self):
         said = f"fn uses::two::one: {BY_SEARCH}"
-        for crate in set(glob(f"{self.top}/crates/*/wrong")) - {f"{self.top}/{CRATE}/wrong"}:
-            shutil.rmtree(crate)
+        for file in glob(f"{self.top}/crates/*/wrong.txt"):
+            os.remove(file)
         of_another, of_none = ("tests z 0 refused by returns\n", "gone z 1 refused by returns\n")
-        self.write("crates/tests/wrong/z.edit", "")
+        self.write("crates/tests/wrong.txt", f"file: src/main.rt\nz\n{ONE}")
         self.write("tools/mutations/refused.txt", of_another + of_none)
         self.tried({"a": ONE}, said)
         self.assertEqual(self.run_tool("mutations", "--record", "uses")[0], 0)
         line = r"uses a [0-9a-f]{64} refused by returns-clause-is\n"
         self.assertRegex(self.read("tools/mutations/refused.txt"), rf"\A{of_another}{line}\Z")
-        shutil.rmtree(f"{self.top}/crates/tests/wrong")
+        os.remove(f"{self.top}/crates/tests/wrong.txt")
         self.assertEqual(self.run_tool("mutations", "--record")[0], 0)
         self.assertRegex(self.read("tools/mutations/refused.txt"), rf"\A{line}\Z")
         shutil.rmtree(f"{self.top}/cache")
@@ -150,7 +150,7 @@ class Mutations(Planted):
     def test_a_method_is_named_by_its_type(self):
         self.write(f"{CRATE}/src/two.rt", f"{SOURCE}\nimpl Three {{\n    pub fn three() -> u8 {{\n        5\n    }}\n}}\n")
         said = f"fn uses::three::Three::three: {BY_SEARCH}"
-        self.assertEqual(self.tried({"a": "file: src/two.rt\nold:         5\nnew:         6\n"}, said)[0], 0)
+        self.assertEqual(self.tried({"a": "-         5\n+         6\n"}, said)[0], 0)
         self.assertIn("--only Three::three", self.read("checks"))
 
     def test_goals_of_one_cycle_name_their_functions(self):
@@ -246,14 +246,39 @@ class Mutations(Planted):
             self.assertEqual((found, "a library below isn't proved" in said), (status, status == 1), said)
 
     def test_a_text_that_is_not_there_fails(self):
-        status, said = self.tried({"a": "file: src/two.rt\nold:     7\nnew:     3\n"})
+        status, said = self.tried({"a": "-     7\n+     3\n"})
         self.assertEqual(status, 1)
-        self.assertIn("'    7' doesn't stand in crates/uses/src/two.rt exactly once", said)
+        self.assertIn("crates/uses/wrong.txt:2: '    7' doesn't stand in crates/uses/src/two.rt exactly once", said)
+
+    def test_an_edit_may_have_several_lines_and_a_mutation_several_edits(self):
+        edits = "# Both\n- pub fn one() -> u8 {\n-     1\n+ pub fn one() -> u8 {\n+     let a = 5;\n+     a\n\n-     a\n+     a + 1\n"
+        status, said = self.tried({"a of CALL": edits}, f"fn uses::two::one: {BY_SEARCH}")
+        self.assertEqual((status, said.splitlines()[0]), (0, "uses: a: refused by returns-clause-is"))
+        self.script("rattle", f"cat src/two.rt >{self.top}/planted; cat {self.top}/said")
+        self.run_tool("mutations", "--anew", "uses")
+        self.assertEqual(self.read("planted"), SOURCE.replace("    1\n", "    let a = 5;\n    a + 1\n"))
+
+    def test_what_is_no_mutation_is_told(self):
+        head = "file: src/two.rt\n"
+        for text, told in (
+            (f"{head}a\n", "wrong.txt:2: a needs lines `- OLD`"),
+            (f"{head}a\n-     1\n", "wrong.txt:2: a needs lines `- OLD`"),
+            (f"{head}a\n+     1\n", "wrong.txt:2: a needs lines `- OLD`"),
+            (f"{head}a\n{ONE}b\n{TWO}-     3\n", "wrong.txt:5: b needs lines `- OLD`"),
+            (f"{head}a\n{ONE}a\n{TWO}", "wrong.txt:5: `a` is neither"),
+            (f"{head}{ONE}", "wrong.txt:2: `-     1` is neither"),
+            (f"a\n{ONE}", "wrong.txt:2: `-     1` is neither"),
+            (f"{head}a\n{ONE}fails: one\n", "wrong.txt:5: `fails: one` is neither"),
+            (f"{head}a\nold:     1\n", "wrong.txt:3: `old:     1` is neither"),
+        ):
+            self.write(f"{CRATE}/wrong.txt", text)
+            status, said = self.run_tool("mutations", "uses")
+            self.assertEqual((status, told in said), (2, True), (text, said))
 
     def test_a_text_in_no_function_needs_the_name_of_one(self):
         constant = f"{SOURCE}\npub const X: u8 = 5;\n"
         self.write(f"{CRATE}/src/two.rt", constant)
-        edit = "file: src/two.rt\nold: pub const X: u8 = 5;\nnew: pub const X: u8 = 6;\n"
+        edit = "- pub const X: u8 = 5;\n+ pub const X: u8 = 6;\n"
         self.assertIn("it needs a line `fails: FUNCTION`", self.tried({"a": edit})[1])
         said = f"fn uses::two::one: {BY_SEARCH}"
         self.assertEqual(self.tried({"a": f"fails: one\n{edit}"}, said)[0], 0)
@@ -275,4 +300,4 @@ class Mutations(Planted):
 
     def test_a_crate_without_mutations_is_told(self):
         status, said = self.run_tool("mutations", "tests")
-        self.assertEqual((status, said), (2, "mutations: there is no crates/tests/wrong\n"))
+        self.assertEqual((status, said), (2, "mutations: there are no mutations in crates/tests/wrong.txt\n"))

@@ -2,13 +2,11 @@
 # SPDX-FileCopyrightText: Copyright the Vortex contributors
 
 """tools/mutations/test_mutations, over an `rt try` and a Cargo that do as the number in a source says."""
-import shutil
-
 from planted import Planted
 
 CRATE = "crates/dtype_base"
 SOURCE = "pub fn one() -> u8 {\n    1\n}\n"
-EDIT = "file: src/two.rt\nold:     1\nnew:     {}\nfails: {}\nsays: {}\n"
+EDIT = "file: src/two.rt\nNAME\nfails: {1}\nsays: {2}\n-     1\n+     {0}\n"
 # With 1 all is as it should be. With 2 a test fails, and with 4 nothing compiles.
 TRY = """#!/usr/bin/env python3
 import re
@@ -29,15 +27,14 @@ TESTED, COMPILED = "cargo test -p erase", "cd crates/tests && rt try"
 class TestMutations(Planted):
     def setUp(self):
         super().setUp()
-        shutil.rmtree(f"{self.top}/{CRATE}/wrong_for_tests", ignore_errors=True)
         self.write(f"{CRATE}/src/two.rt", SOURCE)
         self.write("bin/rt", TRY, 0o755)
         self.write("bin/cargo", CARGO, 0o755)
 
     def tried(self, *edits):
         """The status of the tool over these mutations, and what it prints."""
-        for at, text in enumerate(edits):
-            self.write(f"{CRATE}/wrong_for_tests/m{at}.edit", text)
+        written = [text.replace("NAME", f"m{at}") for at, text in enumerate(edits)]
+        self.write(f"{CRATE}/wrong_for_tests.txt", "".join(written))
         return self.run_tool("test_mutations", "dtype_base")
 
     def assert_told_of(self, edits, *told):
@@ -64,7 +61,7 @@ class TestMutations(Planted):
 
     def test_what_cannot_be_tried_is_told(self):
         edit = EDIT.format(2, TESTED, "seventy")
-        self.assert_told_of([edit.replace("says", "tells"), edit.replace("two.rt", "three.rt"),
-                             edit.replace("old:     1", "old:     7")],
+        self.assert_told_of([edit.replace("says: seventy\n", ""), edit.replace("two.rt", "three.rt"),
+                             edit.replace("-     1", "-     7")],
                             "m0: can't be tried: it lacks a line", "m1: can't be tried: [Errno 2] No such file",
                             "m2: can't be tried: '    7' doesn't stand in crates/dtype_base/src/two.rt exactly once")

@@ -74,6 +74,10 @@ class Borders(Planted):
         self.change("crates/vortex_dtype/specs/Lib.antt", "", "pub use Rattle.dtype_base.specs.Hidden\n")
         self.assertNotIn("can't be named", self.run_tool("borders")[1])
 
+    def test_tells_a_file_that_nothing_reads(self):
+        self.write("crates/dtype_base/wrong/name_is_empty.edit", "file: src/field_name.rt\n")
+        self.assert_told("borders", "crates/dtype_base/wrong: nothing reads it")
+
     def test_tells_what_rt_ci_refuses(self):
         os.symlink("LICENSE", f"{self.top}/docs/LICENSE")
         for file in ("crates/dtype_base/specs/names.rt", "docs/Names.antt", "crates/no_crate/src/lib.rt", "rust/crates.txt"):

@@ -6,6 +6,7 @@ from planted import Planted
 
 LAWS = "crates/dtype_paths/src/laws.rt"
 PTYPE = "crates/dtype_base/src/ptype.rt"
+MUTATION = "open_counts_no_visit of FieldPathSet::into_iter_counted"
 
 
 class Reference(Planted):
@@ -25,13 +26,12 @@ class Reference(Planted):
         self.assert_fails("is about FieldPath::exists, which isn't there")
 
     def test_a_mutation_of_no_item_fails(self):
-        self.change("crates/dtype_paths/wrong/open_counts_no_visit.edit", "of: FieldPathSet::into_iter_counted\n", "")
-        self.assert_fails("open_counts_no_visit.edit: is of no public item")
+        self.change("crates/dtype_paths/wrong.txt", f"{MUTATION}\n", "open_counts_no_visit\n")
+        self.assert_fails("open_counts_no_visit is of no public item")
 
     def test_a_mutation_of_a_call_that_does_not_reach_it_fails(self):
-        self.change("crates/dtype_paths/wrong/open_counts_no_visit.edit", "of: FieldPathSet::into_iter_counted",
-                    "of: FieldPath::parts")
-        self.assert_fails("changes Node::open, which FieldPath::parts doesn't reach")
+        self.change("crates/dtype_paths/wrong.txt", f"{MUTATION}\n", "open_counts_no_visit of FieldPath::parts\n")
+        self.assert_fails("open_counts_no_visit changes Node::open, which FieldPath::parts doesn't reach")
 
     def test_a_call_without_a_clause_fails(self):
         self.change(PTYPE, "impl PType {", "impl PType {\n    pub fn digits(self) -> u8 {\n        0\n    }\n")

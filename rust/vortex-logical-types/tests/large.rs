@@ -131,6 +131,7 @@ fn hash_of(value: &(impl Hash + ?Sized)) -> u64 {
 #[test]
 fn fields_and_ids_hash_as_what_they_hold() {
     let byte = FieldDType::from(PType::U8);
+    assert_eq!(byte.value(), &DType::BYTES);
     assert_eq!(hash_of(&byte.clone()), hash_of(&DType::BYTES));
     assert_ne!(hash_of(&byte), hash_of(&DType::Null));
     assert_ne!(byte, FieldDType::from(PType::U16));

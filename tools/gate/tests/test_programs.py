@@ -27,13 +27,13 @@ RUNS = [
     ("bin/rt", KIT.format("proves every crate from nothing"), "run_ci --expect", 0,
      "gate: the kit at hand, rattle-kit-1, proves everything from nothing in each run"),
     ("bin/cargo", 'case "$CARGO_TARGET_DIR/" in / | "$PWD"/*) exit 1;; esac; echo "test result: ok. 2 passed; 0 failed; 0 ignored"',
-     "cargo_runs", 0, "\n9 passed, 0 failed\n"),
+     "cargo_runs", 1, "cargo_runs: Cargo names no program of the tests", "\n9 passed, 1 failed\n"),
     ("bin/cargo", 'case "$*" in *--release*) echo "test two ... FAILED"; echo "test result: FAILED. 1 passed; 2 failed"; exit 101;; '
      '*) echo "test result: ok. 2 passed; 0 failed";; esac', "cargo_runs", 1, "    test two ... FAILED\n",
-     "cargo_runs: tests, as released: 2 tests failed\n7 passed, 2 failed\n"),
-    ("bin/cargo", "", "cargo_runs", 1, "cargo_runs: tests: no test was run\n", "\n3 passed, 2 failed\n"),
+     "cargo_runs: tests, as released: 2 tests failed\n", "\n7 passed, 3 failed\n"),
+    ("bin/cargo", "", "cargo_runs", 1, "cargo_runs: tests: no test was run\n", "\n3 passed, 3 failed\n"),
     ("bin/cargo", 'case "$*" in *clippy*) echo "error: an unused name"; exit 101;; *) echo "test result: ok. 2 passed; 0 failed";; esac',
-     "cargo_runs", 1, "    error: an unused name\ncargo_runs: clippy: it failed\n", "\n8 passed, 1 failed\n"),
+     "cargo_runs", 1, "    error: an unused name\ncargo_runs: clippy: it failed\n", "\n8 passed, 2 failed\n"),
     ("bin/rt", "", "faults", 2, "isn't built"),
 ]
 

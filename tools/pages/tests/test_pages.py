@@ -1,12 +1,11 @@
 # SPDX-License-Identifier: Apache-2.0
 # SPDX-FileCopyrightText: Copyright the Vortex contributors
 
-"""tools/pages/pages, with what it checks by examples.py, speed.py and tools/pages/reference."""
+"""tools/pages/pages, with what it checks by speed.py and tools/pages/reference."""
 from planted import Planted
 
 NAME = "crates/dtype_base/src/field_name.rt"
 TABLE = "rust/console/src/commands/paths.rs"
-RUN_BY = "tools/pages/run_by"
 CALLING = "crates/vortex_dtype/CALLING.md"
 CHANGES = [
     ("README.md", "", "```rust\nlet gone = FieldName::gone();\n```\n", "README.md:LINE: no source has this block"),
@@ -19,13 +18,7 @@ CHANGES = [
     ("docs/GUIDE.md", "| 0 |", "| 1 |", "docs/GUIDE.md: lacks error 0, OutOfMemory"),
     ("docs/CONSOLE.md", "`name NAME`", "`gone NAME`", "docs/CONSOLE.md: has no such command gone NAME"),
     (TABLE, 'byte by byte"]', 'byte by byte", "Io (1)"]', "name_cmp: there is no error Io"),
-    ("rust/console/src/commands/types.rs", "a.try_merge_nullability(&b)?", "merged(&b)?",
-     f"{RUN_BY}: merge_nullability, which allocates, isn't run"),
-    (TABLE, '"from_step"', '"step"', "FieldPath::from_field: there is no test from_step"),
-    (RUN_BY, "", "tests::gone: FieldName::new;\n", "FieldName::new: there is no test tests::gone"),
-    (RUN_BY, "", "FieldName::inner: FieldName::gone;\n", "FieldName::gone: is no public call"),
-    (RUN_BY, "", "DType::kind: FieldName::from_inner;\n", "FieldName::from_inner: DType::kind makes no call of it"),
-    (RUN_BY, "", "go*: FieldName::inner;\n", "go*: there is no such command"),
+    ("rust/console/tests/transcript.txt", "> native_integer u16 ", "> native_integer u8 ", "no line has native_integer u16"),
     ("docs/TRUST.md", "", "\n| [`E`](../crates/dtype_base/specs/Errors.antt) | 900 | errors |\n", " lines, not 900"),
     ("docs/TRUST.md", "", "\nsome 4 lines of `specs/`\n", " lines, not 4\n"),
     ("docs/TRUST.md", "", "\n```sh\ntools/gone\n```\n", "docs/TRUST.md: there is no tools/gone"),
@@ -52,7 +45,6 @@ class Pages(Planted):
 
     def test_the_reference_says_what_a_call_does(self):
         self.change(NAME, "/// Returns the name with this text. The text is copied.", "/// Returns a name.")
-        self.change("rust/console/tests/transcript.txt", "", "> name b c\nrefused 0: out of memory\n")
         self.run_tool("reference", "made")
         self.assertIn("""
 ### `FieldName::new`
@@ -60,8 +52,6 @@ Returns a name.
 - `fn new(alloc: Global, text: &str) -> VortexResult<Self>`
 - **error** `OutOfMemory` (0): an allocation fails.
 - **ensures**: `Makes result (λ n. n ≡ text.now)`
-- console: `name "a b"` answers `"a b"`
-- console: `name b c` answers `refused 0: out of memory`
 """, self.read("made/dtype_base.md"))
         front = self.read("made/README.md")
         self.assertIn("[`FieldPath::resolve`](dtype_paths.md#fieldpathresolve)", front)

@@ -42,11 +42,6 @@ class Reference(Planted):
                     "    fn from(_error: AllocError)", "    fn from(_error: AllocError)")
         self.assert_fails("VortexError::from has no clause")
 
-    def test_a_call_that_nothing_shows_fails(self):
-        self.change(PTYPE, "impl PType {", "impl PType {\n    pub fn digits(self) -> u8\n        ensures { result ≡ 0 }\n"
-                    "    {\n        0\n    }\n")
-        self.assert_fails("PType::digits has neither a mutation nor an expected answer nor a test")
-
     def test_a_page_links_the_sources_from_its_folder(self):
         self.run_tool("reference", "made/here/reference")
         page = self.read("made/here/reference/dtype_paths.md")

@@ -87,7 +87,7 @@ pub const PRIMITIVES: &[Row] = rows! {
 };
 
 pub const NATIVE: &[Row] = rows! {
-    ["to_le_bytes", "INT V", "i16 -2", "the bytes of the value, the least significant byte first"] (T in integer; value: T => Hex(T::bytes_of(&value.to_le_bytes())))
+    ["to_le_bytes", "INT V", "i16 -2", "the bytes of the value, the least significant byte first"] (T in integer; value: T => Hex(T::bytes_of(&<T as ToBytes>::to_le_bytes(&value))))
     ["try_from_le_bytes", "INT HEX", "u32 0x010203", "the value with these bytes, of which the first is the least significant", "BytesLength (8)"] (T in integer; bytes: Bytes => T::try_from_le_bytes(&bytes.0)?)
     ["total_compare", "INT V V", "i8 -1 1", "how the first value compares to the second"] (T in integer; value: T, other: T => value.total_compare(other))
     ["native_compare", "INT V V", "i8 1 1", "which of the calls is_le, is_lt, is_ge, is_gt and is_eq return true for the two values"] (T in integer; value: T, other: T => words([

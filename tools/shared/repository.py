@@ -10,7 +10,6 @@ imports it works at the top of the repository, begun in the folder FROM. As a pr
 import os
 import re
 import shutil
-import subprocess
 import sys
 from collections import namedtuple
 from functools import lru_cache

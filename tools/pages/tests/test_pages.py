@@ -18,7 +18,7 @@ CHANGES = [
     ("docs/GUIDE.md", "| 0 |", "| 1 |", "docs/GUIDE.md: lacks error 0, OutOfMemory"),
     ("docs/CONSOLE.md", "`name NAME`", "`gone NAME`", "docs/CONSOLE.md: has no such command gone NAME"),
     (TABLE, 'byte by byte"]', 'byte by byte", "Io (1)"]', "name_cmp: there is no error Io"),
-    ("rust/console/tests/transcript.txt", "> native_integer u16 ", "> native_integer u8 ", "no line has native_integer u16"),
+    ("rust/console/tests/transcript.txt", "> native_integer u16\n", "> native_integer u8\n", "no line has native_integer u16"),
     ("docs/TRUST.md", "", "\n| [`E`](../crates/dtype_base/specs/Errors.antt) | 900 | errors |\n", " lines, not 900"),
     ("docs/TRUST.md", "", "\nsome 4 lines of `specs/`\n", " lines, not 4\n"),
     ("docs/TRUST.md", "", "\n```sh\ntools/gone\n```\n", "docs/TRUST.md: there is no tools/gone"),

@@ -1018,6 +1018,28 @@ impl DType {
         Ok(self.dtype.try_with_type_at(&path.path, &new.dtype)?.map(Self::from))
     }
 
+    /// Returns the parts of the type, which are the types to which paths lead, each as a pair of its path and itself. The
+    /// type itself is the first, at the root. A part comes before the parts inside of it, and the fields of a struct are
+    /// in order. If several fields of a struct have the same name, a path leads to the first of them, so the others are
+    /// left out. No path leads into a map, a union or an extension.
+    ///
+    /// >>> for path, part in DType("{id=u32, lines=list({sku=utf8})?}").parts():
+    /// ...     print(path.to_source(), part.kind.name)
+    /// . STRUCT
+    /// id PRIMITIVE
+    /// lines LIST
+    /// lines.[] STRUCT
+    /// lines.[].sku UTF8
+    #[pyo3(name = "parts", text_signature = "($self)")]
+    fn all_parts<'p>(&self, py: Python<'p>) -> Made<&'p PyList> {
+        let pair = |(path, part): (library::FieldPath, &library::DType)| -> Made<PyObject> {
+            let (path, part) = (FieldPath::from(path), Self::from(part.try_clone()?));
+            Ok((Py::new(py, path)?, Py::new(py, part)?).into_py(py))
+        };
+        let parts: Made<Vec<_>> = self.dtype.parts().map(pair).collect();
+        Ok(PyList::new(py, parts?))
+    }
+
     /// Returns the type of an Arrow schema, field or type, of a table, a data frame or an array, or of anything else that
     /// has the method `__arrow_c_schema__`, `__arrow_c_array__` or `__arrow_c_stream__`, such as those of pyarrow, polars,
     /// DuckDB and nanoarrow. It also takes what such a method returned. What is read stays as it is.

@@ -132,6 +132,14 @@ class Calls(unittest.TestCase):
         for call in (whole.project_paths, whole.without_paths):
             self.refused(ErrorKind.UNREADABLE, call, ["a", "a..b"])
 
+    def test_parts(self):
+        whole = DType("{a={b=u8, c=list({d=i8}?)}, a=i32, e={}, f=map(utf8, i8, keys_sorted=false)?}")
+        parts = whole.parts()
+        self.assertEqual([path.to_source() for path, _ in parts], [".", "a", "a.b", "a.c", "a.c.[]", "a.c.[].d", "e", "f"])
+        for path, part in parts:
+            self.assertEqual(path.resolve(whole), part)
+        self.assertEqual(DType("null").parts(), [(FieldPath.root(), DType("null"))])
+
     def test_formats_have_a_width(self):
         self.assertEqual((f"{DType('i8'):>4}", f"{FieldPath('a'):4}|", f"{FieldMask.all():^17}"), ("  i8", "$a  |", " FieldMask.all() "))
         self.assertEqual((f"{DType('i8')}", format(FieldPathSet(["a"]), "20")), ("i8", "FieldPathSet(['a']) "))

@@ -13,6 +13,7 @@ mod merging;
 mod messages;
 mod names;
 mod native;
+mod parts;
 mod path_sets;
 mod paths;
 #[cfg(feature = "serde")]
@@ -25,6 +26,7 @@ pub mod time;
 
 pub use errors::{Error, ErrorKind};
 pub use merging::MergeConflict;
+pub use parts::Parts;
 pub use path_sets::Below;
 pub use paths::Resolvable;
 pub use sessions::{BrokenLaw, check_plugin};

@@ -1018,6 +1018,18 @@ impl DType {
         Ok(self.dtype.try_with_type_at(&path.path, &new.dtype)?.map(Self::from))
     }
 
+    /// Returns the leaves of the type, which are the paths to the parts into which no step leads further: a step leads
+    /// into a list, and none leads into a struct without fields, a map, a union or an extension. If several fields of a
+    /// struct have the same name, a path leads to the first of them, so the others have no leaves. A path exists in the
+    /// type exactly if it is a prefix of a leaf.
+    ///
+    /// >>> sorted(DType("{id=u32, lines=list({sku=utf8, price=f32})?}").leaf_paths())
+    /// [FieldPath('id'), FieldPath('lines.[].price'), FieldPath('lines.[].sku')]
+    #[pyo3(text_signature = "($self)")]
+    fn leaf_paths(&self) -> Made<FieldPathSet> {
+        Ok(self.dtype.try_leaf_paths()?.into())
+    }
+
     /// Returns the parts of the type, which are the types to which paths lead, each as a pair of its path and itself. The
     /// type itself is the first, at the root. A part comes before the parts inside of it, and the fields of a struct are
     /// in order. If several fields of a struct have the same name, a path leads to the first of them, so the others are

@@ -140,6 +140,11 @@ class Calls(unittest.TestCase):
             self.assertEqual(path.resolve(whole), part)
         self.assertEqual(DType("null").parts(), [(FieldPath.root(), DType("null"))])
 
+    def test_leaves(self):
+        whole = DType("{a={b=u8, c=list({d=i8}?)}, a=i32, e={}, f=map(utf8, i8, keys_sorted=false)?}")
+        self.assertEqual(whole.leaf_paths(), FieldPathSet(["a.b", "a.c.[].d", "e", "f"]))
+        self.assertEqual(DType("i8").leaf_paths(), FieldPathSet(["."]))
+
     def test_formats_have_a_width(self):
         self.assertEqual((f"{DType('i8'):>4}", f"{FieldPath('a'):4}|", f"{FieldMask.all():^17}"), ("  i8", "$a  |", " FieldMask.all() "))
         self.assertEqual((f"{DType('i8')}", format(FieldPathSet(["a"]), "20")), ("i8", "FieldPathSet(['a']) "))

@@ -71,6 +71,7 @@ def of_paths() -> None:
     part: Optional[DType] = DType.struct({"a": "i8"}).project_paths(["a", path])
     left: Optional[DType] = DType.struct({"a": "i8"}).without_paths(["a", path])
     replaced: Optional[DType] = DType.struct({"a": "i8"}).with_type_at(path, "u8")
+    leaves: FieldPathSet = DType.struct({"a": "i8"}).leaf_paths()
     parts: list[tuple[FieldPath, DType]] = DType.struct({"a": "i8"}).parts()
     paths: FieldPathSet = FieldPathSet(["a.b", path])
     members: MutableSet[FieldPath] = paths

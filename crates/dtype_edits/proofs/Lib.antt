@@ -4,3 +4,4 @@
 pub mod lemmas
 mod PlacedFields
 mod LeftFields
+mod LeafSteps

@@ -4,3 +4,5 @@
 -- Lemmas about the definitions, which a caller's proof may cite.
 pub mod Replacing
 pub mod Leaving
+pub mod Leaves
+pub mod LeafProjection

@@ -3,3 +3,4 @@
 
 pub mod Replaced
 pub mod Without
+pub mod Leaves

@@ -2,14 +2,20 @@
 // SPDX-FileCopyrightText: Copyright the Vortex contributors
 
 // Theorems about the definitions. Each function's contract is the theorem, and its body is empty.
-ghost use Rattle.std.specs.Prelude.{◌≡◌, ◌++◌, ℕ, false, true, IsTrue, List, None, Some, option_and_then};
+ghost use Rattle.std.specs.Prelude.{◌≡◌, ◌↔◌, ◌++◌, ℕ, false, true, IsTrue, List, None, Some, option_and_then};
+ghost use Rattle.std.specs.FinSet as set;
+ghost use Rattle.std.specs.List.{Contains};
 ghost use Rattle.dtype_types.specs.tree.Tree.{Tree};
 ghost use Rattle.dtype_types.specs.tree.Valid.{Valid};
 ghost use Rattle.dtype_paths.specs.Along.{along};
 ghost use Rattle.dtype_paths.specs.At.{At, ExistsIn};
+ghost use Rattle.dtype_paths.specs.Beginning.{Beginning};
 ghost use Rattle.dtype_paths.specs.Overlaps.{Overlaps};
+ghost use Rattle.dtype_paths.specs.PathOrder.{set_of};
 ghost use Rattle.dtype_paths.specs.PathPredicates.{PathPredicate, after_steps, contains_above, no_path};
 ghost use Rattle.dtype_paths.specs.declared.field.Field.{Field};
+ghost use Rattle.dtype_projection.specs.Projected.{projected};
+ghost use Rattle.dtype_edits.specs.Leaves.{IsLeaf, NamesDiffer, leaves};
 ghost use Rattle.dtype_edits.specs.Replaced.{replaced};
 ghost use Rattle.dtype_edits.specs.Without.{elements, without};
 
@@ -109,4 +115,42 @@ pub fn paths_that_are_left_out_lead_nowhere()
 pub fn what_is_left_of_a_valid_type_is_valid()
     ensures nothing { (t : Tree) → without t no_path ≡ Some t }
     ensures valid { (t u : Tree) (w : PathPredicate) → without t w ≡ Some u → Valid t → Valid u }
+{}
+
+/// For each type `t` and each path `p`, `p` is in the list `leaves t` exactly if it leads to a part of `t` into which no
+/// step leads (`IsLeaf`). For example, the leaves of `{a=list(i32), b={}}` are `a.[]` and `b`: a step leads from `a` into
+/// the list, and none leads from `b` further. With this law a caller can replace the recursion `leaves` by a statement
+/// about single paths.
+///
+/// About [`leaf_paths`].
+pub fn what_leaves_says()
+    ensures { (t : Tree) (p : List Field) → Contains (leaves t) p ↔ IsLeaf t p }
+{}
+
+/// For each type `t` and all leaves `p` and `q` of `t`, if `p` is a prefix of `q`, then they are equal. For example, `a`
+/// is no leaf of `{a=list(i32)}`, because the leaf `a.[]` begins with it. So a reader that opens each leaf opens nothing
+/// twice.
+///
+/// About [`leaf_paths`].
+pub fn no_leaf_is_a_prefix_of_another()
+    ensures { (t : Tree) (p q : List Field) → IsLeaf t p → IsLeaf t q → Beginning p q → p ≡ q }
+{}
+
+/// For each type `t` and each path `p`, `p` exists in `t` exactly if it is a prefix of a leaf of `t`. For example, the
+/// paths of `{a=list(i32), b={}, a=utf8}` are the root, `a`, `a.[]` and `b`, which are the prefixes of the leaves `a.[]`
+/// and `b`. The second field named `a` has no leaf, because a path leads to the first. So the leaves tell which paths a
+/// type has.
+///
+/// About [`leaf_paths`].
+pub fn paths_are_the_prefixes_of_leaves()
+    ensures { (t : Tree) (p : List Field) → ExistsIn t p ↔ ((q : List Field) × IsLeaf t q × Beginning p q) }
+{}
+
+/// For each type `t`, if no two fields of a struct to which a path leads have the same name, then the projection of `t` to
+/// its leaves is `t`. For example, this is true of `{a=list(i32), b={}}`, and not of `{a=i32, a=utf8}`, whose only leaf is
+/// `a` and whose projection is `{a=i32}`. So a reader that opens the leaves reads everything.
+///
+/// About [`leaf_paths`].
+pub fn the_projection_to_the_leaves_is_the_type()
+    ensures { (t : Tree) → NamesDiffer t → projected t (set.contains (set_of (leaves t))) ≡ Some t }
 {}

@@ -1,7 +1,8 @@
 // SPDX-License-Identifier: Apache-2.0
 // SPDX-FileCopyrightText: Copyright the Vortex contributors
 
-//! Types made from other types by paths: a type with one part replaced, and a type without some of its parts.
+//! Types made from other types by paths: a type with one part replaced, and a type without some of its parts. And the paths
+//! of a type: its leaves.
 //!
 //! The following is proved of `with_type_at`:
 //! - It returns a type exactly if the path exists in the original type.
@@ -15,16 +16,23 @@
 //! - Each path of the original type that overlaps no path of the set resolves in the result as in the original type.
 //! - The result is valid if the original type is.
 //!
+//! `leaf_paths` returns the set of the paths to the parts into which no step leads further. It is proved that it contains
+//! exactly these paths, that none of them is a prefix of another, and that a path exists in the type exactly if it is a
+//! prefix of one of them.
+//!
 //! The definitions are in `specs/`:
 //! - `Replaced`: a type with the part at a path replaced, by recursion on the path.
 //! - `Without`: a type without the parts to which some paths lead, by recursion on the type.
+//! - `Leaves`: the leaves of a type, by recursion on the type (`leaves`), and when a path is one (`IsLeaf`).
 //!
 //! `proofs/lemmas` contains the lemmas that callers may cite. `laws` states the theorems about the definitions.
 #![tactic(auto)]
 
 pub mod laws;
+mod leaves;
 mod replace;
 mod without;
 
+pub use leaves::leaf_paths;
 pub use replace::with_type_at;
 pub use without::without_paths;

@@ -159,6 +159,10 @@ fn of_types() -> Vec<Tried> {
             let (a, b) = (type_of(), dtype("{a={b=utf8}}"));
             move || dtype_merging::try_merge_conflict(&a, &b).map(drop)
         }),
+        tried("try_leaf_paths", {
+            let all = type_of();
+            move || dtype_edits::try_leaf_paths(&all)
+        }),
         tried("try_with_type_at", {
             let (all, path, new) = (type_of(), path(), other.clone());
             move || dtype_edits::try_with_type_at(&all, &path, &new)

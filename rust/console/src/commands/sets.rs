@@ -12,6 +12,7 @@ pub const SETS: &[Row] = rows! {
         let (cover, count) = paths.try_into_iter_counted()?;
         (sorted(cover)?, count)
     })
+    ["leaves", "T", "{a=list(i32), b={}, c=map(utf8, u8, keys_sorted=false)}", "the paths to the parts of the type into which no step leads further"] (dtype: DType => sorted(dtype.try_leaf_paths()?.try_into_iter()?)?)
     ["members", "PATH..", "a.b a x", "the paths, each once"] (paths: FieldPathSet => sorted(paths.try_iter()?)?)
     ["contains", "PATH PATH..", "a a.b x", "whether the first path is one of the others"] (path: FieldPath, paths: FieldPathSet => paths.contains(&path))
     ["set", "NAME new|insert PATH|extend PATH PATH..|contains PATH|below PATH|missing T|compare PATH..|union PATH..|iter|cover|drain|drop", "s insert a.c", "new makes an empty set with this name; insert and extend add paths, and make the set too if there is none; contains prints whether a path is in it, below how its paths continue after a path, missing those that a type lacks, compare how many paths it and the set of other paths have and how the two are related, union the paths of both, iter all, cover the fewest that cover it; drain prints the same and empties the set; drop removes it", "condition: at most 16 sets; unknown: the set"] (|call, console| console.sets.answer(call, CHANGES, &MAKES, change))

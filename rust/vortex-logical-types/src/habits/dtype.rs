@@ -257,6 +257,32 @@ impl DType {
     pub fn try_with_type_at(&self, path: &FieldPath, new: &Self) -> VortexResult<Option<Self>> {
         crate::dtype_edits::try_with_type_at(self, path, new)
     }
+
+    /// Returns the leaves of the type, which are the paths to the parts into which no step leads further: a step leads
+    /// into a list, and none leads into a struct without fields, a map, a union or an extension. If several fields of a
+    /// struct have the same name, a path leads to the first of them, so the others have no leaves. A path exists in the
+    /// type exactly if it is a prefix of a leaf.
+    ///
+    /// ```
+    /// use vortex_logical_types::{DType, FieldPathSet};
+    ///
+    /// let orders: DType = "{id=u32, lines=list({sku=utf8, price=f32})?}".parse()?;
+    /// assert_eq!(orders.leaf_paths(), FieldPathSet::parse(["id", "lines.[].sku", "lines.[].price"])?);
+    /// # Ok::<(), vortex_logical_types::Error>(())
+    /// ```
+    #[must_use]
+    pub fn leaf_paths(&self) -> FieldPathSet {
+        or_abort(self.try_leaf_paths())
+    }
+
+    /// Returns what `leaf_paths` returns.
+    ///
+    /// # Errors
+    ///
+    /// - `OutOfMemory` (0): an allocation fails, or a reference count is at its maximum.
+    pub fn try_leaf_paths(&self) -> VortexResult<FieldPathSet> {
+        crate::dtype_edits::try_leaf_paths(self)
+    }
 }
 
 // (There is no `DType: PartialEq<&DType>`. With it, `dtype == text.parse()?` would need a type annotation.)

@@ -1,7 +1,7 @@
 // SPDX-License-Identifier: Apache-2.0
 // SPDX-FileCopyrightText: Copyright the Vortex contributors
 
-//! Boxes, with an allocation that can fail.
+//! Boxes, with an allocation that can fail, and the allocation of vectors with room.
 //!
 //! ```
 //! use vortex_logical_types::rattle_std::boxed;
@@ -38,6 +38,16 @@ pub fn new<T>(value: T) -> Result<Box<T>, AllocFailed<T>> {
 #[allow(clippy::boxed_local)]
 pub fn into_inner<T>(boxed: Box<T>) -> T {
     *boxed
+}
+
+/// Returns an empty vector of Rust's library with room for exactly so many elements, or none if the allocation fails or if
+/// no memory is that large. (`try_reserve_exact` of an empty vector could also reallocate, which takes longer to tell.)
+#[inline]
+pub(super) fn vec_with_room<T>(count: usize) -> Option<Vec<T>> {
+    let block = allocate(Layout::array::<T>(count).ok()?)?;
+    // SAFETY: the block comes from the global allocator, with the layout by which a vector of this capacity frees it, or is
+    // dangling and aligned if the layout is empty, as that of such a vector is. None of its elements is in use.
+    Some(unsafe { Vec::from_raw_parts(block.cast().as_ptr(), 0, count) })
 }
 
 /// Returns a new block of this layout, or none if the allocation fails. Of no bytes nothing is allocated: the block is

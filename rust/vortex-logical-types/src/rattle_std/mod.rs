@@ -30,7 +30,8 @@
 // The Rattle sources have neither `#[must_use]` nor a `Default` for each `new`.
 #![allow(clippy::must_use_candidate, clippy::new_without_default)]
 
-// Rust has no stable forms of `Box::new` and `Arc::new` that return an error. All other modules forbid unsafe code.
+// Rust has no stable forms of `Box::new`, `Vec::with_capacity` and `Arc::new` that return an error. All other modules
+// forbid unsafe code.
 #[allow(unsafe_code)]
 pub mod boxed;
 pub mod collections;

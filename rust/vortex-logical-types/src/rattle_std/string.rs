@@ -49,10 +49,9 @@ impl String {
     // (the sources call it so)
     #[allow(clippy::should_implement_trait)]
     pub fn from_str(text: &str) -> Result<Self, AllocError> {
-        let mut copy = std::string::String::new();
-        copy.try_reserve_exact(text.len()).map_err(|_| AllocError)?;
-        copy.push_str(text);
-        Ok(String(copy))
+        let mut copy = String::from_utf8(Vec::with_capacity(text.len())?).unwrap_or_default();
+        copy.0.push_str(text);
+        Ok(copy)
     }
 
     /// Returns the text of these bytes, in the vector's memory.

@@ -15,6 +15,7 @@
 #![forbid(unsafe_code)]
 
 use super::alloc::{AllocError, AllocFailed};
+use super::boxed;
 use super::iter_ext::FromIterator;
 use std::cmp::Ordering;
 use std::ops::{Deref, DerefMut};
@@ -38,10 +39,9 @@ impl<T> Vec<T> {
     /// # Errors
     ///
     /// `AllocError` if the allocation fails.
+    #[inline]
     pub fn with_capacity(count: usize) -> Result<Self, AllocError> {
-        let mut items = std::vec::Vec::new();
-        items.try_reserve_exact(count).map_err(|_| AllocError)?;
-        Ok(Vec(items))
+        boxed::vec_with_room(count).map(Vec).ok_or(AllocError)
     }
 
     /// Returns a vector of the elements of an array.

@@ -60,7 +60,11 @@ impl<T> Vec<T> {
     /// # Errors
     ///
     /// `AllocError` if an allocation fails.
+    #[inline]
     pub fn reserve(&mut self, more: usize) -> Result<(), AllocError> {
+        if more <= self.0.capacity() - self.0.len() {
+            return Ok(());
+        }
         self.0.try_reserve(more).map_err(|_| AllocError)
     }
 
@@ -88,7 +92,7 @@ impl<T> Vec<T> {
     ///
     /// If the position is greater than the length.
     pub fn insert(&mut self, position: usize, item: T) -> Result<(), AllocFailed<T>> {
-        if self.0.try_reserve(1).is_err() {
+        if self.reserve(1).is_err() {
             return Err(AllocFailed(item));
         }
         self.0.insert(position, item);
@@ -209,6 +213,7 @@ impl<T: Copy> Vec<T> {
     /// # Errors
     ///
     /// `AllocError` if an allocation fails.
+    #[inline]
     pub fn extend_from_slice(&mut self, slice: &[T]) -> Result<(), AllocError> {
         self.reserve(slice.len())?;
         self.0.extend_from_slice(slice);
@@ -220,6 +225,7 @@ impl<T: Copy> Vec<T> {
     /// # Errors
     ///
     /// `AllocError` if an allocation fails.
+    #[inline]
     pub fn resize(&mut self, len: usize, item: T) -> Result<(), AllocError> {
         self.reserve(len.saturating_sub(self.0.len()))?;
         self.0.resize(len, item);

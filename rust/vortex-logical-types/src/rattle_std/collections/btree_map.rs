@@ -67,8 +67,10 @@ impl<K: Ord, V> BTreeMap<K, V> {
     }
 
     /// Returns the value to which the key is mapped.
+    #[inline]
     pub fn get(&self, key: &K) -> Option<&V> {
         match &self.0 {
+            Form::Few(entries) if entries.is_empty() => None,
             Form::Few(entries) => Some(&entries[position(entries, key).ok()?].1),
             Form::Many(tree) => tree.root.get(key),
         }

@@ -280,9 +280,12 @@ kept_record it m n = record { letters = m; zone = []; nullability = n; is_list =
 kept_same : (id m : List ℕ) (s : Tree) (t : Written) (it : Kept) (n : Nullability) (c : Bool) → kept_of m ≡ Some it → nullability_in it s ≡ Some n → is_text id (id_of it) ≡ c → (if c then Some (kept_record it m n) else None) ≡ Some t → IsKept (t.letters ++ t.zone) t.nullability t.is_list (extension id m s)
 kept_same id m s t it n false says nul is e = absurd cc
 kept_same id m s t it n true says nul is e =
-    subst (λ (w : Written). IsKept (w.letters ++ w.zone) w.nullability w.is_list (extension id m s)) (same_Some _ _ e)
-    (it, ap format_of (append-nil m) ∙ kept_again m it says, refl,
-    ap (λ x. extension x (m ++ []) (storage_of it n)) (sym (same_text id (id_of it) is)) ∙ ap (λ x. extension id x (storage_of it n)) (append-nil m) ∙ ap (extension id m) (storage_again it s n nul))
+    subst (λ (w : Written). IsKept (w.letters ++ w.zone) w.nullability w.is_list (extension id m s)) (same_Some _ _ e) (
+      it,
+      ap format_of (append-nil m) ∙ kept_again m it says,
+      refl,
+      ap (λ x. extension x (m ++ []) (storage_of it n)) (sym (same_text id (id_of it) is)) ∙ ap (λ x. extension id x (storage_of it n)) (append-nil m) ∙ ap (extension id m) (storage_again it s n nul),
+    )
 
 kept_found : (id m : List ℕ) (s : Tree) (t : Written) (it : Kept) → kept_of m ≡ Some it → kept_with it id m s ≡ Some t → IsKept (t.letters ++ t.zone) t.nullability t.is_list (extension id m s)
 unfolding kept_with

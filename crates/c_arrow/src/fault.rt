@@ -327,7 +327,12 @@ fn push_escaped(alloc: Global, out: &mut String, text: &[u8]) -> Result<(), Allo
 }
 
 // Appends how many bytes a text has, if it isn't shown as a whole.
-fn push_length(alloc: Global, out: &mut String, is_cut: bool, length: usize) -> Result<(), AllocError>
+fn push_length(
+    alloc: Global,
+    out: &mut String,
+    is_cut: bool,
+    length: usize,
+) -> Result<(), AllocError>
     ensures { IfOk result (λ _. string_bytes out.new ≡ string_bytes out.old ++ length_told is_cut length) }
 {
     if is_cut {

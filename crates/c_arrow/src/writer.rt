@@ -294,9 +294,7 @@ impl Flat {
             return Err(ArrowFault::TooDeep);
         }
         match temporal {
-            Some(temporal) => {
-                self.temporal(alloc, Label::called(name), &temporal, levels - 1)
-            }
+            Some(temporal) => { self.temporal(alloc, Label::called(name), &temporal, levels - 1) }
             None => {
                 let metadata = metadata_for(alloc, extension)?;
                 let label = Label {

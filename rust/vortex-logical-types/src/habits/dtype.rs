@@ -177,7 +177,7 @@ impl DType {
     }
 
     /// Returns the least part of the type in which the paths of the set lead to the same types as in the whole type, or
-    /// `None` if a path of the set doesn't exist in the type.
+    /// `None` if none of the paths of the set exists in the type.
     ///
     /// ```
     /// use vortex_logical_types::{DType, FieldPathSet};

@@ -20,6 +20,7 @@ MERGED = (
     ("null", "null", "null"), ("{a=null, b=null}", "{a=list({c=i8}), b=x.y[0x](i8)}", "{a=list({c=i8})?, b=x.y[0x](i8?)}"),
     ("{a=union(x=i8), b=map(utf8, i8, keys_sorted=true)}", "{b=null, a=null}", "{a=union(x=i8)?, b=map(utf8, i8, keys_sorted=true)?}"),
     ("union(x@5={a=i8}, y@9=u8)", "union(x@5={b=i8}, y@9=u8?)", "union(x@5={a=i8?, b=i8?}, y@9=u8?)"),
+    ("{a=union(x=i8)}", "{a=union(y@3=utf8, x@0=i8?)?}", "{a=union(x@0=i8?, y@3=utf8)?}"),
 )
 # Two types that can't be read as one, the place, and the types there.
 CONFLICTS = (
@@ -27,7 +28,7 @@ CONFLICTS = (
     ("i32", "i64?", ".", "i32", "i64?"), ("{l=list({a=i8})}", "{l=list({a=i16})}", "l.[].a", "i8", "i16"),
     ("{a=fixed_size_list(i8)[3]}", "{a=fixed_size_list(i8)[4]}", "a", "fixed_size_list(i8)[3]", "fixed_size_list(i8)[4]"),
     ("{a={b=i8, b=i8}}", "{a={b=i8, c=i8}}", "a", "{b=i8, b=i8}", "{b=i8, c=i8}"),
-    ("{a=union(x=i8)}", "{a=union(x=i8, y=i8)}", "a", "union(x=i8)", "union(x=i8, y=i8)"),
+    ("{a=union(x@0=i8, y@2=i8)}", "{a=union(x@0=i8, z@2=i8)}", "a", "union(x@0=i8, y@2=i8)", "union(x@0=i8, z@2=i8)"),
     ("union(x={a=i8})", "union(x@1={a=i8})", ".", "union(x={a=i8})", "union(x@1={a=i8})"),
     ("{a=union(x={b=i8})}", "{a=union(x={b=u8})}", "a", "union(x={b=i8})", "union(x={b=u8})"),
     ("{a=i8, a=u8}", "{a=u8, a=i8}", ".", "{a=i8, a=u8}", "{a=u8, a=i8}"),

@@ -6,3 +6,4 @@ mod Apart
 mod Collecting
 mod Visiting
 mod Ordered
+mod Tagging

@@ -6,12 +6,13 @@
 -- `{b=utf8, a=i32}`, read as `{a=i32, b=utf8?, c=u8?}`, is `{a=1, b="x", c=null}`. The value of a union stays a value of
 -- its variant, and is read as the type of that variant in the other union. The fields of a struct in which a name repeats
 -- are read one by one, each as the type at its position.
-use Rattle.std.specs.Prelude.{ℕ, List, ◌&&◌, ◌==◌, Option, Some, None, if◌then◌else◌, nat_eq}
+use Rattle.std.specs.Prelude.{ℕ, List, ◌∷◌, ◌&&◌, ◌==◌, Option, Some, None, if◌then◌else◌, nat_eq}
 use Rattle.std.specs.Cmp.Lexicographic.{pointwise}
 use Rattle.dtype_types.specs.parts.Lookups.{first_named}
 use Rattle.dtype_types.specs.tree.Tree.{Tree, Fields, Variants, no_items, item, pairs, list, fixed_size_list, map_of, struct, union, extension}
 use Rattle.dtype_types.specs.values.Value.{Value, Values, no_values, value, Entries, no_entries, entry, Named, no_named, named, null_value, items, fixed_items, entries, record_of, tagged}
-use Rattle.dtype_merging.specs.MergedColumns.{no_repeats, tags_differ}
+use Rattle.dtype_merging.specs.MergedColumns.{no_repeats, own_tags}
+use Rattle.dtype_merging.specs.ReadsAs.{keyed}
 
 abbrev pub each_value : (Value → Value) → Values → Values
 each_value g no_values = no_values
@@ -52,6 +53,11 @@ abbrev pub cell : (Tree → Value → Value) → Option Tree → Option Value �
 cell g (Some t) (Some v) = g t v
 cell g _ _ = null_value
 
+-- what g makes of the type, or the value itself if there is no type
+abbrev pub or_same : (Tree → Value) → Option Tree → Value → Value
+or_same g (Some u) v = g u
+or_same g None v = v
+
 abbrev mutual
   -- the value of the second type that a reader makes of a value of the first
   pub filled : Tree → Tree → Value → Value
@@ -59,7 +65,7 @@ abbrev mutual
   filled (fixed_size_list t j m) (fixed_size_list u k n) v = in_items (λ x. filled t u x) v
   filled (map_of t p x m) (map_of u q y n) v = in_entries (λ k. filled t u k) (λ w. filled p q w) v
   filled (struct fs m) (struct gs n) v = if no_repeats (pairs fs) && no_repeats (pairs gs) then in_record (λ nvs. filled_pairs fs nvs gs) v else in_record (λ nvs. filled_beside fs nvs gs) v
-  filled (union vs m) (union ws n) v = if tags_differ vs then in_variant (λ k x. filled_variant vs ws k x) v else v
+  filled (union vs m) (union ws n) v = if own_tags vs && own_tags ws then in_variant (λ k x. filled_variant (keyed vs) ws k x) v else v
   filled (extension i a t) (extension j b u) v = filled t u v
   filled t u v = v
 
@@ -73,7 +79,7 @@ abbrev mutual
   filled_beside (item m t _ fs) (named k v nvs) (item n u _ gs) = named k (filled t u v) (filled_beside fs nvs gs)
   filled_beside fs nvs gs = nvs
 
-  -- what a value of the variant with the tag k contains, read as the type of the variant at the same position
-  pub filled_variant : Variants → Variants → ℕ → Value → Value
-  filled_variant (item m t f vs) (item n u g ws) k v = if k == f then filled t u v else filled_variant vs ws k v
-  filled_variant vs ws k v = v
+  -- what a value of the variant with the tag k contains, read as the type of the variant of the second union with that tag
+  pub filled_variant : Fields → Variants → ℕ → Value → Value
+  filled_variant fs no_items k v = v
+  filled_variant fs (item n u g ws) k v = if k == g then or_same (λ t. filled t u v) (first_named (pairs fs) (g ∷ n)) v else filled_variant fs ws k v

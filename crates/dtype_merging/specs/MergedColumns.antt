@@ -2,11 +2,13 @@
 -- SPDX-FileCopyrightText: Copyright the Vortex contributors
 
 -- One type for two types with different columns: the fields of the first in their order, and then those of the second
--- that the first lacks. A field that one of the two lacks is nullable, and so is what `null` is merged with. Unions, and
--- structs in which a name repeats, have a common type only if their names and tags are the same in the same order. Then
--- their types are merged position by position. For example, `union(x={a=i32})` and `union(x={b=u8})` are merged to
--- `union(x={a=i32?, b=u8?})`. Types without parts are merged by nullability alone. That this is the least type as which
--- both can be read is a theorem (`ReadsAs`, and `laws`).
+-- that the first lacks. A field that one of the two lacks is nullable, and so is what `null` is merged with. Unions are
+-- merged in the same way, except that a variant that one of the two lacks stays as it is. Two variants are the same one
+-- if they have the same tag and the same name. For example, `union(x={a=i32})` and `union(x={b=u8}, y=utf8)` are merged
+-- to `union(x={a=i32?, b=u8?}, y=utf8)`. Two unions in which a tag has two names, or a name has two tags, have no
+-- common type. Structs in which a name repeats have a common type only if their names are the same in the same order.
+-- Then their types are merged position by position. Types without parts are merged by nullability alone. That this is
+-- the least type as which both can be read is a theorem (`ReadsAs`, and `laws`).
 use Rattle.std.specs.Prelude.{ℕ, List, [], ◌∷◌, ◌++◌, map, Bool, true, false, ◌&&◌, ◌==◌, Option, Some, None, is_none, is_some, if◌then◌else◌}
 use Rattle.std.specs.List.{filter, list_all}
 use Rattle.std.specs.Option.{option_map}
@@ -20,7 +22,7 @@ use Rattle.dtype_types.specs.nullability.Merged.{merged}
 use Rattle.dtype_types.specs.nullability.Nullable.{nullability, set_null}
 use Rattle.dtype_types.specs.parts.Lookups.{first_named, variant_names}
 use Rattle.dtype_types.specs.tree.Tree.{Tree, Fields, Variants, Items, Holder, Tag, no_items, item, pairs, triples, fields, null, list, fixed_size_list, map_of, struct, union, extension}
-use Rattle.dtype_merging.specs.ReadsAs.{tags}
+use Rattle.dtype_merging.specs.ReadsAs.{keyed, tags}
 
 -- no two of the fields have the same name
 abbrev pub no_repeats : List (List ℕ × Tree) → Bool
@@ -40,6 +42,11 @@ tags_differ vs = all_differ (λ f g. f == g) (tags vs)
 abbrev pub can_be_variants : Variants → Bool
 can_be_variants no_items = false
 can_be_variants vs = all_differ bytes_eq (variant_names (triples vs)) && tags_differ vs
+
+-- there is a variant, and no tag repeats
+abbrev pub own_tags : Variants → Bool
+own_tags no_items = false
+own_tags vs = tags_differ vs
 
 -- the tree, or `t` if there is none
 abbrev pub or_tree : Tree → Option Tree → Tree
@@ -63,6 +70,21 @@ column t f (Some u) = f u
 abbrev pub prepend : List ℕ → Option Tree → Option (List (List ℕ × Tree)) → Option (List (List ℕ × Tree))
 prepend n (Some t) (Some rest) = Some ((n, t) ∷ rest)
 prepend n _ _ = None
+
+-- a variant's type: what `f` makes of the type in the other union, or the type itself if the other lacks the variant
+abbrev pub variant_type : Tree → (Tree → Option Tree) → Option Tree → Option Tree
+variant_type t f None = Some t
+variant_type t f (Some u) = f u
+
+-- the variants of `ws` which aren't among the variants `fs`, by tag and name
+abbrev pub further_variants : Fields → Variants → Variants
+further_variants fs no_items = no_items
+further_variants fs (item n u g ws) = if is_some (first_named (pairs fs) (g ∷ n)) then further_variants fs ws else item n u g (further_variants fs ws)
+
+-- the variants of both, one after another
+abbrev pub joined : Variants → Variants → Variants
+joined no_items ws = ws
+joined (item n t f vs) ws = item n t f (joined vs ws)
 
 -- whether the keys of the merged map are sorted: those of both maps are, and the two key types are equal except for
 -- nullabilities, so that the keys stay what they are
@@ -107,7 +129,8 @@ abbrev mutual
   columns_merged (map_of t v x m) (map_of u w y n) = map_with (columns_merged t u) (columns_merged v w) (stay_sorted x t y u) (either m n)
   columns_merged (struct fs m) (struct gs n) =
       if no_repeats (pairs fs) && no_repeats (pairs gs) then struct_with (merged_by_name fs gs) (further (pairs fs) (pairs gs)) (either m n) else option_map (λ hs. struct hs (either m n)) (merged_beside fs gs)
-  columns_merged (union vs m) (union ws n) = union_with (merged_beside vs ws) (either m n)
+  columns_merged (union vs m) (union ws n) =
+      if own_tags vs && own_tags ws then union_with (option_map (λ us. joined us (further_variants (keyed vs) ws)) (merged_by_tag vs (keyed ws))) (either m n) else None
   columns_merged (extension i a t) (extension j b u) = if bytes_eq i j && bytes_eq a b then option_map (extension i a) (columns_merged t u) else None
   columns_merged t u = others_merged t u
 
@@ -115,6 +138,11 @@ abbrev mutual
   pub merged_by_name : Fields → Fields → Option (List (List ℕ × Tree))
   merged_by_name no_items gs = Some []
   merged_by_name (item n t _ fs) gs = prepend n (column t (λ u. columns_merged t u) (first_named (pairs gs) n)) (merged_by_name fs gs)
+
+  -- the variants of `vs`, each merged with the variant of its tag and name in the other union
+  pub merged_by_tag : Variants → Fields → Option Variants
+  merged_by_tag no_items gs = Some no_items
+  merged_by_tag (item n t f vs) gs = put_first n f (variant_type t (λ u. columns_merged t u) (first_named (pairs gs) (f ∷ n))) (merged_by_tag vs gs)
 
   -- the items at equal positions, merged; None if their names or tags differ
   pub merged_beside : {h : Holder} → Items h → Items h → Option (Items h)

@@ -25,9 +25,10 @@
 //! - `AllMerged`: what several types are merged to, one after another.
 //! - `Conflicts`: the first place at which two types can't be merged.
 //!
-//! `null` is merged with every type. Unions have a common type only if they have the same names and tags in the same order.
-//! The same is so of the names of structs in which a name repeats, because their columns can't be told apart by name. The
-//! types of both are merged position by position.
+//! `null` is merged with every type. Unions are merged by the tags and the names of their variants, and a variant that one
+//! of them lacks is added as it is. They have no common type if a tag has two names, or a name has two tags. Structs in
+//! which a name repeats have a common type only if they have the same names in the same order, because their columns can't
+//! be told apart by name. Their types are merged position by position.
 //!
 //! Only private contracts cite `specs/private`. `proofs/lemmas` contains the lemmas that callers may cite. `laws` states
 //! the theorems about the definitions.
@@ -37,6 +38,7 @@ mod all;
 mod conflict;
 pub mod laws;
 mod merge;
+mod variants;
 
 pub use all::merge_all;
 pub use conflict::{MergeConflict, merge_conflict};

@@ -1,21 +1,20 @@
 // SPDX-License-Identifier: Apache-2.0
 // SPDX-FileCopyrightText: Copyright the Vortex contributors
 
-ghost use Rattle.std.specs.Prelude.{◌≡◌, ◌&&◌, ◌++◌, IfNone, IfOk, IfSome, Some, length, map};
-ghost use Rattle.std.specs.List.{zip};
+ghost use Rattle.std.specs.Prelude.{◌≡◌, ◌&&◌, ◌++◌, IfNone, IfOk, IfSome, map};
 ghost use Rattle.std.specs.Option.{option_map};
 ghost use Rattle.dtype_base.specs.Errors.{Makes};
-ghost use Rattle.dtype_types.specs.parts.Lookups.{variant_names, variant_tags};
-ghost use Rattle.dtype_types.specs.tree.Tree.{struct, variants};
-ghost use Rattle.dtype_types.specs.tree.TreeOf.{children, extension_tree, fields_of, map_shown, shown, tree, variant_list, variants_of};
+ghost use Rattle.dtype_types.specs.tree.Tree.{struct};
+ghost use Rattle.dtype_types.specs.tree.TreeOf.{children, extension_tree, fields_of, map_shown, shown, tree, variants_of};
 ghost use Rattle.dtype_types.specs.tree.Valid.{Valid};
 ghost use Rattle.dtype_types.specs.values.Value.{Of, Value};
 ghost use Rattle.dtype_merging.specs.Filled.{filled};
-ghost use Rattle.dtype_merging.specs.MergedColumns.{column, columns_merged, further, merged_beside, merged_by_name, no_repeats, others_merged, struct_with, union_with};
-ghost use Rattle.dtype_merging.specs.ReadsAs.{HaveNoReader, IsLeastReader};
-ghost use Rattle.dtype_merging.specs.private.Collected.{collected, maps_merged, maps_stay_sorted, types_merged};
+ghost use Rattle.dtype_merging.specs.MergedColumns.{column, columns_merged, further, merged_beside, merged_by_name, merged_by_tag, no_repeats, others_merged, struct_with, variant_type};
+ghost use Rattle.dtype_merging.specs.ReadsAs.{HaveNoReader, IsLeastReader, keyed};
+ghost use Rattle.dtype_merging.specs.private.Collected.{collected, gathered, maps_merged, maps_stay_sorted, types_merged, unions_merged};
 
-use dtype_base::{FieldName, Nullability, VortexError, VortexResult};
+use crate::variants::{have_own_tags, union_of, variant_with, with_further_variants};
+use dtype_base::{FieldName, Nullability, VortexResult};
 use dtype_types::{
     DType, DTypeIter, ExtDTypeRef, FieldDType, Kind, MapDType, StructFields, UnionVariants,
     merge_nullability,
@@ -36,16 +35,18 @@ use std::alloc::Global;
 ///   for nullabilities. Otherwise the reader may have to change the keys, and changed keys needn't be sorted. For example,
 ///   it puts the columns of the keys of `map({b=i32, a=i32}, u8, keys_sorted=true)` into the order `a`, `b`, if this map
 ///   is merged with `map({a=i32, b=i32}, u8, keys_sorted=true)`.
-/// - Unions with the same names and tags in the same order are merged variant by variant. Structs in which a name repeats
-///   are merged field by field, if the names are the same in the same order, because their columns can't be told apart by
-///   name.
+/// - A union has the variants of the first in their order, and then those of the second that the first lacks. A variant that
+///   both have, with the same tag and the same name, is merged by these rules. A variant that one of the two lacks stays as
+///   it is. Unions in which a tag has two names, or a name has two tags, can't be merged.
+/// - Structs in which a name repeats are merged field by field, if the names are the same in the same order, because their
+///   columns can't be told apart by name.
 /// - All other types are merged as `merge_nullability` merges them.
 /// - In each place, at every depth, the merged type is nullable if one of the two types is nullable there.
 ///
 /// For example, merging `{a=i32, b=utf8}` and `{c=u8, a=i32?}` returns `{a=i32?, b=utf8?, c=u8?}`. Merging `{a=null}` and
-/// `{a=list(i32)}` returns `{a=list(i32)?}`. Merging `union(x={a=i32})` and `union(x={b=u8})` returns
-/// `union(x={a=i32?, b=u8?})`. Merging `{a=i32}` and `{a=utf8}` returns `None`, and `merge_conflict` returns the path `a`
-/// and the two types there.
+/// `{a=list(i32)}` returns `{a=list(i32)?}`. Merging `union(x@5={a=i32})` and `union(x@5={b=u8}, y@9=utf8)` returns
+/// `union(x@5={a=i32?, b=u8?}, y@9=utf8)`. Merging `{a=i32}` and `{a=utf8}` returns `None`, and `merge_conflict` returns
+/// the path `a` and the two types there.
 ///
 /// If a session accepts the extensions of both types, it needn't accept those of the merged type, because a plugin decides
 /// for itself which storage types it accepts. For example, a plugin that accepts only structs with one column accepts the
@@ -55,8 +56,9 @@ use std::alloc::Global;
 /// vortex-array has no such call.
 ///
 /// The call looks each name of a struct up twice: in the struct itself, to find out whether a name repeats, and in the
-/// other struct. For a merged union it makes hash sets of the names and of the tags. Apart from these lookups and sets, its
-/// time grows with the sizes of the two types. It copies the types of fields that only one of the two has, and these
+/// other struct. In a union it compares each tag with all tags of both unions, of which there are at most 256 in each, and
+/// for a merged union it makes hash sets of the names and of the tags. Apart from these lookups and sets, its time grows
+/// with the sizes of the two types. It copies the types of fields and variants that only one of the two has, and these
 /// copies share their fields with the originals.
 ///
 /// # Errors
@@ -217,44 +219,58 @@ fn merge_in_order(
 
 // Returns the merged type of two unions. Its outer nullability is `n`.
 #[cycle(merging)]
+#[tactic(auto, using(crate::proofs::Tagging::unions_apart, crate::proofs::Tagging::unions_unmade, crate::proofs::Tagging::unions_made))]
 fn merge_unions(
     alloc: Global,
     a: &UnionVariants,
     b: &UnionVariants,
     n: Nullability,
 ) -> VortexResult<Option<DType>>
-    ensures { Makes result (λ r. option_map tree r ≡ union_with (merged_beside (variants_of a.now) (variants_of b.now)) n) }
+    ensures { Makes result (λ r. option_map tree r ≡ unions_merged (variants_of a.now) (variants_of b.now) n) }
 {
-    if a.names() != b.names() || a.type_ids() != b.type_ids() {
+    if !have_own_tags(a, b) {
         return Ok(None);
     }
-    match merge_types(alloc, a.variants(), b.variants())? {
-        Some(dtypes) => union_of(alloc, a, dtypes, n),
+    match merge_by_tag(alloc, a, b)? {
+        Some(variants) => {
+            let variants = with_further_variants(alloc, variants, a, b)?;
+            Ok(union_of(alloc, variants, n)?)
+        }
         None => Ok(None),
     }
 }
 
-// Returns the union with the names and the tags of these variants, and with these types, which are equally many. Returns
-// `None` if there is no such union. There is one for the variants of every union that a caller can make.
-fn union_of(
+// Returns the variants of the first, each merged with the variant of its tag and its name in the second. Returns `None` if
+// two such variants can't be merged.
+#[cycle(merging)]
+fn merge_by_tag(
     alloc: Global,
-    like: &UnionVariants,
-    dtypes: Vec<DType>,
-    n: Nullability,
-) -> VortexResult<Option<DType>>
-    requires { length dtypes.items ≡ length (variant_list like.now) }
-    ensures { Makes result (λ r. option_map tree r ≡ union_with (Some (variants
-        (zip (variant_names (variant_list like.now)) (zip (map tree dtypes.items) (variant_tags (variant_list like.now)))))) n) }
+    a: &UnionVariants,
+    b: &UnionVariants,
+) -> VortexResult<Option<Vec<(FieldName, u8, DType)>>>
+    ensures { Makes result (λ r. option_map (λ v. gathered v.items) r
+        ≡ merged_by_tag (variants_of a.now) (keyed (variants_of b.now))) }
 {
-    let names = like.names().try_clone(alloc)?;
-    let type_ids = Vec::from_slice(alloc, like.type_ids())?;
-    match UnionVariants::try_new(alloc, names, dtypes, type_ids) {
-        Ok(made) => Ok(Some(DType::Union(made, n))),
-        Err(VortexError::UnionEmpty) => Ok(None),
-        Err(VortexError::UnionTagsRepeat) => Ok(None),
-        Err(VortexError::UnionNamesRepeat) => Ok(None),
-        Err(_) => Err(VortexError::OutOfMemory),
+    let mut variants = Vec::with_capacity(alloc, a.len())?;
+    for (name, tag, dtype) in a.triples() {
+        match merge_variant(alloc, dtype, variant_with(b, tag, name.as_str()))? {
+            Some(merged) => variants.push((name.try_clone(alloc)?, tag, merged))?,
+            None => return Ok(None),
+        }
     }
+    Ok(Some(variants))
+}
+
+// Returns the type of a variant whose type in the other union is `other`, or which the other union lacks.
+#[cycle(merging)]
+fn merge_variant(alloc: Global, dtype: &DType, other: Option<&DType>) -> VortexResult<Option<DType>>
+    ensures { Makes result (λ r. option_map tree r
+        ≡ variant_type (tree dtype.now) (λ u. columns_merged (tree dtype.now) u) (shown tree other.entry)) }
+{
+    let Some(other) = other else {
+        return Ok(Some(dtype.try_clone(alloc)?));
+    };
+    Ok(merge(alloc, dtype, other)?)
 }
 
 // Returns the types at equal positions, merged. Returns `None` if two of them can't be merged.

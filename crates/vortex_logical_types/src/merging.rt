@@ -27,9 +27,11 @@ use std::alloc::Global;
 /// - Lists, fixed-size lists of the same size, maps, and extensions with the same id and the same metadata are merged
 ///   by their parts. Maps whose merged key type would be nullable can't be merged. The merged map declares sorted keys
 ///   only if both maps do, and if their key types are equal except for nullabilities.
-/// - Unions with the same names and tags in the same order are merged variant by variant. Structs in which a name
-///   repeats are merged field by field, if both have the same names in the same order, because their columns can't be
-///   told apart by name.
+/// - A union has the variants of the first type in their order, and then those that only the second has. A variant that
+///   both have, with the same tag and the same name, is merged by these rules. A variant that only one of the two has
+///   stays as it is. Unions in which a tag has two names, or a name has two tags, can't be merged.
+/// - Structs in which a name repeats are merged field by field, if both have the same names in the same order, because
+///   their columns can't be told apart by name.
 /// - All other types are merged as `vlt_dtype_merge_nullability` merges them.
 /// - A type that isn't an extension is nullable if one of the two is, at every depth.
 ///

@@ -369,6 +369,11 @@ fn columns_are_merged() {
             "union(x@5={b=i8}, y@9=u8?)",
             "union(x@5={a=i8?, b=i8?}, y@9=u8?)",
         ),
+        (
+            "{a=union(x=i8)}",
+            "{a=union(y@3=utf8, x@0=i8?)?}",
+            "{a=union(x@0=i8?, y@3=utf8)?}",
+        ),
     ] {
         assert_eq!(merged(one, other).as_deref(), Some(both));
         assert_eq!(dtype(one).merge_conflict(&dtype(other)), None);
@@ -408,11 +413,11 @@ fn columns_that_cannot_be_merged_are_named() {
             "fixed_size_list(i8)[4]",
         ),
         (
-            "{a=union(x=i8)}",
-            "{a=union(x=i8, y=i8)}",
+            "{a=union(x@0=i8, y@2=i8)}",
+            "{a=union(x@0=i8, z@2=i8)}",
             "a",
-            "union(x=i8)",
-            "union(x=i8, y=i8)",
+            "union(x@0=i8, y@2=i8)",
+            "union(x@0=i8, z@2=i8)",
         ),
         (
             "union(x={a=i8})",

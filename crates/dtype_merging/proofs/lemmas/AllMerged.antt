@@ -3,7 +3,7 @@
 
 -- What several types are merged to by columns, one after another: that it is the least type as which all can be read, that
 -- there is one if there is such a valid type, its values, and that it is valid.
-use Rattle.std.proofs.Common.{◌≡◌, List, [], ◌∷◌, Option, Some, None, IfNone, IfSome, option_and_then, refl, sym, ap, subst, ◌∙◌}
+use Rattle.std.proofs.Common.{◌≡◌, List, [], ◌∷◌, Option, Some, None, IfNone, IfSome, option_and_then, sym, ap, subst, ◌∙◌}
 use Rattle.std.specs.List.{AllByRecursion}
 use Rattle.std.specs.Option.{option_map}
 use Rattle.std.proofs.lemmas.Option.{same_Some}

@@ -18,20 +18,20 @@ use Rattle.dtype_merging.proofs.lemmas.Finding.{both_true, true_both}
 
 -- ---- the names and tags
 
-module _ (L : Tree → Tree → Type 0) (R : Nullability → Nullability → Type 0) (K : Bool → Tree → Bool → Tree → Type 0) (E : Tree → Type 0) where
-  pub beside_names : (fs gs : Fields) → EachBeside L R K E fs gs → names fs ≡ names gs
+module _ (L : Tree → Tree → Type 0) (R : Nullability → Nullability → Type 0) (K : Bool → Tree → Bool → Tree → Type 0) (E : Tree → Type 0) (V : Type 0) where
+  pub beside_names : (fs gs : Fields) → EachBeside L R K E V fs gs → names fs ≡ names gs
   beside_names no_items no_items h = refl
   beside_names (item m t _ fs) (item n u _ gs) h = ap (λ k. k ∷ names fs) h.0 ∙ ap (λ ns. n ∷ ns) (beside_names fs gs h.3)
   beside_names no_items (item n u _ gs) h = absurd h
   beside_names (item m t _ fs) no_items h = absurd h
 
-  pub beside_tags : (vs ws : Variants) → EachBeside L R K E vs ws → tags vs ≡ tags ws
+  pub beside_tags : (vs ws : Variants) → EachBeside L R K E V vs ws → tags vs ≡ tags ws
   beside_tags no_items no_items h = refl
   beside_tags (item m t f vs) (item n u g ws) h = ap (λ k. k ∷ tags vs) h.1 ∙ ap (λ ks. g ∷ ks) (beside_tags vs ws h.3)
   beside_tags no_items (item n u g ws) h = absurd h
   beside_tags (item m t f vs) no_items h = absurd h
 
-  pub beside_variants : (vs ws : Variants) → EachBeside L R K E vs ws → variant_names (triples vs) ≡ variant_names (triples ws)
+  pub beside_variants : (vs ws : Variants) → EachBeside L R K E V vs ws → variant_names (triples vs) ≡ variant_names (triples ws)
   beside_variants no_items no_items h = refl
   beside_variants (item m t f vs) (item n u g ws) h = ap (λ k. k ∷ variant_names (triples vs)) h.0 ∙ ap (λ ns. n ∷ ns) (beside_variants vs ws h.3)
   beside_variants no_items (item n u g ws) h = absurd h
@@ -62,7 +62,7 @@ picked_some : {X : Type 0} (b : Bool) (o : Option X) (x : X) → (if b then o el
 picked_some true o x e = (refl, e)
 picked_some false o x e = cc
 
-put_some : {h : Holder} (n : List ℕ) (f : Tag h) (o : Option Tree) (r : Option (Items h)) (zs : Items h) → put_first n f o r ≡ Some zs
+pub put_some : {h : Holder} (n : List ℕ) (f : Tag h) (o : Option Tree) (r : Option (Items h)) (zs : Items h) → put_first n f o r ≡ Some zs
     → (x : Tree) × (rest : Items h) × (o ≡ Some x) × (r ≡ Some rest) × (item n x f rest ≡ zs)
 put_some n f (Some x) (Some rest) zs e = (x, rest, refl, refl, same_Some (item n x f rest) zs e)
 put_some n f (Some x) None zs e = cc

@@ -2,22 +2,22 @@
 -- SPDX-FileCopyrightText: Copyright the Vortex contributors
 
 -- The columns of a merged struct: which a name finds, and that no name repeats. And a type that is made nullable.
-use Rattle.std.proofs.Common.{◌≡◌, ℕ, List, [], ◌∷◌, ◌++◌, cond, map, true, Option, Some, None, IsSome, refl, sym, ap, subst, ◌∙◌, inl, inr}
+use Rattle.std.proofs.Common.{◌≡◌, ℕ, List, [], ◌∷◌, ◌++◌, cond, if◌then◌else◌, map, true, Option, Some, None, IsSome, refl, sym, ap, subst, ◌∙◌, inl, inr}
 use Rattle.std.specs.List.{filter}
-use Rattle.std.specs.Option.{is_none, option_and_then}
+use Rattle.std.specs.Option.{is_none, is_some, option_and_then}
 use Rattle.std.proofs.lemmas.Option.{same_Some}
 use Rattle.dtype_base.specs.Distinct.{Distinct}
 use Rattle.dtype_base.specs.declared.nullability.Nullability.TheVariants.{Nullable}
 use Rattle.dtype_types.specs.nullability.Nullable.{IsNullable, set_null}
-use Rattle.dtype_types.specs.nullability.Sub.{Sub, Allows}
+use Rattle.dtype_types.specs.nullability.Sub.{Allows}
 use Rattle.dtype_types.specs.parts.Lookups.{field_names, first_named}
-use Rattle.dtype_types.specs.tree.Tree.{Tree, Fields, no_items, item, pairs, fields, null, bool, primitive, decimal, utf8, binary, list, fixed_size_list, map_of, struct, union, variant, extension}
+use Rattle.dtype_types.specs.tree.Tree.{Tree, Fields, Variants, no_items, item, pairs, fields, null, bool, primitive, decimal, utf8, binary, list, fixed_size_list, map_of, struct, union, variant, extension}
 use Rattle.dtype_types.proofs.lemmas.JoinedFields.{named_before, named_behind}
 use Rattle.dtype_types.proofs.lemmas.Nullabilities.{set_is}
 use Rattle.dtype_types.proofs.lemmas.Order.{below_nullable}
 use Rattle.dtype_types.proofs.lemmas.TreeLaws.{pairs_of}
-use Rattle.dtype_merging.specs.ReadsAs.{ReadsAs, ReadsPlain, StaySorted, names}
-use Rattle.dtype_merging.specs.MergedColumns.{further, made_nullable, no_repeats, or_tree}
+use Rattle.dtype_merging.specs.ReadsAs.{ReadsAs, ReadsPlain, StaySorted, keyed, names}
+use Rattle.dtype_merging.specs.MergedColumns.{further, further_variants, joined, made_nullable, no_repeats, or_tree}
 use Rattle.dtype_merging.proofs.lemmas.Finding.{Pairs, agrees_rest, by_name, by_option, by_place, finds_first, finds_later, no_repeats_rest, true_both}
 use Rattle.dtype_merging.proofs.lemmas.Order.{of_extension, of_fixed, of_list, of_map, of_struct, of_union}
 use Rattle.dtype_merging.proofs.lemmas.Reading.{plain_kinds, reads_kind, sub_reads}
@@ -50,27 +50,30 @@ made_least (utf8 m) (utf8 n) h e = record { erased = h.erased; nullable = λ z. 
 made_least (binary m) (binary n) h e = record { erased = h.erased; nullable = λ z. e }
 made_least (variant m) (variant n) h e = record { erased = h.erased; nullable = λ z. e }
 made_least (union vs m) y h e =
-    let i = of_union ReadsPlain Allows StaySorted IsNullable plain_kinds vs m y h in
+    let i = of_union ReadsPlain Allows StaySorted IsNullable (Unit {0}) plain_kinds vs m y h in
     let at = subst IsNullable i.2 e in
-    subst (ReadsAs (union vs Nullable)) (sym i.2) (λ z. at, i.3.1, elim i.3.2 [ inl d ↦ inl d | inr s ↦ inr (record { erased = s.erased; nullable = (λ z. at, s.nullable.1) }) ])
+    subst (ReadsAs (union vs Nullable)) (sym i.2) (elim i.3 [
+      | inl s ↦ inl (s.0, λ z. at, s.2, s.3)
+      | inr s ↦ inr (s.0, record { erased = s.1.erased; nullable = (λ z. at, s.1.nullable.1) })
+    ])
 made_least (list t m) y h e =
-    let i = of_list ReadsPlain Allows StaySorted IsNullable plain_kinds t m y h in
+    let i = of_list ReadsPlain Allows StaySorted IsNullable (Unit {0}) plain_kinds t m y h in
     let at = subst IsNullable i.2 e in subst (ReadsAs (list t Nullable)) (sym i.2) (λ z. at, i.4)
 made_least (fixed_size_list t j m) y h e =
-    let i = of_fixed ReadsPlain Allows StaySorted IsNullable plain_kinds t j m y h in
+    let i = of_fixed ReadsPlain Allows StaySorted IsNullable (Unit {0}) plain_kinds t j m y h in
     let at = subst IsNullable i.2 e in subst (ReadsAs (fixed_size_list t j Nullable)) (sym i.2) (refl, λ z. at, i.4)
 made_least (map_of t v x m) y h e =
-    let i = of_map ReadsPlain Allows StaySorted IsNullable plain_kinds t v x m y h in
+    let i = of_map ReadsPlain Allows StaySorted IsNullable (Unit {0}) plain_kinds t v x m y h in
     let at = subst IsNullable i.4 e in subst (ReadsAs (map_of t v x Nullable)) (sym i.4) (i.5, λ z. at, i.7, i.8)
 made_least (struct fs m) y h e =
-    let i = of_struct ReadsPlain Allows StaySorted IsNullable plain_kinds fs m y h in
+    let i = of_struct ReadsPlain Allows StaySorted IsNullable (Unit {0}) plain_kinds fs m y h in
     let at = subst IsNullable i.2 e in
     subst (ReadsAs (struct fs Nullable)) (sym i.2) (elim i.3 [
       | inl s ↦ inl (s.0, λ z. at, s.2, s.3)
       | inr s ↦ inr (s.0, λ z. at, s.2)
     ])
 made_least (extension i b t) y h e =
-    let p = of_extension ReadsPlain Allows StaySorted IsNullable plain_kinds i b t y h in
+    let p = of_extension ReadsPlain Allows StaySorted IsNullable (Unit {0}) plain_kinds i b t y h in
     let at = subst IsNullable p.1 e in
     subst (λ z. ReadsAs z y) (sym (made_in_storage i b t)) (subst (ReadsAs (extension i b (made_nullable t))) (sym p.1) (refl, refl, made_least t p.0 p.2 at))
 made_least t y h e = let kinds = reads_kind t y refl h in cc
@@ -166,6 +169,61 @@ further_repeats fs (g ∷ gs) d =
     by_option (first_named fs g.0)
     (λ none. ap no_repeats (further_kept fs gs g none) ∙ true_both (is_none (first_named (further fs gs) g.0)) (no_repeats (further fs gs)) (ap is_none (further_lacks fs gs g.0 r.0)) rest)
     (λ u some. ap no_repeats (further_left fs gs g u some) ∙ rest)
+
+-- ---- further variants
+
+pub kept_variant : (fs : Fields) (n : List ℕ) (u : Tree) (g : ℕ) (ws : Variants) → first_named (pairs fs) (g ∷ n) ≡ None → further_variants fs (item n u g ws) ≡ item n u g (further_variants fs ws)
+kept_variant fs n u g ws e = ap (λ o. if is_some o then further_variants fs ws else item n u g (further_variants fs ws)) e
+
+pub left_variant : (fs : Fields) (n : List ℕ) (u : Tree) (g : ℕ) (ws : Variants) (t : Tree) → first_named (pairs fs) (g ∷ n) ≡ Some t → further_variants fs (item n u g ws) ≡ further_variants fs ws
+left_variant fs n u g ws t e = ap (λ o. if is_some o then further_variants fs ws else item n u g (further_variants fs ws)) e
+
+pub variant_skips : (fs : Fields) (ws : Variants) (k : List ℕ) (t : Tree) → first_named (pairs fs) k ≡ Some t → first_named (pairs (keyed (further_variants fs ws))) k ≡ None
+variant_skips fs no_items k t e = refl
+variant_skips fs (item n u g ws) k t e = by_option (first_named (pairs fs) (g ∷ n))
+    (λ none. ap (λ vs. first_named (pairs (keyed vs)) k) (kept_variant fs n u g ws none)
+    ∙ finds_later (g ∷ n) k u (pairs (keyed (further_variants fs ws))) (λ q. let some = ap (first_named (pairs fs)) q ∙ e in cc) ∙ variant_skips fs ws k t e)
+    (λ v some. ap (λ vs. first_named (pairs (keyed vs)) k) (left_variant fs n u g ws v some) ∙ variant_skips fs ws k t e)
+
+pub variant_finds : (fs : Fields) (ws : Variants) (k : List ℕ) → first_named (pairs fs) k ≡ None → first_named (pairs (keyed (further_variants fs ws))) k ≡ first_named (pairs (keyed ws)) k
+variant_finds fs no_items k e = refl
+variant_finds fs (item n u g ws) k e = by_option (first_named (pairs fs) (g ∷ n))
+    (λ none. ap (λ vs. first_named (pairs (keyed vs)) k) (kept_variant fs n u g ws none)
+    ∙ by_name (g ∷ n) k
+    (λ same. finds_first (g ∷ n) k u (pairs (keyed (further_variants fs ws))) same ∙ sym (finds_first (g ∷ n) k u (pairs (keyed ws)) same))
+    (λ ne. finds_later (g ∷ n) k u (pairs (keyed (further_variants fs ws))) ne ∙ variant_finds fs ws k e ∙ sym (finds_later (g ∷ n) k u (pairs (keyed ws)) ne)))
+    (λ v some. ap (λ vs. first_named (pairs (keyed vs)) k) (left_variant fs n u g ws v some) ∙ variant_finds fs ws k e
+    ∙ sym (finds_later (g ∷ n) k u (pairs (keyed ws)) (λ q. let none = ap (first_named (pairs fs)) q ∙ e in cc)))
+
+pub variant_back : (fs : Fields) (ws : Variants) (k : List ℕ) (x : Tree) → first_named (pairs (keyed (further_variants fs ws))) k ≡ Some x → (first_named (pairs fs) k ≡ None) × (first_named (pairs (keyed ws)) k ≡ Some x)
+variant_back fs ws k x is = by_option (first_named (pairs fs) k)
+    (λ none. (none, sym (variant_finds fs ws k none) ∙ is))
+    (λ t some. let empty = variant_skips fs ws k t some in cc)
+
+pub variants_repeat : (fs : Fields) (ws : Variants) → no_repeats (pairs (keyed ws)) ≡ true → no_repeats (pairs (keyed (further_variants fs ws))) ≡ true
+variants_repeat fs no_items d = refl
+variants_repeat fs (item n u g ws) d =
+    let r = no_repeats_rest (g ∷ n, u) (pairs (keyed ws)) d in
+    let rest = variants_repeat fs ws r.1 in
+    by_option (first_named (pairs fs) (g ∷ n))
+    (λ none. ap (λ vs. no_repeats (pairs (keyed vs))) (kept_variant fs n u g ws none)
+    ∙ true_both (is_none (first_named (pairs (keyed (further_variants fs ws))) (g ∷ n))) (no_repeats (pairs (keyed (further_variants fs ws)))) (ap is_none (variant_finds fs ws (g ∷ n) none ∙ r.0)) rest)
+    (λ v some. ap (λ vs. no_repeats (pairs (keyed vs))) (left_variant fs n u g ws v some) ∙ rest)
+
+-- no further variants, if the first union has each variant of the second
+pub variants_none : (fs : Fields) (ws : Variants) → ((k : List ℕ) (u : Tree) → first_named (pairs (keyed ws)) k ≡ Some u → (t : Tree) × (first_named (pairs fs) k ≡ Some t)) → further_variants fs ws ≡ no_items
+variants_none fs no_items h = refl
+variants_none fs (item n u g ws) h =
+    let s = h (g ∷ n) u (finds_first (g ∷ n) (g ∷ n) u (pairs (keyed ws)) refl) in
+    left_variant fs n u g ws s.0 s.1 ∙ variants_none fs ws (λ k v is. by_name (g ∷ n) k (λ e. (s.0, sym (ap (first_named (pairs fs)) e) ∙ s.1)) (λ ne. h k v (finds_later (g ∷ n) k u (pairs (keyed ws)) ne ∙ is)))
+
+pub keyed_joined : (us ws : Variants) → pairs (keyed (joined us ws)) ≡ pairs (keyed us) ++ pairs (keyed ws)
+keyed_joined no_items ws = refl
+keyed_joined (item n t f us) ws = ap (λ ps. (f ∷ n, t) ∷ ps) (keyed_joined us ws)
+
+pub joined_nothing : (us : Variants) → joined us no_items ≡ us
+joined_nothing no_items = refl
+joined_nothing (item n t f us) = ap (item n t f) (joined_nothing us)
 
 -- ---- columns and further columns together
 

@@ -2,7 +2,7 @@
 -- SPDX-FileCopyrightText: Copyright the Vortex contributors
 
 -- The value that a reader makes of a value of one type to read it as another is a value of the other.
-use Rattle.std.proofs.Common.{◌≡◌, ◌==◌, ◌&&◌, ℕ, suc, List, Bool, true, false, Some, None, if◌then◌else◌, refl, sym, ap, subst, ◌∙◌, inl, inr}
+use Rattle.std.proofs.Common.{◌≡◌, ◌==◌, ◌&&◌, ℕ, suc, List, ◌∷◌, Bool, true, false, Some, None, if◌then◌else◌, refl, sym, ap, subst, ◌∙◌, inl, inr}
 use Rattle.std.specs.List.{list_all}
 use Rattle.std.proofs.Math.Bool.{not}
 use Rattle.std.proofs.lemmas.Bool.{false≢true}
@@ -13,20 +13,20 @@ use Rattle.dtype_types.specs.nullability.Nullable.{IsNullable}
 use Rattle.dtype_types.specs.nullability.Sub.{Allows}
 use Rattle.dtype_types.specs.parts.Lookups.{first_named}
 use Rattle.dtype_types.specs.tree.Erase.{erase, erase_items}
-use Rattle.dtype_types.specs.tree.Tree.{Tree, Fields, Variants, no_items, item, pairs, null, list, fixed_size_list, map_of, struct, union, extension, rest_of}
+use Rattle.dtype_types.specs.tree.Tree.{Tree, Fields, Variants, no_items, item, pairs, null, list, fixed_size_list, map_of, struct, union, extension, first_tag, rest_of}
 use Rattle.dtype_types.specs.values.Value.{Value, Values, no_values, value, Entries, no_entries, entry, Named, no_named, named, null_value, items, fixed_items, entries, record_of, tagged, Each, EachEntry, NamedOf, Of, VariantOf, value_count}
 use Rattle.dtype_types.proofs.lemmas.Lookups.{other_name, taken_same_name}
 use Rattle.dtype_types.proofs.lemmas.NullValues.{null_is_of_nullable}
 use Rattle.dtype_types.proofs.lemmas.SubValues.{sub_values}
-use Rattle.dtype_merging.specs.Filled.{cell, each_entry, each_value, filled, filled_beside, filled_pairs, filled_variant, in_entries, in_items, in_record, in_variant, value_named}
-use Rattle.dtype_merging.specs.MergedColumns.{no_repeats, tags_differ}
-use Rattle.dtype_merging.specs.ReadsAs.{EachBeside, EachFound, OnlyFurther, ReadsAs, ReadsPlain, StaySorted, tags}
-use Rattle.dtype_merging.proofs.lemmas.Beside.{type_or}
-use Rattle.dtype_merging.proofs.lemmas.Finding.{Agrees, agrees_first, agrees_rest, both_true, by_bool, by_name, by_option, by_place, finds_first, finds_later, found, no_repeats_rest, true_both}
+use Rattle.dtype_merging.specs.Filled.{cell, each_entry, each_value, filled, filled_beside, filled_pairs, filled_variant, in_entries, in_items, in_record, in_variant, or_same, value_named}
+use Rattle.dtype_merging.specs.MergedColumns.{no_repeats, own_tags, tags_differ}
+use Rattle.dtype_merging.specs.ReadsAs.{EachBeside, EachFound, OnlyFurther, ReadsAs, ReadsPlain, StaySorted, keyed, tags}
+use Rattle.dtype_merging.proofs.lemmas.Beside.{name_or, type_or}
+use Rattle.dtype_merging.proofs.lemmas.Finding.{Agrees, agrees_first, agrees_rest, both_true, by_bool, by_name, by_option, by_place, finds_first, finds_later, found, no_repeats_rest, to_found, true_both}
 use Rattle.dtype_merging.proofs.lemmas.Order.{alike_plain, plain}
 use Rattle.dtype_merging.proofs.lemmas.Reading.{erased_kind, reads_kind}
 use Rattle.dtype_merging.proofs.lemmas.Repeats.{distinct_tested, tested_distinct}
-use Rattle.dtype_merging.proofs.lemmas.Variants.{first_tag_alone, tested_tags}
+use Rattle.dtype_merging.proofs.lemmas.Variants.{first_tag_alone, tag_apart, own_keys, own_tested, tested_own, tested_tags}
 
 -- ---- one kind with parts each
 
@@ -75,6 +75,15 @@ other_variant no_items f k x apart e o = o
 other_variant (item n t g vs) f k x apart e o =
     let h = both_true (not (f == g)) (list_all (λ z. not (f == z)) (tags vs)) apart in
     elim o [ inl at ↦ false≢true (ap not (sym ((Decides-eqb f g).1 (sym e ∙ at.0))) ∙ h.0) | inr later ↦ other_variant vs f k x h.1 e later ]
+
+-- the variant of which a value is
+variant_value : (vs : Variants) (k : ℕ) (x : Value) → tags_differ vs ≡ true → VariantOf k x vs → (n : List ℕ) × (t : Tree) × (first_named (pairs (keyed vs)) (k ∷ n) ≡ Some t) × Of x t
+variant_value no_items k x d o = absurd o
+variant_value (item m t f vs) k x d (inl at) = (m, t, finds_first (f ∷ m) (k ∷ m) t (pairs (keyed vs)) (ap (λ z. z ∷ m) (sym at.0)), at.1)
+variant_value (item m t f vs) k x d (inr later) =
+    let alone = first_tag_alone m t f vs d in
+    let r = variant_value vs k x alone.1 later in
+    (r.0, r.1, finds_later (f ∷ m) (k ∷ r.0) t (pairs (keyed vs)) (λ q. let tag : k ≡ f = cc in other_variant vs f k x alone.0 tag later) ∙ r.2, r.3)
 
 -- the value that a name finds is of the type that it finds
 named_value : (nvs : Named) (fs : Fields) → NamedOf nvs fs → (n : List ℕ) (t : Tree) → first_named (pairs fs) n ≡ Some t → (v : Value) × (value_named nvs n ≡ Some v) × Of v t
@@ -165,11 +174,13 @@ mutual
   same_filled (struct fs m) u v e o = let k = erased_kind (struct fs m) u e in cc
   same_filled (union vs m) (union ws n) v e o =
       let f : erase_items vs ≡ erase_items ws = cc in
-      by_bool (tags_differ vs)
-      (λ alone.
-      subst (λ b. (if b then in_variant (λ k x. filled_variant vs ws k x) v else v) ≡ v) (sym alone)
-      (variant_same vs m (λ k x. filled_variant vs ws k x) (λ k x p. variants_same vs ws k x alone f p) v o))
-      (λ repeat. subst (λ b. (if b then in_variant (λ k x. filled_variant vs ws k x) v else v) ≡ v) (sym repeat) refl)
+      by_bool (own_tags vs && own_tags ws)
+      (λ tested.
+      let d = both_true (own_tags vs) (own_tags ws) tested in
+      subst (λ b. (if b then in_variant (λ k x. filled_variant (keyed vs) ws k x) v else v) ≡ v) (sym tested)
+      (variant_same vs m (λ k x. filled_variant (keyed vs) ws k x)
+      (λ k x p. variants_same vs ws (keyed vs) k x (tested_tags vs (own_tested vs d.0).1) f (own_keys vs (own_tested vs d.0)) (λ n z is. is) p) v o))
+      (λ repeat. subst (λ b. (if b then in_variant (λ k x. filled_variant (keyed vs) ws k x) v else v) ≡ v) (sym repeat) refl)
   same_filled (union vs m) u v e o = let k = erased_kind (union vs m) u e in cc
   same_filled (extension i a t) (extension j b u) v e o = same_filled t u v (cc) o
   same_filled (extension i a t) u v e o = let k = erased_kind (extension i a t) u e in cc
@@ -203,16 +214,30 @@ mutual
   beside_same (item n t _ fs) no_items nvs e o = cc
   beside_same (item n t _ fs) (item k u _ gs) no_named e o = refl
 
-  variants_same : (vs ws : Variants) (k : ℕ) (x : Value) → tags_differ vs ≡ true → erase_items vs ≡ erase_items ws → VariantOf k x vs → filled_variant vs ws k x ≡ x
-  variants_same no_items ws k x d e o = refl
-  variants_same (item m t f vs) no_items k x d e o = cc
-  variants_same (item m t f vs) (item n u g ws) k x d e o =
+  -- `hs` is the whole first union, of which `vs` are the last variants
+  variants_same : (vs ws : Variants) (hs : Fields) (k : ℕ) (x : Value) → tags_differ vs ≡ true → erase_items vs ≡ erase_items ws → no_repeats (pairs (keyed vs)) ≡ true → Agrees (pairs (keyed vs)) (pairs hs)
+      → VariantOf k x vs → filled_variant hs ws k x ≡ x
+  variants_same no_items ws hs k x d e z a o = absurd o
+  variants_same (item m t f vs) no_items hs k x d e z a o = cc
+  variants_same (item m t f vs) (item n u g ws) hs k x d e z a o =
       let alone = first_tag_alone m t f vs d in
-      by_bool (k == f)
-      (λ same. subst (λ b. (if b then filled t u x else filled_variant vs ws k x) ≡ x) (sym same)
-      (elim o [ inl at ↦ same_filled t u x (ap (type_or (erase t)) e) at.1 | inr later ↦ absurd (other_variant vs f k x alone.0 ((Decides-eqb k f).0 same) later) ]))
-      (λ ne. subst (λ b. (if b then filled t u x else filled_variant vs ws k x) ≡ x) (sym ne)
-      (elim o [ inl at ↦ absurd (false≢true (sym ne ∙ (Decides-eqb k f).1 at.0)) | inr later ↦ variants_same vs ws k x alone.1 (ap rest_of e) later ]))
+      let name : m ≡ n = ap (name_or m) e in
+      let tag : f ≡ g = ap (first_tag f) e in
+      let key : (g ∷ n) ≡ (f ∷ m) = ap (λ z. z ∷ n) (sym tag) ∙ ap (λ z. f ∷ z) (sym name) in
+      let r = no_repeats_rest (f ∷ m, t) (pairs (keyed vs)) z in
+      let other = first_named (pairs hs) (g ∷ n) in
+      let at : other ≡ Some t = ap (first_named (pairs hs)) key ∙ agrees_first (f ∷ m) t (pairs (keyed vs)) (pairs hs) a in
+      by_bool (k == g)
+      (λ same.
+      let is : k ≡ f = (Decides-eqb k g).0 same ∙ sym tag in
+      subst (λ b. (if b then or_same (λ t. filled t u x) other x else filled_variant hs ws k x) ≡ x) (sym same)
+      (ap (λ o. or_same (λ t. filled t u x) o x) at
+      ∙ elim o [ inl here ↦ same_filled t u x (ap (type_or (erase t)) e) here.1 | inr later ↦ absurd (other_variant vs f k x alone.0 is later) ]))
+      (λ ne. subst (λ b. (if b then or_same (λ t. filled t u x) other x else filled_variant hs ws k x) ≡ x) (sym ne)
+      (elim o [
+        | inl here ↦ absurd (false≢true (sym ne ∙ (Decides-eqb k g).1 (here.0 ∙ tag)))
+        | inr later ↦ variants_same vs ws hs k x alone.1 (ap rest_of e) r.1 (agrees_rest (f ∷ m) t (pairs (keyed vs)) (pairs hs) r.0 a) later
+      ]))
 
 mutual
   pub of_filled : (t u : Tree) → ReadsAs t u → (v : Value) → Of v t → Of (filled t u v) u
@@ -235,19 +260,24 @@ mutual
       subst (λ b. Of (if b then in_record (λ nvs. filled_pairs fs nvs gs) v else in_record (λ nvs. filled_beside fs nvs gs) v) (struct gs n)) (sym differ)
       (struct_filled fs gs m n (λ nvs. filled_beside fs nvs gs) (λ nvs p. beside_filled fs gs nvs h.2 p) h.1 v o)
   of_filled (struct fs m) u h v o = let k = reads_kind (struct fs m) u refl h in cc
-  of_filled (union vs m) (union ws n) h v o = by_bool (tags_differ vs)
-      (λ alone. subst (λ b. Of (if b then in_variant (λ k x. filled_variant vs ws k x) v else v) (union ws n)) (sym alone)
-      (union_filled vs ws m n (λ k x. filled_variant vs ws k x) (λ k x p. variant_filled vs ws k x alone h.1 p) h.0 v o))
-      (λ repeat. subst (λ b. Of (if b then in_variant (λ k x. filled_variant vs ws k x) v else v) (union ws n)) (sym repeat)
-      (elim h.2 [ inl d ↦ absurd (false≢true (sym repeat ∙ tested_tags vs d)) | inr s ↦ sub_values (union vs m) (union ws n) s v o ]))
+  of_filled (union vs m) (union ws n) (inl h) v o =
+      let tested = true_both (own_tags vs) (own_tags ws) (tested_own vs h.0.0) (tested_own ws h.0.1) in
+      subst (λ b. Of (if b then in_variant (λ k x. filled_variant (keyed vs) ws k x) v else v) (union ws n)) (sym tested)
+      (union_filled vs ws m n (λ k x. filled_variant (keyed vs) ws k x) (λ k x p.
+      let q = variant_value vs k x (tested_tags vs h.0.0.1) p in
+      variant_filled (keyed vs) ws k x q.0 q.1 (tested_tags ws h.0.1.1) q.2 q.3 (found ReadsPlain Allows StaySorted IsNullable (Unit {0}) (keyed vs) (keyed ws) (to_found ReadsPlain Allows StaySorted IsNullable (Unit {0}) vs (keyed ws) h.2) (k ∷ q.0) q.1 q.2)) h.1 v o)
+  of_filled (union vs m) (union ws n) (inr h) v o =
+      let test = own_tags vs && own_tags ws in
+      let repeat : test ≡ false = by_bool test (λ tested. let d = both_true (own_tags vs) (own_tags ws) tested in absurd (h.0 (own_tested vs d.0, own_tested ws d.1))) (λ e. e) in
+      subst (λ b. Of (if b then in_variant (λ k x. filled_variant (keyed vs) ws k x) v else v) (union ws n)) (sym repeat) (sub_values (union vs m) (union ws n) h.1 v o)
   of_filled (union vs m) u h v o = let k = reads_kind (union vs m) u refl h in cc
   of_filled (extension i a t) (extension j b u) h v o = of_filled t u h.2 v o
   of_filled (extension i a t) u h v o = let k = reads_kind (extension i a t) u refl h in cc
   of_filled null u h v o = null_filled u v h o
-  of_filled t u h v o = subst (λ x. Of x u) (sym (plain_filled t u v refl)) (sub_values t u (alike_plain ReadsPlain Allows StaySorted IsNullable t u refl h) v o)
+  of_filled t u h v o = subst (λ x. Of x u) (sym (plain_filled t u v refl)) (sub_values t u (alike_plain ReadsPlain Allows StaySorted IsNullable (Unit {0}) t u refl h) v o)
 
   -- `hs` is the whole struct of which `gs` are the last fields
-  pairs_filled : (fs gs hs : Fields) (nvs : Named) → EachFound ReadsPlain Allows StaySorted IsNullable fs hs → OnlyFurther IsNullable fs hs → no_repeats (pairs gs) ≡ true → Agrees (pairs gs) (pairs hs) → NamedOf nvs fs
+  pairs_filled : (fs gs hs : Fields) (nvs : Named) → EachFound ReadsPlain Allows StaySorted IsNullable (Unit {0}) fs hs → OnlyFurther IsNullable fs hs → no_repeats (pairs gs) ≡ true → Agrees (pairs gs) (pairs hs) → NamedOf nvs fs
       → NamedOf (filled_pairs fs nvs gs) gs
   pairs_filled fs no_items hs nvs f only d a o = tt
   pairs_filled fs (item n u _ gs) hs nvs f only d a o =
@@ -257,12 +287,12 @@ mutual
       (λ none. subst (λ z. Of (cell (λ t v. filled t u v) z (value_named nvs n)) u) (sym none) ((null_is_of_nullable u).1 (only n u none at)))
       (λ t some.
       let x = named_value nvs fs o n t some in
-      let r = found ReadsPlain Allows StaySorted IsNullable fs hs f n t some in
+      let r = found ReadsPlain Allows StaySorted IsNullable (Unit {0}) fs hs f n t some in
       let reads = subst (ReadsAs t) (same_Some r.0 u (sym r.1 ∙ at)) r.2 in
       subst (λ z. Of (cell (λ t v. filled t u v) z (value_named nvs n)) u) (sym some) (subst (λ z. Of (cell (λ t v. filled t u v) (Some t) z) u) (sym x.1) (of_filled t u reads x.0 x.2))) in
       (refl, here, pairs_filled fs gs hs nvs f only rest.1 (agrees_rest n u (pairs gs) (pairs hs) rest.0 a) o)
 
-  beside_filled : (fs gs : Fields) (nvs : Named) → EachBeside ReadsPlain Allows StaySorted IsNullable fs gs → NamedOf nvs fs → NamedOf (filled_beside fs nvs gs) gs
+  beside_filled : (fs gs : Fields) (nvs : Named) → EachBeside ReadsPlain Allows StaySorted IsNullable (Unit {0}) fs gs → NamedOf nvs fs → NamedOf (filled_beside fs nvs gs) gs
   beside_filled no_items no_items no_named h o = tt
   beside_filled (item m t _ fs) (item n u _ gs) (named k v nvs) h o = (o.0 ∙ h.0, of_filled t u h.2 v o.1, beside_filled fs gs nvs h.3 o.2)
   beside_filled no_items no_items (named k v nvs) h o = absurd o
@@ -270,13 +300,22 @@ mutual
   beside_filled (item m t _ fs) no_items nvs h o = absurd h
   beside_filled (item m t _ fs) (item n u _ gs) no_named h o = absurd o
 
-  variant_filled : (vs ws : Variants) (k : ℕ) (x : Value) → tags_differ vs ≡ true → EachBeside ReadsPlain Allows StaySorted IsNullable vs ws → VariantOf k x vs → VariantOf k (filled_variant vs ws k x) ws
-  variant_filled no_items ws k x d h o = absurd o
-  variant_filled (item m t f vs) no_items k x d h o = absurd h
-  variant_filled (item m t f vs) (item n u g ws) k x d h o =
-      let alone = first_tag_alone m t f vs d in
-      by_bool (k == f)
-      (λ e. subst (λ b. VariantOf k (if b then filled t u x else filled_variant vs ws k x) (item n u g ws)) (sym e)
-      (elim o [ inl at ↦ inl (at.0 ∙ h.1, of_filled t u h.2 x at.1) | inr later ↦ absurd (other_variant vs f k x alone.0 ((Decides-eqb k f).0 e) later) ]))
-      (λ ne. subst (λ b. VariantOf k (if b then filled t u x else filled_variant vs ws k x) (item n u g ws)) (sym ne)
-      (elim o [ inl at ↦ absurd (false≢true (sym ne ∙ (Decides-eqb k f).1 at.0)) | inr later ↦ inr (variant_filled vs ws k x alone.1 h.3 later) ]))
+  variant_filled : (fs : Fields) (ws : Variants) (k : ℕ) (x : Value) (n : List ℕ) (t : Tree) → tags_differ ws ≡ true → first_named (pairs fs) (k ∷ n) ≡ Some t → Of x t
+      → (u : Tree) × (first_named (pairs (keyed ws)) (k ∷ n) ≡ Some u) × ReadsAs t u → VariantOf k (filled_variant fs ws k x) ws
+  variant_filled fs no_items k x n t d at o r = let none = r.1 in cc
+  variant_filled fs (item m u g ws) k x n t d at o r =
+      let alone = first_tag_alone m u g ws d in
+      let other = first_named (pairs fs) (g ∷ m) in
+      by_bool (k == g)
+      (λ e.
+      let tag = (Decides-eqb k g).0 e in
+      by_place (g ∷ m) (k ∷ n) u r.0 (pairs (keyed ws)) r.1
+      (λ key same.
+      let here : other ≡ Some t = ap (first_named (pairs fs)) key ∙ at in
+      subst (λ b. VariantOf k (if b then or_same (λ t. filled t u x) other x else filled_variant fs ws k x) (item m u g ws)) (sym e)
+      (subst (λ z. VariantOf k (or_same (λ t. filled t u x) z x) (item m u g ws)) (sym here) (inl (tag, of_filled t u (subst (ReadsAs t) (sym same) r.2) x o))))
+      (λ ne later. let none = tag_apart g n ws alone.0 in let some = ap (λ z. first_named (pairs (keyed ws)) (z ∷ n)) (sym tag) ∙ later in cc))
+      (λ ne. subst (λ b. VariantOf k (if b then or_same (λ t. filled t u x) other x else filled_variant fs ws k x) (item m u g ws)) (sym ne)
+      (by_place (g ∷ m) (k ∷ n) u r.0 (pairs (keyed ws)) r.1
+      (λ key same. let tag : k ≡ g = cc in absurd (false≢true (sym ne ∙ (Decides-eqb k g).1 tag)))
+      (λ _ later. inr (variant_filled fs ws k x n t alone.1 at o (r.0, later, r.2)))))

@@ -11,9 +11,9 @@ use Rattle.std.proofs.lemmas.Option.{same_Some}
 use Rattle.std.proofs.lemmas.Slice.Eq.{bytes_eq-Decides}
 use Rattle.dtype_base.specs.declared.nullability.Nullability.{Nullability}
 use Rattle.dtype_types.specs.parts.Lookups.{first_named}
-use Rattle.dtype_types.specs.tree.Tree.{Tree, Fields, no_items, item, pairs}
+use Rattle.dtype_types.specs.tree.Tree.{Tree, Fields, Variants, no_items, item, pairs}
 use Rattle.dtype_types.proofs.lemmas.Lookups.{other_name, taken_same_name}
-use Rattle.dtype_merging.specs.ReadsAs.{Alike, EachFound}
+use Rattle.dtype_merging.specs.ReadsAs.{Alike, EachFound, EachTagged, keyed}
 use Rattle.dtype_merging.specs.MergedColumns.{no_repeats}
 
 -- ---- cases
@@ -80,18 +80,27 @@ no_repeats_rest f ps e = let h = both_true (is_none (first_named ps f.0)) (no_re
 
 -- ---- the names of fields find fields
 
-module _ (L : Tree → Tree → Type 0) (R : Nullability → Nullability → Type 0) (K : Bool → Tree → Bool → Tree → Type 0) (E : Tree → Type 0) where
-  pub found : (fs gs : Fields) → EachFound L R K E fs gs → (n : List ℕ) (t : Tree) → first_named (pairs fs) n ≡ Some t → (u : Tree) × (first_named (pairs gs) n ≡ Some u) × Alike L R K E t u
+module _ (L : Tree → Tree → Type 0) (R : Nullability → Nullability → Type 0) (K : Bool → Tree → Bool → Tree → Type 0) (E : Tree → Type 0) (V : Type 0) where
+  pub found : (fs gs : Fields) → EachFound L R K E V fs gs → (n : List ℕ) (t : Tree) → first_named (pairs fs) n ≡ Some t → (u : Tree) × (first_named (pairs gs) n ≡ Some u) × Alike L R K E V t u
   found no_items gs h n t is = cc
   found (item m x _ fs) gs h n t is =
       by_place m n x t (pairs fs) is
-      (λ e same. let s = some_and (Alike L R K E x) (first_named (pairs gs) m) h.0 in (s.0, sym (ap (first_named (pairs gs)) e) ∙ s.1, subst (λ z. Alike L R K E z s.0) same s.2))
+      (λ e same. let s = some_and (Alike L R K E V x) (first_named (pairs gs) m) h.0 in (s.0, sym (ap (first_named (pairs gs)) e) ∙ s.1, subst (λ z. Alike L R K E V z s.0) same s.2))
       (λ ne later. found fs gs h.1 n t later)
 
   pub each_found : (fs gs : Fields) → no_repeats (pairs fs) ≡ true
-      → ((n : List ℕ) (t : Tree) → first_named (pairs fs) n ≡ Some t → (u : Tree) × (first_named (pairs gs) n ≡ Some u) × Alike L R K E t u) → EachFound L R K E fs gs
+      → ((n : List ℕ) (t : Tree) → first_named (pairs fs) n ≡ Some t → (u : Tree) × (first_named (pairs gs) n ≡ Some u) × Alike L R K E V t u) → EachFound L R K E V fs gs
   each_found no_items gs d f = tt
   each_found (item m x _ fs) gs d f =
       let r = no_repeats_rest (m, x) (pairs fs) d in
       let s = f m x (finds_first m m x (pairs fs) refl) in
-      (of_some_and (Alike L R K E x) (first_named (pairs gs) m) s.0 s.1 s.2, each_found fs gs r.1 (λ n t is. f n t (agrees_rest m x (pairs fs) ((m, x) ∷ pairs fs) r.0 (λ k y e. e) n t is)))
+      (of_some_and (Alike L R K E V x) (first_named (pairs gs) m) s.0 s.1 s.2, each_found fs gs r.1 (λ n t is. f n t (agrees_rest m x (pairs fs) ((m, x) ∷ pairs fs) r.0 (λ k y e. e) n t is)))
+
+  -- the same of variants
+  pub to_found : (vs : Variants) (gs : Fields) → EachTagged L R K E V vs gs → EachFound L R K E V (keyed vs) gs
+  to_found no_items gs h = tt
+  to_found (item n t f vs) gs h = (h.0, to_found vs gs h.1)
+
+  pub of_found : (vs : Variants) (gs : Fields) → EachFound L R K E V (keyed vs) gs → EachTagged L R K E V vs gs
+  of_found no_items gs h = tt
+  of_found (item n t f vs) gs h = (h.0, of_found vs gs h.1)

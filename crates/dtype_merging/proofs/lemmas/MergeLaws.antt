@@ -3,36 +3,38 @@
 
 -- Laws of merging: what is merged of valid types is valid, types that differ in nullabilities alone are merged as
 -- `merge_nullability` merges them, and merging is commutative and associative up to the order of columns.
-use Rattle.std.proofs.Common.{◌≡◌, ◌==◌, ◌&&◌, IfNone, IfSome, [], ◌∷◌, ◌++◌, Option, Some, None, sym, ap, subst, ◌∙◌}
+use Rattle.std.proofs.Common.{◌≡◌, ◌==◌, ◌&&◌, ◌<◌, suc, arith, IfNone, IfSome, [], ◌∷◌, ◌++◌, Option, Some, None, refl, sym, ap, subst, ◌∙◌}
 use Rattle.std.specs.Option.{option_map}
 use Rattle.std.specs.Prelude.{◌↔◌}
 use Rattle.std.specs.Str.{bytes_eq}
 use Rattle.std.proofs.lemmas.Option.{same_Some}
+use Rattle.std.proofs.lemmas.List.Elements.{All-append, All-cons}
+use Rattle.dtype_base.specs.Bytes.{Bytes}
 use Rattle.dtype_base.specs.Nullability.{either}
 use Rattle.dtype_base.specs.declared.nullability.Nullability.TheVariants.{Nullable}
 use Rattle.dtype_types.specs.nullability.Merged.{merge, merged}
 use Rattle.dtype_types.specs.nullability.Nullable.{IsNullable, set_null}
-use Rattle.dtype_types.specs.nullability.Sub.{Allows}
 use Rattle.dtype_types.specs.parts.Lookups.{first_named}
 use Rattle.dtype_types.specs.tree.Erase.{erase}
-use Rattle.dtype_types.specs.tree.Tree.{Tree, Fields, Holder, Items, no_items, item, pairs, fields, null, list, fixed_size_list, map_of, struct, union, extension}
+use Rattle.dtype_types.specs.tree.Tree.{Tree, Fields, Variants, Holder, Items, no_items, item, pairs, fields, null, list, fixed_size_list, map_of, struct, union, extension}
 use Rattle.dtype_types.specs.tree.TreeOf.{tree}
 use Rattle.dtype_types.specs.tree.Valid.{Valid, ValidItems}
 use Rattle.dtype_types.specs.values.Value.{Of, Value}
 use Rattle.dtype_types.specs.declared.dtype.DType.{DType}
 use Rattle.dtype_types.proofs.lemmas.Merging.{merged_least, merged_valid, under_some}
+use Rattle.dtype_types.proofs.lemmas.ValidLists.{are_variants, variants_are}
 use Rattle.dtype_types.proofs.lemmas.ValidParts.{fields_of_pairs}
 use Rattle.dtype_types.proofs.lemmas.Validity.{set_valid}
 use Rattle.dtype_merging.specs.Filled.{filled}
-use Rattle.dtype_merging.specs.ReadsAs.{HaveNoReader, IsLeastReader, ReadsAs, ReadsPlain, SameColumns, StaySorted}
-use Rattle.dtype_merging.specs.MergedColumns.{column, columns_merged, further, made_nullable, merged_beside, merged_by_name, no_repeats, stay_sorted, struct_with}
-use Rattle.dtype_merging.proofs.lemmas.Beside.{beside_tags, beside_variants, items_of}
-use Rattle.dtype_merging.proofs.lemmas.Columns.{further_kept, further_left, made_set}
+use Rattle.dtype_merging.specs.ReadsAs.{HaveNoReader, IsLeastReader, ReadsAs, SameColumns, keyed, tags}
+use Rattle.dtype_merging.specs.MergedColumns.{column, columns_merged, further, further_variants, joined, made_nullable, merged_beside, merged_by_name, merged_by_tag, no_repeats, stay_sorted, struct_with, variant_type}
+use Rattle.dtype_merging.proofs.lemmas.Beside.{items_of, put_some}
+use Rattle.dtype_merging.proofs.lemmas.Columns.{further_kept, further_left, kept_variant, left_variant, made_set}
 use Rattle.dtype_merging.proofs.lemmas.Filling.{of_filled}
 use Rattle.dtype_merging.proofs.lemmas.Finding.{Pairs, by_bool, by_option}
-use Rattle.dtype_merging.proofs.lemmas.Merging.{above, above_beside, field_valid, if_some, least, map_made, mapped_some, pick_false, merged_with_null, pick_true, prepended, same_merged, union_made}
+use Rattle.dtype_merging.proofs.lemmas.Merging.{above, field_valid, if_some, keyed_valid, least, map_made, mapped_some, pick_false, merged_with_null, pick_true, prepended, same_merged, unions_of}
 use Rattle.dtype_merging.proofs.lemmas.Reading.{reads_back, reads_itself, reads_more, sub_reads}
-use Rattle.dtype_merging.proofs.lemmas.Variants.{also_variants}
+use Rattle.dtype_merging.proofs.lemmas.Variants.{tested_accepted}
 
 -- ---- valid types
 
@@ -48,6 +50,36 @@ further_valid fs (g ∷ gs) h = by_option (first_named fs g.0)
 joined_valid : (ps qs : Pairs) → ValidItems (fields ps) → ValidItems (fields qs) → ValidItems (fields (ps ++ qs))
 joined_valid [] qs h g = g
 joined_valid (p ∷ ps) qs h g = (h.0, joined_valid ps qs h.1 g)
+
+-- the tags and the types of variants
+
+joined_tags : (us ws : Variants) → tags (joined us ws) ≡ tags us ++ tags ws
+joined_tags no_items ws = refl
+joined_tags (item n t f us) ws = ap (λ gs. f ∷ gs) (joined_tags us ws)
+
+tagged_tags : (vs : Variants) (gs : Fields) (us : Variants) → merged_by_tag vs gs ≡ Some us → tags vs ≡ tags us
+tagged_tags no_items gs us e = ap tags (same_Some no_items us e)
+tagged_tags (item n t f vs) gs us e =
+    let r = put_some n f (variant_type t (λ u. columns_merged t u) (first_named (pairs gs) (f ∷ n))) (merged_by_tag vs gs) us e in
+    ap (λ ks. f ∷ ks) (tagged_tags vs gs r.1 r.3) ∙ ap tags r.4
+
+further_tags : (fs : Fields) (ws : Variants) → Bytes (tags ws) → Bytes (tags (further_variants fs ws))
+further_tags fs no_items h = h
+further_tags fs (item n u g ws) h =
+    let rest = further_tags fs ws (λ k d within. h (suc k) d (omega (arith, within))) in
+    by_option (first_named (pairs fs) (g ∷ n))
+    (λ none. subst (λ z. Bytes (tags z)) (sym (kept_variant fs n u g ws none)) (All-cons (λ b. b < 256) g (tags (further_variants fs ws)) (h 0 g (omega arith)) rest))
+    (λ t some. subst (λ z. Bytes (tags z)) (sym (left_variant fs n u g ws t some)) rest)
+
+variants_valid : (us ws : Variants) → ValidItems us → ValidItems ws → ValidItems (joined us ws)
+variants_valid no_items ws h g = g
+variants_valid (item n t f us) ws h g = (h.0, variants_valid us ws h.1 g)
+
+further_variants_valid : (fs : Fields) (ws : Variants) → ValidItems ws → ValidItems (further_variants fs ws)
+further_variants_valid fs no_items h = tt
+further_variants_valid fs (item n u g ws) h = by_option (first_named (pairs fs) (g ∷ n))
+    (λ none. subst ValidItems (sym (kept_variant fs n u g ws none)) (h.0, further_variants_valid fs ws h.1))
+    (λ t some. subst ValidItems (sym (left_variant fs n u g ws t some)) (further_variants_valid fs ws h.1))
 
 mutual
   pub merge_valid : (a b c : Tree) → columns_merged a b ≡ Some c → Valid a → Valid b → Valid c
@@ -74,12 +106,12 @@ mutual
       let r = mapped_some (λ hs. struct hs (either m n)) (merged_beside fs gs) c (sym (pick_false test named beside differ) ∙ e) in
       subst Valid r.2 (merge_valid_beside fs gs r.0 r.1 h g))
   merge_valid (union vs m) (union ws n) c e h g =
-      let r = union_made (merged_beside vs ws) (either m n) c e in
-      let up = (above_beside vs ws r.0 r.1).0 in
-      subst Valid r.3 (
-        also_variants vs r.0 (beside_variants ReadsPlain Allows StaySorted IsNullable vs r.0 up) (beside_tags ReadsPlain Allows StaySorted IsNullable vs r.0 up) h.0,
-        merge_valid_beside vs ws r.0 r.1 h.1 g.1,
-      )
+      let r = unions_of vs ws m n c e in
+      let more = further_variants (keyed vs) ws in
+      let all = joined r.0 more in
+      let bytes : Bytes (tags all) = subst Bytes (sym (joined_tags r.0 more))
+      (All-append (λ b. b < 256) (tags r.0) (tags more) (subst Bytes (tagged_tags vs (keyed ws) r.0 r.2) (variants_are vs h.0).1) (further_tags (keyed vs) ws (variants_are ws g.0).1)) in
+      subst Valid r.4 (are_variants all (tested_accepted all r.3) bytes, variants_valid r.0 more (merge_valid_tagged vs (keyed ws) r.0 r.2 h.1 (keyed_valid ws g.1)) (further_variants_valid (keyed vs) ws g.1))
   merge_valid (extension i a t) (extension j b u) c e h g =
       let s = if_some (bytes_eq i j && bytes_eq a b) (option_map (extension i a) (columns_merged t u)) c e in
       let r = mapped_some (extension i a) (columns_merged t u) c s.1 in subst Valid r.2 (h.0, merge_valid t u r.0 r.1 h.1 g.1)
@@ -94,6 +126,16 @@ mutual
       (λ none. subst Valid (same_Some (made_nullable t) x (sym (ap (column t (λ u. columns_merged t u)) none) ∙ r.2)) (made_valid t h.0))
       (λ u some. merge_valid t u x (sym (ap (column t (λ u. columns_merged t u)) some) ∙ r.2) h.0 (field_valid gs n u g some)) in
       subst (λ qs. ValidItems (fields qs)) r.4 (here, merge_valid_rows fs gs r.1 r.3 h.1 g)
+
+  merge_valid_tagged : (vs : Variants) (gs : Fields) (us : Variants) → merged_by_tag vs gs ≡ Some us → ValidItems vs → ValidItems gs → ValidItems us
+  merge_valid_tagged no_items gs us e h g = subst ValidItems (same_Some no_items us e) tt
+  merge_valid_tagged (item n t f vs) gs us e h g =
+      let r = put_some n f (variant_type t (λ u. columns_merged t u) (first_named (pairs gs) (f ∷ n))) (merged_by_tag vs gs) us e in
+      let x = r.0 in
+      let here : Valid x = by_option (first_named (pairs gs) (f ∷ n))
+      (λ none. subst Valid (same_Some t x (sym (ap (variant_type t (λ u. columns_merged t u)) none) ∙ r.2)) h.0)
+      (λ u some. merge_valid t u x (sym (ap (variant_type t (λ u. columns_merged t u)) some) ∙ r.2) h.0 (field_valid gs (f ∷ n) u g some)) in
+      subst ValidItems r.4 (here, merge_valid_tagged vs gs r.1 r.3 h.1 g)
 
   merge_valid_beside : {h : Holder} (xs ys zs : Items h) → merged_beside xs ys ≡ Some zs → ValidItems xs → ValidItems ys → ValidItems zs
   merge_valid_beside no_items no_items zs e p q = subst ValidItems (same_Some no_items zs e) tt

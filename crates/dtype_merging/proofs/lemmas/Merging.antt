@@ -20,7 +20,7 @@ use Rattle.dtype_types.specs.parts.Lookups.{first_named}
 use Rattle.dtype_types.specs.declared.dtype.kinds.Kind.TheVariants as variants
 use Rattle.dtype_types.specs.tree.Erase.{erase, erase_items}
 use Rattle.dtype_types.specs.tree.Kinds.{kind}
-use Rattle.dtype_types.specs.tree.Tree.{Tree, Fields, Variants, Holder, Items, no_items, item, pairs, fields, null, list, fixed_size_list, map_of, struct, union, extension, rest_of}
+use Rattle.dtype_types.specs.tree.Tree.{Tree, Fields, Variants, Holder, Items, no_items, item, pairs, fields, null, list, fixed_size_list, map_of, struct, union, extension, first_tag, rest_of}
 use Rattle.dtype_types.specs.tree.Valid.{Valid, ValidItems}
 use Rattle.dtype_types.proofs.lemmas.Bounds.{upwards}
 use Rattle.dtype_types.proofs.lemmas.JoinedFields.{named_behind}
@@ -28,15 +28,15 @@ use Rattle.dtype_types.proofs.lemmas.Merging.{merged_least, under_some, under_wh
 use Rattle.dtype_types.proofs.lemmas.NullValues.{allows_either}
 use Rattle.dtype_types.proofs.lemmas.Validity.{type_named_valid}
 use Rattle.dtype_types.proofs.lemmas.ValidParts.{fields_of_pairs}
-use Rattle.dtype_merging.specs.ReadsAs.{EachBeside, EachFound, NoRepeats, OnlyFurther, ReadsAs, ReadsPlain, StaySorted, tags}
-use Rattle.dtype_merging.specs.MergedColumns.{can_be_variants, column, columns_merged, further, made_nullable, map_of_key, map_with, merged_beside, merged_by_name, no_repeats, others_merged, prepend, stay_sorted, struct_with, union_with}
-use Rattle.dtype_merging.proofs.lemmas.Beside.{beside_names, beside_tags, beside_variants, items_of, of_items, type_or}
-use Rattle.dtype_merging.proofs.lemmas.Columns.{Rows, distinct_columns, found_before, found_behind, further_back, further_finds, further_left, further_repeats, further_skips, in_struct, joined_repeats, made_above, made_is, made_least, of_columns, row_at, row_back, row_none, row_repeats}
-use Rattle.dtype_merging.proofs.lemmas.Finding.{Agrees, Pairs, agrees_first, agrees_rest, both_true, by_bool, by_name, by_option, each_found, finds_first, finds_later, found, no_repeats_rest, some_and, true_both}
+use Rattle.dtype_merging.specs.ReadsAs.{EachBeside, EachFound, EachTagged, HasOwnTags, NoRepeats, OnlyFurther, OwnTags, ReadsAs, ReadsPlain, StaySorted, keyed, tags}
+use Rattle.dtype_merging.specs.MergedColumns.{can_be_variants, column, columns_merged, further, further_variants, joined, made_nullable, map_of_key, map_with, merged_beside, merged_by_name, merged_by_tag, no_repeats, others_merged, own_tags, prepend, put_first, stay_sorted, struct_with, union_with, variant_type}
+use Rattle.dtype_merging.proofs.lemmas.Beside.{beside_names, items_of, name_or, of_items, put_some, type_or}
+use Rattle.dtype_merging.proofs.lemmas.Columns.{Rows, distinct_columns, found_before, found_behind, further_back, further_finds, further_left, further_repeats, further_skips, in_struct, joined_nothing, joined_repeats, keyed_joined, made_above, made_is, made_least, of_columns, row_at, row_back, row_none, row_repeats, variant_back, variant_finds, variant_skips, variants_none, variants_repeat}
+use Rattle.dtype_merging.proofs.lemmas.Finding.{Agrees, Pairs, agrees_first, agrees_rest, both_true, by_bool, by_name, by_option, each_found, finds_first, finds_later, found, no_repeats_rest, of_found, some_and, to_found, true_both}
 use Rattle.dtype_merging.proofs.lemmas.Order.{alike_plain, is_null, of_extension, of_fixed, of_list, of_map, of_struct, of_union, plain, plain_kind}
-use Rattle.dtype_merging.proofs.lemmas.Reading.{erased_kind, erased_lacks, not_null, plain_kinds, plain_sub, reads_kind, reads_nullable, sub_reads}
+use Rattle.dtype_merging.proofs.lemmas.Reading.{erased_kind, erased_lacks, not_null, plain_kinds, plain_sub, read_tags, reads_itself, reads_kind, reads_nullable, sub_reads}
 use Rattle.dtype_merging.proofs.lemmas.Repeats.{distinct_tested, repeats_tested, tested_distinct}
-use Rattle.dtype_merging.proofs.lemmas.Variants.{also_variants, tested_variants, variants_tested}
+use Rattle.dtype_merging.proofs.lemmas.Variants.{any_key, can_be, can_own, has_key, own_along, own_keys, own_tested, tested_own, tested_variants, valid_own, variants_tested}
 
 -- ---- results that are there
 
@@ -59,18 +59,38 @@ prepended n (Some x) (Some rest) ps e = (x, rest, refl, refl, same_Some ((n, x) 
 prepended n (Some x) None ps e = cc
 prepended n None r ps e = cc
 
-keyed : (m : Nullability) (k v : Tree) (s : Bool) (n : Nullability) (c : Tree) → map_of_key m k v s n ≡ Some c → (map_of k v s n ≡ c) × (m ≡ NonNullable)
-keyed NonNullable k v s n c e = (same_Some (map_of k v s n) c e, refl)
-keyed Nullable k v s n c e = cc
+key_made : (m : Nullability) (k v : Tree) (s : Bool) (n : Nullability) (c : Tree) → map_of_key m k v s n ≡ Some c → (map_of k v s n ≡ c) × (m ≡ NonNullable)
+key_made NonNullable k v s n c e = (same_Some (map_of k v s n) c e, refl)
+key_made Nullable k v s n c e = cc
 
 pub map_made : (o p : Option Tree) (s : Bool) (n : Nullability) (c : Tree) → map_with o p s n ≡ Some c → (k v : Tree) × (o ≡ Some k) × (p ≡ Some v) × (map_of k v s n ≡ c) × (nullability k ≡ NonNullable)
-map_made (Some k) (Some v) s n c e = let r = keyed (nullability k) k v s n c e in (k, v, refl, refl, r.0, r.1)
+map_made (Some k) (Some v) s n c e = let r = key_made (nullability k) k v s n c e in (k, v, refl, refl, r.0, r.1)
 map_made (Some k) None s n c e = cc
 map_made None p s n c e = cc
 
 pub union_made : (o : Option Variants) (n : Nullability) (c : Tree) → union_with o n ≡ Some c → (vs : Variants) × (o ≡ Some vs) × (can_be_variants vs ≡ true) × (union vs n ≡ c)
 union_made (Some vs) n c e = let s = if_some (can_be_variants vs) (Some (union vs n)) c e in (vs, refl, s.0, same_Some (union vs n) c s.1)
 union_made None n c e = cc
+
+joined_of : (o : Option Variants) (more us : Variants) → option_map (λ vs. joined vs more) o ≡ Some us → (vs : Variants) × (o ≡ Some vs) × (joined vs more ≡ us)
+joined_of (Some vs) more us e = (vs, refl, same_Some (joined vs more) us e)
+joined_of None more us e = cc
+
+-- what is merged of two unions
+pub unions_of : (vs ws : Variants) (m n : Nullability) (c : Tree) → columns_merged (union vs m) (union ws n) ≡ Some c
+    → (us : Variants) × OwnTags vs ws × (merged_by_tag vs (keyed ws) ≡ Some us) × (can_be_variants (joined us (further_variants (keyed vs) ws)) ≡ true) × (union (joined us (further_variants (keyed vs) ws)) (either m n) ≡ c)
+unions_of vs ws m n c e =
+    let more = further_variants (keyed vs) ws in
+    let made = option_map (λ us. joined us more) (merged_by_tag vs (keyed ws)) in
+    let s = if_some (own_tags vs && own_tags ws) (union_with made (either m n)) c e in
+    let d = both_true (own_tags vs) (own_tags ws) s.0 in
+    let r = union_made made (either m n) c s.1 in
+    let j = joined_of (merged_by_tag vs (keyed ws)) more r.0 r.1 in
+    (j.0, (own_tested vs d.0, own_tested ws d.1), j.1, subst (λ z. can_be_variants z ≡ true) (sym j.2) r.2, ap (λ z. union z (either m n)) j.2 ∙ r.3)
+
+keyed_erased : (vs : Variants) → erase_items (keyed vs) ≡ keyed (erase_items vs)
+keyed_erased no_items = refl
+keyed_erased (item n t f vs) = ap (item (f ∷ n) (erase t) tt) (keyed_erased vs)
 
 key_kept : (m : Nullability) (k v : Tree) (s : Bool) (n : Nullability) → m ≢ Nullable → map_of_key m k v s n ≡ Some (map_of k v s n)
 key_kept NonNullable k v s n sure = refl
@@ -163,7 +183,12 @@ mutual
       ap (λ hs. struct hs (either m n)) (same_items fs gs r.0 r.1 same) ∙ r.2)
   same_merged (struct fs m) b c e f = let k = erased_kind (struct fs m) b f in cc
   same_merged (union vs m) (union ws n) c e f =
-      let r = union_made (merged_beside vs ws) (either m n) c e in ap (λ us. union us (either m n)) (same_items vs ws r.0 r.1 (cc)) ∙ r.3
+      let same : erase_items vs ≡ erase_items ws = cc in
+      let r = unions_of vs ws m n c e in
+      let keys : erase_items (keyed vs) ≡ erase_items (keyed ws) = keyed_erased vs ∙ ap keyed same ∙ sym (keyed_erased ws) in
+      let none : further_variants (keyed vs) ws ≡ no_items =
+      variants_none (keyed vs) ws (λ k u is. by_option (first_named (pairs (keyed vs)) k) (λ lacks. let z = erased_lacks (keyed vs) (keyed ws) k keys lacks in cc) (λ t at. (t, at))) in
+      ap (λ z. union z (either m n)) (same_variants vs ws (keyed ws) r.0 r.2 same (own_keys ws r.1.1) (λ k u is. is) ∙ sym (joined_nothing r.0) ∙ ap (joined r.0) (sym none)) ∙ r.4
   same_merged (union vs m) b c e f = let k = erased_kind (union vs m) b f in cc
   same_merged (extension i a t) (extension j b u) c e f =
       let s = if_some (bytes_eq i j && bytes_eq a b) (option_map (extension i a) (columns_merged t u)) c e in
@@ -188,6 +213,22 @@ mutual
       let here : merge either t u ≡ p.0 = same_merged t u p.0 (sym (ap (column t (λ u. columns_merged t u)) at) ∙ p.2) type in
       ap (λ x. (n, x) ∷ pairs (merge_items either fs gs)) here
       ∙ ap (λ xs. (n, p.0) ∷ xs) (same_rows fs gs hs p.1 p.3 (ap rest_of f) r.1 (agrees_rest k u (pairs gs) (pairs hs) r.0 a)) ∙ p.4
+
+  -- the variants that the tags and names find; `hs` is the whole union of which `ws` are the last variants
+  same_variants : (vs ws : Variants) (hs : Fields) (us : Variants) → merged_by_tag vs hs ≡ Some us → erase_items vs ≡ erase_items ws → no_repeats (pairs (keyed ws)) ≡ true → Agrees (pairs (keyed ws)) (pairs hs)
+      → merge_items either vs ws ≡ us
+  same_variants no_items no_items hs us e f d a = same_Some no_items us e
+  same_variants no_items (item n u g ws) hs us e f d a = cc
+  same_variants (item m t k vs) no_items hs us e f d a = cc
+  same_variants (item m t k vs) (item n u g ws) hs us e f d a =
+      let name : m ≡ n = ap (name_or m) f in
+      let tag : k ≡ g = ap (first_tag k) f in
+      let key : (g ∷ n) ≡ (k ∷ m) = ap (λ z. z ∷ n) (sym tag) ∙ ap (λ z. k ∷ z) (sym name) in
+      let r = no_repeats_rest (g ∷ n, u) (pairs (keyed ws)) d in
+      let at : first_named (pairs hs) (k ∷ m) ≡ Some u = ap (first_named (pairs hs)) (sym key) ∙ agrees_first (g ∷ n) u (pairs (keyed ws)) (pairs hs) a in
+      let p = put_some m k (variant_type t (λ u. columns_merged t u) (first_named (pairs hs) (k ∷ m))) (merged_by_tag vs hs) us e in
+      let here : merge either t u ≡ p.0 = same_merged t u p.0 (sym (ap (variant_type t (λ u. columns_merged t u)) at) ∙ p.2) (ap (type_or (erase t)) f) in
+      ap (λ x. item m x k (merge_items either vs ws)) here ∙ ap (item m p.0 k) (same_variants vs ws hs p.1 p.3 (ap rest_of f) r.1 (agrees_rest (g ∷ n) u (pairs (keyed ws)) (pairs hs) r.0 a)) ∙ p.4
 
   same_items : {h : Holder} (xs ys zs : Items h) → merged_beside xs ys ≡ Some zs → erase_items xs ≡ erase_items ys → merge_items either xs ys ≡ zs
   same_items no_items no_items zs e f = same_Some no_items zs e
@@ -229,7 +270,7 @@ structs_above fs gs m n ps d e rows =
       inl (
         (distinct_tested (pairs fs) d, alone),
         allows_either m n,
-        each_found ReadsPlain Allows StaySorted IsNullable fs (fields all) d (λ k t is. let r = row_at (Above gs) fs ps rows k t is in (r.0, in_struct all k (Some r.0) (found_before ps more k r.0 r.1), r.2.0)),
+        each_found ReadsPlain Allows StaySorted IsNullable (Unit {0}) fs (fields all) d (λ k t is. let r = row_at (Above gs) fs ps rows k t is in (r.0, in_struct all k (Some r.0) (found_before ps more k r.0 r.1), r.2.0)),
         λ k x none is. by_option (first_named ps k)
             (λ lacks. let b = further_back (pairs fs) (pairs gs) k x (sym (behind ps more k lacks) ∙ of_columns all k (Some x) is) in subst IsNullable (sym b.3) (made_is b.0))
             (λ y some. let r = row_back (Above gs) fs ps rows k y some in let at = r.1 in cc),
@@ -237,7 +278,7 @@ structs_above fs gs m n ps d e rows =
       inl (
         (distinct_tested (pairs gs) e, alone),
         upwards.second m n,
-        each_found ReadsPlain Allows StaySorted IsNullable gs (fields all) e (λ k u is. by_option (first_named (pairs fs) k)
+        each_found ReadsPlain Allows StaySorted IsNullable (Unit {0}) gs (fields all) e (λ k u is. by_option (first_named (pairs fs) k)
             (λ none. (made_nullable u, in_struct all k (Some (made_nullable u)) (found_behind ps more k (made_nullable u) (row_none (Above gs) fs ps rows k none) (further_finds (pairs fs) (pairs gs) k u none is)), made_above u))
             (λ t some. let r = row_at (Above gs) fs ps rows k t some in (r.0, in_struct all k (Some r.0) (found_before ps more k r.0 r.1), r.2.1 u is))),
         λ k x none is. by_option (first_named ps k)
@@ -249,22 +290,46 @@ structs_above fs gs m n ps d e rows =
     )
 
 -- two structs, in one of which a name repeats, can be read as the struct of fields as which theirs can be read one by one
-repeating_above : (fs gs hs : Fields) (m n : Nullability) → (¬ NoRepeats fs gs) → EachBeside ReadsPlain Allows StaySorted IsNullable fs hs × EachBeside ReadsPlain Allows StaySorted IsNullable gs hs
+repeating_above : (fs gs hs : Fields) (m n : Nullability) → (¬ NoRepeats fs gs) → EachBeside ReadsPlain Allows StaySorted IsNullable (Unit {0}) fs hs × EachBeside ReadsPlain Allows StaySorted IsNullable (Unit {0}) gs hs
     → ReadsAs (struct fs m) (struct hs (either m n)) × ReadsAs (struct gs n) (struct hs (either m n))
 repeating_above fs gs hs m n repeat h =
-    let first = beside_names ReadsPlain Allows StaySorted IsNullable fs hs h.0 in
-    let second = beside_names ReadsPlain Allows StaySorted IsNullable gs hs h.1 in (
+    let first = beside_names ReadsPlain Allows StaySorted IsNullable (Unit {0}) fs hs h.0 in
+    let second = beside_names ReadsPlain Allows StaySorted IsNullable (Unit {0}) gs hs h.1 in (
       inr (λ d. repeat (d.0, subst Distinct (sym second) d.1), allows_either m n, h.0),
       inr (λ d. repeat (subst Distinct (sym first) d.1, d.0), upwards.second m n, h.1),
     )
 
--- and so can two unions
-unions_above : (vs ws us : Variants) (m n : Nullability) → Distinct (tags us) → EachBeside ReadsPlain Allows StaySorted IsNullable vs us × EachBeside ReadsPlain Allows StaySorted IsNullable ws us
-    → ReadsAs (union vs m) (union us (either m n)) × ReadsAs (union ws n) (union us (either m n))
-unions_above vs ws us m n d h = (
-  (allows_either m n, h.0, inl (subst Distinct (sym (beside_tags ReadsPlain Allows StaySorted IsNullable vs us h.0)) d)),
-  (upwards.second m n, h.1, inl (subst Distinct (sym (beside_tags ReadsPlain Allows StaySorted IsNullable ws us h.1)) d)),
-)
+-- of a variant and what is merged of it: what can be read as it
+abbrev AboveTagged : Fields → List ℕ → Tree → Tree → Type 0
+AboveTagged gs k t x = ReadsAs t x × ((u : Tree) → first_named (pairs gs) k ≡ Some u → ReadsAs u x)
+
+-- two unions can be read as the union of such variants, followed by the further ones
+unions_above : (vs ws us : Variants) (m n : Nullability) → OwnTags vs ws → HasOwnTags (joined us (further_variants (keyed vs) ws)) → Rows (AboveTagged (keyed ws)) (keyed vs) (pairs (keyed us))
+    → ReadsAs (union vs m) (union (joined us (further_variants (keyed vs) ws)) (either m n)) × ReadsAs (union ws n) (union (joined us (further_variants (keyed vs) ws)) (either m n))
+unions_above vs ws us m n d alone rows =
+    let fs = keyed vs in
+    let gs = keyed ws in
+    let more = further_variants fs ws in
+    let all = keyed (joined us more) in
+    let ps = pairs (keyed us) in
+    let qs = pairs (keyed more) in
+    let both : pairs all ≡ ps ++ qs = keyed_joined us more in
+    let at : (k : List ℕ) (x : Tree) → first_named (ps ++ qs) k ≡ Some x → first_named (pairs all) k ≡ Some x = λ k x is. ap (λ z. first_named z k) both ∙ is in (
+      inl (
+        (d.0, alone),
+        allows_either m n,
+        of_found ReadsPlain Allows StaySorted IsNullable (Unit {0}) vs all (each_found ReadsPlain Allows StaySorted IsNullable (Unit {0}) fs all (own_keys vs d.0) (λ k t is. let r = row_at (AboveTagged gs) fs ps rows k t is in (r.0, at k r.0 (found_before ps qs k r.0 r.1), r.2.0))),
+        λ k u none is. tt,
+      ),
+      inl (
+        (d.1, alone),
+        upwards.second m n,
+        of_found ReadsPlain Allows StaySorted IsNullable (Unit {0}) ws all (each_found ReadsPlain Allows StaySorted IsNullable (Unit {0}) gs all (own_keys ws d.1) (λ k u is. by_option (first_named (pairs fs) k)
+            (λ none. (u, at k u (found_behind ps qs k u (row_none (AboveTagged gs) fs ps rows k none) (variant_finds fs ws k none ∙ is)), reads_itself u))
+            (λ t some. let r = row_at (AboveTagged gs) fs ps rows k t some in (r.0, at k r.0 (found_before ps qs k r.0 r.1), r.2.1 u is)))),
+        λ k u none is. tt,
+      ),
+    )
 
 mutual
   pub above : (a b c : Tree) → columns_merged a b ≡ Some c → ReadsAs a c × ReadsAs b c
@@ -302,8 +367,11 @@ mutual
       let r = mapped_some (λ hs. struct hs (either m n)) (merged_beside fs gs) c (sym (pick_false test named beside differ) ∙ e) in
       subst (λ z. ReadsAs (struct fs m) z × ReadsAs (struct gs n) z) r.2 (repeating_above fs gs r.0 m n (repeats_tested fs gs differ) (above_beside fs gs r.0 r.1)))
   above (union vs m) (union ws n) c e =
-      let r = union_made (merged_beside vs ws) (either m n) c e in
-      subst (λ z. ReadsAs (union vs m) z × ReadsAs (union ws n) z) r.3 (unions_above vs ws r.0 m n (variants_tested r.0 r.2) (above_beside vs ws r.0 r.1))
+      let r = unions_of vs ws m n c e in
+      let all = joined r.0 (further_variants (keyed vs) ws) in
+      let rows = above_tagged vs (keyed ws) r.0 r.2 in
+      let own : HasOwnTags all = can_own all r.3 in
+      subst (λ z. ReadsAs (union vs m) z × ReadsAs (union ws n) z) r.4 (unions_above vs ws r.0 m n r.1 own rows)
   above (extension i a t) (extension j b u) c e =
       let s = if_some (bytes_eq i j && bytes_eq a b) (option_map (extension i a) (columns_merged t u)) c e in
       let same = both_true (bytes_eq i j) (bytes_eq a b) s.0 in
@@ -326,13 +394,27 @@ mutual
       (h.0, λ v at. subst (λ z. ReadsAs z x) (same_Some u v (sym some ∙ at)) h.1, λ none. cc)) in
       subst (Rows (Above gs) (item n t tt fs)) r.4 (refl, here, above_rows fs gs r.1 r.3)
 
-  pub above_beside : {h : Holder} (xs ys zs : Items h) → merged_beside xs ys ≡ Some zs → EachBeside ReadsPlain Allows StaySorted IsNullable xs zs × EachBeside ReadsPlain Allows StaySorted IsNullable ys zs
-  above_beside no_items no_items zs e = subst (λ z. EachBeside ReadsPlain Allows StaySorted IsNullable no_items z × EachBeside ReadsPlain Allows StaySorted IsNullable no_items z) (same_Some no_items zs e) (tt, tt)
+  pub above_tagged : (vs : Variants) (gs : Fields) (us : Variants) → merged_by_tag vs gs ≡ Some us → Rows (AboveTagged gs) (keyed vs) (pairs (keyed us))
+  above_tagged no_items gs us e = subst (λ z. Rows (AboveTagged gs) no_items (pairs (keyed z))) (same_Some no_items us e) tt
+  above_tagged (item n t f vs) gs us e =
+      let r = put_some n f (variant_type t (λ u. columns_merged t u) (first_named (pairs gs) (f ∷ n))) (merged_by_tag vs gs) us e in
+      let x = r.0 in
+      let here : AboveTagged gs (f ∷ n) t x = by_option (first_named (pairs gs) (f ∷ n))
+      (λ none.
+      let made : t ≡ x = same_Some t x (sym (ap (variant_type t (λ u. columns_merged t u)) none) ∙ r.2) in
+      (subst (ReadsAs t) made (reads_itself t), λ u some. cc))
+      (λ u some.
+      let h = above t u x (sym (ap (variant_type t (λ u. columns_merged t u)) some) ∙ r.2) in
+      (h.0, λ v at. subst (λ z. ReadsAs z x) (same_Some u v (sym some ∙ at)) h.1)) in
+      subst (λ z. Rows (AboveTagged gs) (item (f ∷ n) t tt (keyed vs)) (pairs (keyed z))) r.4 (refl, here, above_tagged vs gs r.1 r.3)
+
+  pub above_beside : {h : Holder} (xs ys zs : Items h) → merged_beside xs ys ≡ Some zs → EachBeside ReadsPlain Allows StaySorted IsNullable (Unit {0}) xs zs × EachBeside ReadsPlain Allows StaySorted IsNullable (Unit {0}) ys zs
+  above_beside no_items no_items zs e = subst (λ z. EachBeside ReadsPlain Allows StaySorted IsNullable (Unit {0}) no_items z × EachBeside ReadsPlain Allows StaySorted IsNullable (Unit {0}) no_items z) (same_Some no_items zs e) (tt, tt)
   above_beside (item m t f xs) (item n u g ys) zs e =
       let r = items_of m t f xs n u g ys zs e in
       let h = above t u r.0 r.4 in
       let rest = above_beside xs ys r.1 r.5 in
-      subst (λ z. EachBeside ReadsPlain Allows StaySorted IsNullable (item m t f xs) z × EachBeside ReadsPlain Allows StaySorted IsNullable (item n u g ys) z) r.6 ((refl, refl, h.0, rest.0), (sym r.2, sym r.3, h.1, rest.1))
+      subst (λ z. EachBeside ReadsPlain Allows StaySorted IsNullable (Unit {0}) (item m t f xs) z × EachBeside ReadsPlain Allows StaySorted IsNullable (Unit {0}) (item n u g ys) z) r.6 ((refl, refl, h.0, rest.0), (sym r.2, sym r.3, h.1, rest.1))
   above_beside no_items (item n u g ys) zs e = cc
   above_beside (item m t f xs) no_items zs e = cc
 
@@ -342,7 +424,7 @@ mutual
 abbrev Below : Fields → List ℕ → Tree → Tree → Type 0
 Below hs n t x = (y : Tree) → first_named (pairs hs) n ≡ Some y → ReadsAs x y
 
-structs_below : (fs gs hs : Fields) (m n o : Nullability) (ps : Pairs) → NoRepeats fs hs → NoRepeats gs hs → Allows m o → Allows n o → EachFound ReadsPlain Allows StaySorted IsNullable fs hs → EachFound ReadsPlain Allows StaySorted IsNullable gs hs
+structs_below : (fs gs hs : Fields) (m n o : Nullability) (ps : Pairs) → NoRepeats fs hs → NoRepeats gs hs → Allows m o → Allows n o → EachFound ReadsPlain Allows StaySorted IsNullable (Unit {0}) fs hs → EachFound ReadsPlain Allows StaySorted IsNullable (Unit {0}) gs hs
     → OnlyFurther IsNullable fs hs → Rows (Below hs) fs ps → ReadsAs (struct (fields (ps ++ further (pairs fs) (pairs gs))) (either m n)) (struct hs o)
 structs_below fs gs hs m n o ps d e l r f g only rows =
     let more = further (pairs fs) (pairs gs) in
@@ -353,14 +435,14 @@ structs_below fs gs hs m n o ps d e l r f g only rows =
     inl (
       (distinct_columns all all_alone, d.1),
       upwards.least o m n l r,
-      each_found ReadsPlain Allows StaySorted IsNullable (fields all) hs (tested_distinct (pairs (fields all)) (distinct_columns all all_alone)) (λ k x is. by_option (first_named ps k)
+      each_found ReadsPlain Allows StaySorted IsNullable (Unit {0}) (fields all) hs (tested_distinct (pairs (fields all)) (distinct_columns all all_alone)) (λ k x is. by_option (first_named ps k)
           (λ lacks.
           let b = further_back (pairs fs) (pairs gs) k x (sym (behind ps more k lacks) ∙ of_columns all k (Some x) is) in
-          let s = found ReadsPlain Allows StaySorted IsNullable gs hs g k b.0 b.2 in
+          let s = found ReadsPlain Allows StaySorted IsNullable (Unit {0}) gs hs g k b.0 b.2 in
           (s.0, s.1, subst (λ z. ReadsAs z s.0) (sym b.3) (made_least b.0 s.0 s.2 (only k s.0 b.1 s.1))))
           (λ y some.
           let b = row_back (Below hs) fs ps rows k y some in
-          let s = found ReadsPlain Allows StaySorted IsNullable fs hs f k b.0 b.1 in
+          let s = found ReadsPlain Allows StaySorted IsNullable (Unit {0}) fs hs f k b.0 b.1 in
           (s.0, s.1, subst (λ z. ReadsAs z s.0) (same_Some y x (sym (found_before ps more k y some) ∙ of_columns all k (Some x) is)) (b.2 s.0 s.1)))),
       λ k y none is. by_option (first_named (pairs fs) k)
           (λ lacks. only k y lacks is)
@@ -380,8 +462,8 @@ subs_below a b d h g =
 
 plain_below : (a b d : Tree) → plain a ≡ true → is_null a ≡ false → is_null b ≡ false → ReadsAs a d → ReadsAs b d → MergedBelow a b d
 plain_below a b d p x y h g =
-    let of_a = alike_plain ReadsPlain Allows StaySorted IsNullable a d p h in
-    let of_b = alike_plain ReadsPlain Allows StaySorted IsNullable b d (ap plain_kind (reads_kind b d y g ∙ sym (reads_kind a d x h)) ∙ p) g in
+    let of_a = alike_plain ReadsPlain Allows StaySorted IsNullable (Unit {0}) a d p h in
+    let of_b = alike_plain ReadsPlain Allows StaySorted IsNullable (Unit {0}) b d (ap plain_kind (reads_kind b d y g ∙ sym (reads_kind a d x h)) ∙ p) g in
     let s = subs_below a b d (plain_sub a d x of_a) (plain_sub b d y of_b) in (s.0, plain_merged a b p x y ∙ s.1, s.2)
 
 pub field_valid : (hs : Fields) (n : List ℕ) (y : Tree) → ValidItems hs → first_named (pairs hs) n ≡ Some y → Valid y
@@ -389,8 +471,8 @@ field_valid hs n y v is = type_named_valid (pairs hs) n y is (subst ValidItems (
 
 -- of two structs, from what is done with their fields
 structs_least : (fs gs hs : Fields) (m n o : Nullability)
-    → (EachFound ReadsPlain Allows StaySorted IsNullable fs hs → EachFound ReadsPlain Allows StaySorted IsNullable gs hs → OnlyFurther IsNullable gs hs → (ps : Pairs) × (merged_by_name fs gs ≡ Some ps) × Rows (Below hs) fs ps)
-    → (EachBeside ReadsPlain Allows StaySorted IsNullable fs hs → EachBeside ReadsPlain Allows StaySorted IsNullable gs hs → (xs : Fields) × (merged_beside fs gs ≡ Some xs) × EachBeside ReadsPlain Allows StaySorted IsNullable xs hs)
+    → (EachFound ReadsPlain Allows StaySorted IsNullable (Unit {0}) fs hs → EachFound ReadsPlain Allows StaySorted IsNullable (Unit {0}) gs hs → OnlyFurther IsNullable gs hs → (ps : Pairs) × (merged_by_name fs gs ≡ Some ps) × Rows (Below hs) fs ps)
+    → (EachBeside ReadsPlain Allows StaySorted IsNullable (Unit {0}) fs hs → EachBeside ReadsPlain Allows StaySorted IsNullable (Unit {0}) gs hs → (xs : Fields) × (merged_beside fs gs ≡ Some xs) × EachBeside ReadsPlain Allows StaySorted IsNullable (Unit {0}) xs hs)
     → ReadsAs (struct fs m) (struct hs o) → ReadsAs (struct gs n) (struct hs o) → MergedBelow (struct fs m) (struct gs n) (struct hs o)
 structs_least fs gs hs m n o go also (inl h) (inl g) =
     let rows = go h.2 g.2 g.3 in
@@ -400,11 +482,11 @@ structs_least fs gs hs m n o go also (inl h) (inl g) =
       pick_true (no_repeats (pairs fs) && no_repeats (pairs gs)) (struct_with (merged_by_name fs gs) more (either m n)) (option_map (λ hs. struct hs (either m n)) (merged_beside fs gs)) tested ∙ ap (λ r. struct_with r more (either m n)) rows.1,
       structs_below fs gs hs m n o rows.0 h.0 g.0 h.1 g.1 h.2 g.2 h.3 rows.2,
     )
-structs_least fs gs hs m n o go also (inl h) (inr g) = absurd (g.0 (subst Distinct (sym (beside_names ReadsPlain Allows StaySorted IsNullable gs hs g.2)) h.0.1, h.0.1))
-structs_least fs gs hs m n o go also (inr h) (inl g) = absurd (h.0 (subst Distinct (sym (beside_names ReadsPlain Allows StaySorted IsNullable fs hs h.2)) g.0.1, g.0.1))
+structs_least fs gs hs m n o go also (inl h) (inr g) = absurd (g.0 (subst Distinct (sym (beside_names ReadsPlain Allows StaySorted IsNullable (Unit {0}) gs hs g.2)) h.0.1, h.0.1))
+structs_least fs gs hs m n o go also (inr h) (inl g) = absurd (h.0 (subst Distinct (sym (beside_names ReadsPlain Allows StaySorted IsNullable (Unit {0}) fs hs h.2)) g.0.1, g.0.1))
 structs_least fs gs hs m n o go also (inr h) (inr g) =
     let s = also h.2 g.2 in
-    let same = beside_names ReadsPlain Allows StaySorted IsNullable fs hs h.2 in
+    let same = beside_names ReadsPlain Allows StaySorted IsNullable (Unit {0}) fs hs h.2 in
     let test = no_repeats (pairs fs) && no_repeats (pairs gs) in
     let differ : test ≡ false = by_bool test
     (λ tested. let d = distinct_tested (pairs fs) ((both_true (no_repeats (pairs fs)) (no_repeats (pairs gs)) tested).0) in absurd (h.0 (d, subst Distinct same d)))
@@ -415,30 +497,63 @@ structs_least fs gs hs m n o go also (inr h) (inr g) =
       inr (λ d. h.0 (subst Distinct (sym same) d.1, d.1), upwards.least o m n h.1 g.1, s.2),
     )
 
+pub keyed_valid : (vs : Variants) → ValidItems vs → ValidItems (keyed vs)
+keyed_valid no_items v = tt
+keyed_valid (item n t f vs) v = (v.0, keyed_valid vs v.1)
+
 -- of two unions
 unions_least : (vs ws us : Variants) (m n o : Nullability) → Valid (union us o)
-    → (EachBeside ReadsPlain Allows StaySorted IsNullable vs us → EachBeside ReadsPlain Allows StaySorted IsNullable ws us → (xs : Variants) × (merged_beside vs ws ≡ Some xs) × EachBeside ReadsPlain Allows StaySorted IsNullable xs us)
+    → (EachTagged ReadsPlain Allows StaySorted IsNullable (Unit {0}) vs (keyed us) → EachTagged ReadsPlain Allows StaySorted IsNullable (Unit {0}) ws (keyed us) → (xs : Variants) × (merged_by_tag vs (keyed ws) ≡ Some xs) × Rows (Below (keyed us)) (keyed vs) (pairs (keyed xs)))
     → ReadsAs (union vs m) (union us o) → ReadsAs (union ws n) (union us o) → MergedBelow (union vs m) (union ws n) (union us o)
-unions_least vs ws us m n o v also h g =
-    let s = also h.1 g.1 in
-    let can : can_be_variants s.0 ≡ true = tested_variants s.0 (also_variants us s.0 (sym (beside_variants ReadsPlain Allows StaySorted IsNullable s.0 us s.2)) (sym (beside_tags ReadsPlain Allows StaySorted IsNullable s.0 us s.2)) v.0) in (
-      union s.0 (either m n),
-      ap (λ r. union_with r (either m n)) s.1 ∙ pick_true (can_be_variants s.0) (Some (union s.0 (either m n))) None can,
-      (upwards.least o m n h.0 g.0, s.2, inl (variants_tested s.0 can)),
+unions_least vs ws us m n o v go (inl h) (inl g) =
+    let rows = go h.2 g.2 in
+    let fs = keyed vs in
+    let hs = keyed us in
+    let more = further_variants fs ws in
+    let all = joined rows.0 more in
+    let ps = pairs (keyed rows.0) in
+    let qs = pairs (keyed more) in
+    let both : pairs (keyed all) ≡ ps ++ qs = keyed_joined rows.0 more in
+    let keys : no_repeats (pairs (keyed all)) ≡ true = ap no_repeats both
+    ∙ joined_repeats ps qs (row_repeats (Below hs) fs ps rows.2 (own_keys vs h.0.0)) (variants_repeat fs ws (own_keys ws g.0.0))
+    (λ k x is. let b = row_back (Below hs) fs ps rows.2 k x is in variant_skips fs ws k b.0 b.1) in
+    let each : (k : List ℕ) (x : Tree) → first_named (pairs (keyed all)) k ≡ Some x → (y : Tree) × (first_named (pairs hs) k ≡ Some y) × ReadsAs x y = λ k x at.
+    let is : first_named (ps ++ qs) k ≡ Some x = sym (ap (λ z. first_named z k) both) ∙ at in
+    by_option (first_named ps k)
+    (λ lacks.
+    let b = variant_back fs ws k x (sym (behind ps qs k lacks) ∙ is) in
+    found ReadsPlain Allows StaySorted IsNullable (Unit {0}) (keyed ws) hs (to_found ReadsPlain Allows StaySorted IsNullable (Unit {0}) ws hs g.2) k x b.1)
+    (λ y some.
+    let b = row_back (Below hs) fs ps rows.2 k y some in
+    let s = found ReadsPlain Allows StaySorted IsNullable (Unit {0}) fs hs (to_found ReadsPlain Allows StaySorted IsNullable (Unit {0}) vs hs h.2) k b.0 b.1 in
+    (s.0, s.1, subst (λ z. ReadsAs z s.0) (same_Some y x (sym (found_before ps qs k y some) ∙ is)) (b.2 s.0 s.1))) in
+    let first = any_key vs h.0.0.0 in
+    let there = row_at (Below hs) fs ps rows.2 first.0 first.1 first.2 in
+    let ne : tags all ≢ [] = has_key all first.0 there.0 (ap (λ z. first_named z first.0) both ∙ found_before ps qs first.0 there.0 there.1) in
+    let can : can_be_variants all ≡ true = can_be all us (tested_variants us v.0) ne keys (λ k x is. let r = each k x is in (r.0, r.1)) in
+    let tested = true_both (own_tags vs) (own_tags ws) (tested_own vs h.0.0) (tested_own ws g.0.0) in (
+      union all (either m n),
+      pick_true (own_tags vs && own_tags ws) (union_with (option_map (λ us. joined us more) (merged_by_tag vs (keyed ws))) (either m n)) None tested
+          ∙ ap (λ r. union_with (option_map (λ us. joined us more) r) (either m n)) rows.1 ∙ pick_true (can_be_variants all) (Some (union all (either m n))) None can,
+      inl (((ne, variants_tested all can), h.0.1), upwards.least o m n h.1 g.1, of_found ReadsPlain Allows StaySorted IsNullable (Unit {0}) all hs (each_found ReadsPlain Allows StaySorted IsNullable (Unit {0}) (keyed all) hs keys each), λ k u none is. tt),
     )
+unions_least vs ws us m n o v go (inl h) (inr g) = absurd (g.0 (own_along us ws (sym (read_tags ws us n o g.1)) h.0.1, h.0.1))
+unions_least vs ws us m n o v go (inr h) (inl g) = absurd (h.0 (own_along us vs (sym (read_tags vs us m o h.1)) g.0.1, g.0.1))
+unions_least vs ws us m n o v go (inr h) (inr g) =
+    let own : HasOwnTags us = own_tested us (valid_own us v.0) in absurd (h.0 (own_along us vs (sym (read_tags vs us m o h.1)) own, own))
 
 mutual
   pub least : (a b d : Tree) → Valid d → ReadsAs a d → ReadsAs b d → MergedBelow a b d
   least null b d v h g = (made_nullable b, refl, made_least b d g h)
   least a null d v h g = (made_nullable a, merged_with_null a, made_least a d h g)
   least (list t m) (list u n) d v h g =
-      let i = of_list ReadsPlain Allows StaySorted IsNullable plain_kinds t m d h in
+      let i = of_list ReadsPlain Allows StaySorted IsNullable (Unit {0}) plain_kinds t m d h in
       let b = subst (ReadsAs (list u n)) i.2 g in
       let r = least t u i.0 (subst Valid i.2 v) i.4 b.1 in
       (list r.0 (either m n), ap (option_map (λ x. list x (either m n))) r.1, subst (ReadsAs (list r.0 (either m n))) (sym i.2) (upwards.least i.1 m n i.3 b.0, r.2))
   least (list t m) b d v h g = let ha = reads_kind (list t m) d refl h in let hb = reads_kind b d refl g in cc
   least (fixed_size_list t j m) (fixed_size_list u k n) d v h g =
-      let i = of_fixed ReadsPlain Allows StaySorted IsNullable plain_kinds t j m d h in
+      let i = of_fixed ReadsPlain Allows StaySorted IsNullable (Unit {0}) plain_kinds t j m d h in
       let b = subst (ReadsAs (fixed_size_list u k n)) i.2 g in
       let at = subst Valid i.2 v in
       let r = least t u i.0 at.1 i.4 b.2 in (
@@ -448,7 +563,7 @@ mutual
       )
   least (fixed_size_list t j m) b d v h g = let ha = reads_kind (fixed_size_list t j m) d refl h in let hb = reads_kind b d refl g in cc
   least (map_of t p x m) (map_of u q y n) d v h g =
-      let i = of_map ReadsPlain Allows StaySorted IsNullable plain_kinds t p x m d h in
+      let i = of_map ReadsPlain Allows StaySorted IsNullable (Unit {0}) plain_kinds t p x m d h in
       let b = subst (ReadsAs (map_of u q y n)) i.4 g in
       let at = subst Valid i.4 v in
       let k = least t u i.0 at.1 i.7 b.2 in
@@ -466,18 +581,18 @@ mutual
       )
   least (map_of t p x m) b d v h g = let ha = reads_kind (map_of t p x m) d refl h in let hb = reads_kind b d refl g in cc
   least (struct fs m) (struct gs n) d v h g =
-      let i = of_struct ReadsPlain Allows StaySorted IsNullable plain_kinds fs m d h in
+      let i = of_struct ReadsPlain Allows StaySorted IsNullable (Unit {0}) plain_kinds fs m d h in
       let s = structs_least fs gs i.0 m n i.1 (rows_least fs gs i.0 (subst Valid i.2 v)) (beside_least fs gs i.0 (subst Valid i.2 v)) i.3 (subst (ReadsAs (struct gs n)) i.2 g) in
       (s.0, s.1, subst (ReadsAs s.0) (sym i.2) s.2)
   least (struct fs m) b d v h g = let ha = reads_kind (struct fs m) d refl h in let hb = reads_kind b d refl g in cc
   least (union vs m) (union ws n) d v h g =
-      let i = of_union ReadsPlain Allows StaySorted IsNullable plain_kinds vs m d h in
+      let i = of_union ReadsPlain Allows StaySorted IsNullable (Unit {0}) plain_kinds vs m d h in
       let valid = subst Valid i.2 v in
-      let s = unions_least vs ws i.0 m n i.1 valid (beside_least vs ws i.0 valid.1) i.3 (subst (ReadsAs (union ws n)) i.2 g) in
+      let s = unions_least vs ws i.0 m n i.1 valid (λ f e. tagged_least vs (keyed ws) (keyed i.0) (keyed_valid i.0 valid.1) f (to_found ReadsPlain Allows StaySorted IsNullable (Unit {0}) ws (keyed i.0) e)) i.3 (subst (ReadsAs (union ws n)) i.2 g) in
       (s.0, s.1, subst (ReadsAs s.0) (sym i.2) s.2)
   least (union vs m) b d v h g = let ha = reads_kind (union vs m) d refl h in let hb = reads_kind b d refl g in cc
   least (extension i a t) (extension j b u) d v h g =
-      let p = of_extension ReadsPlain Allows StaySorted IsNullable plain_kinds i a t d h in
+      let p = of_extension ReadsPlain Allows StaySorted IsNullable (Unit {0}) plain_kinds i a t d h in
       let q = subst (ReadsAs (extension j b u)) p.1 g in
       let at = subst Valid p.1 v in
       let r = least t u p.0 at.1 p.2 q.2 in (
@@ -489,7 +604,7 @@ mutual
   least (extension i a t) b d v h g = let ha = reads_kind (extension i a t) d refl h in let hb = reads_kind b d refl g in cc
   least a b d v h g = plain_below a b d refl refl refl h g
 
-  rows_least : (fs gs hs : Fields) → ValidItems hs → EachFound ReadsPlain Allows StaySorted IsNullable fs hs → EachFound ReadsPlain Allows StaySorted IsNullable gs hs → OnlyFurther IsNullable gs hs
+  rows_least : (fs gs hs : Fields) → ValidItems hs → EachFound ReadsPlain Allows StaySorted IsNullable (Unit {0}) fs hs → EachFound ReadsPlain Allows StaySorted IsNullable (Unit {0}) gs hs → OnlyFurther IsNullable gs hs
       → (ps : Pairs) × (merged_by_name fs gs ≡ Some ps) × Rows (Below hs) fs ps
   rows_least no_items gs hs v f g only = ([], refl, tt)
   rows_least (item n t _ fs) gs hs v f g only =
@@ -499,7 +614,7 @@ mutual
       let cell : (x : Tree) × (column t (λ u. columns_merged t u) other ≡ Some x) × ReadsAs x y = by_option other
       (λ none. (made_nullable t, ap (column t (λ u. columns_merged t u)) none, made_least t y s.2 (only n y none s.1)))
       (λ u some.
-      let r = found ReadsPlain Allows StaySorted IsNullable gs hs g n u some in
+      let r = found ReadsPlain Allows StaySorted IsNullable (Unit {0}) gs hs g n u some in
       let c = least t u y (field_valid hs n y v s.1) s.2 (subst (ReadsAs u) (same_Some r.0 y (sym r.1 ∙ s.1)) r.2) in
       (c.0, ap (column t (λ u. columns_merged t u)) some ∙ c.1, c.2)) in
       let rest = rows_least fs gs hs v f.1 g only in (
@@ -508,8 +623,26 @@ mutual
         (refl, λ z at. subst (ReadsAs cell.0) (same_Some y z (sym s.1 ∙ at)) cell.2, rest.2),
       )
 
-  beside_least : {h : Holder} (xs ys zs : Items h) → ValidItems zs → EachBeside ReadsPlain Allows StaySorted IsNullable xs zs → EachBeside ReadsPlain Allows StaySorted IsNullable ys zs
-      → (ws : Items h) × (merged_beside xs ys ≡ Some ws) × EachBeside ReadsPlain Allows StaySorted IsNullable ws zs
+  tagged_least : (vs : Variants) (gs hs : Fields) → ValidItems hs → EachTagged ReadsPlain Allows StaySorted IsNullable (Unit {0}) vs hs → EachFound ReadsPlain Allows StaySorted IsNullable (Unit {0}) gs hs → (us : Variants) × (merged_by_tag vs gs ≡ Some us) × Rows (Below hs) (keyed vs) (pairs (keyed us))
+  tagged_least no_items gs hs v f g = (no_items, refl, tt)
+  tagged_least (item n t k vs) gs hs v f g =
+      let s = some_and (ReadsAs t) (first_named (pairs hs) (k ∷ n)) f.0 in
+      let y = s.0 in
+      let other = first_named (pairs gs) (k ∷ n) in
+      let cell : (x : Tree) × (variant_type t (λ u. columns_merged t u) other ≡ Some x) × ReadsAs x y = by_option other
+      (λ none. (t, ap (variant_type t (λ u. columns_merged t u)) none, s.2))
+      (λ u some.
+      let r = found ReadsPlain Allows StaySorted IsNullable (Unit {0}) gs hs g (k ∷ n) u some in
+      let c = least t u y (field_valid hs (k ∷ n) y v s.1) s.2 (subst (ReadsAs u) (same_Some r.0 y (sym r.1 ∙ s.1)) r.2) in
+      (c.0, ap (variant_type t (λ u. columns_merged t u)) some ∙ c.1, c.2)) in
+      let rest = tagged_least vs gs hs v f.1 g in (
+        item n cell.0 k rest.0,
+        ap (λ o. put_first n k o (merged_by_tag vs gs)) cell.1 ∙ ap (put_first n k (Some cell.0)) rest.1,
+        (refl, λ z at. subst (ReadsAs cell.0) (same_Some y z (sym s.1 ∙ at)) cell.2, rest.2),
+      )
+
+  beside_least : {h : Holder} (xs ys zs : Items h) → ValidItems zs → EachBeside ReadsPlain Allows StaySorted IsNullable (Unit {0}) xs zs → EachBeside ReadsPlain Allows StaySorted IsNullable (Unit {0}) ys zs
+      → (ws : Items h) × (merged_beside xs ys ≡ Some ws) × EachBeside ReadsPlain Allows StaySorted IsNullable (Unit {0}) ws zs
   beside_least no_items no_items no_items v p q = (no_items, refl, tt)
   beside_least (item m t f xs) (item n u g ys) (item k y e zs) v p q =
       let c = least t u y v.0 p.2 q.2 in

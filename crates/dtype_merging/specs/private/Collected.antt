@@ -2,17 +2,29 @@
 -- SPDX-FileCopyrightText: Copyright the Vortex contributors
 
 -- What the calls that merge two types collect on their way.
-use Rattle.std.specs.Prelude.{ℕ, Bool, List, [], ◌∷◌, map, Option, Some, None}
+use Rattle.std.specs.Prelude.{ℕ, Bool, List, [], ◌∷◌, ◌&&◌, map, Option, Some, None, if◌then◌else◌}
+use Rattle.std.specs.Option.{option_map}
 use Rattle.dtype_base.specs.declared.nullability.Nullability.{Nullability}
+use Rattle.dtype_types.specs.declared.dtype.DType.{DType}
 use Rattle.dtype_types.specs.declared.field_dtype.FieldDType.{FieldDType}
 use Rattle.dtype_types.specs.parts.FieldTypes.{field_tree}
-use Rattle.dtype_types.specs.tree.Tree.{Tree}
-use Rattle.dtype_types.specs.tree.TreeOf.{MapParts}
-use Rattle.dtype_merging.specs.MergedColumns.{columns_merged, map_with, stay_sorted}
+use Rattle.dtype_types.specs.tree.Tree.{Tree, Variants, no_items, item}
+use Rattle.dtype_types.specs.tree.TreeOf.{MapParts, tree}
+use Rattle.dtype_merging.specs.MergedColumns.{columns_merged, further_variants, joined, map_with, merged_by_tag, own_tags, stay_sorted, union_with}
+use Rattle.dtype_merging.specs.ReadsAs.{keyed}
 
 -- the fields that are made from these pairs of a name and a field type
 abbrev pub collected : List (List ℕ × FieldDType) → List (List ℕ × Tree)
 collected cs = map (λ p. (p.0, field_tree p.1)) cs
+
+-- the variants that are made from these triples of a name, a tag and a type
+abbrev pub gathered : List (List ℕ × ℕ × DType) → Variants
+gathered [] = no_items
+gathered (v ∷ vs) = item v.0 (tree v.2) v.1 (gathered vs)
+
+-- the merged type of two unions, of which `n` is the outer nullability
+abbrev pub unions_merged : Variants → Variants → Nullability → Option Tree
+unions_merged vs ws n = if own_tags vs && own_tags ws then union_with (option_map (λ us. joined us (further_variants (keyed vs) ws)) (merged_by_tag vs (keyed ws))) n else None
 
 -- whether the keys of the merged type of two maps are sorted
 abbrev pub maps_stay_sorted : MapParts → MapParts → Bool

@@ -215,8 +215,9 @@ fn columns(a: &StructFields, b: &StructFields) -> Option<Vec<(FieldName, DType, 
 
 /// The least type as which both types can be read: by adding nulls for columns that a struct lacks, and by putting its
 /// columns into another order. It has the columns of the first, each merged with that of its name in the second, and
-/// then the columns that the first lacks. What one of the two lacks is nullable. Structs in which a name repeats, and
-/// unions, have their names and tags in the same order, and are merged part by part. The keys of a map are sorted if
+/// then the columns that the first lacks. What one of the two lacks is nullable. Structs in which a name repeats have
+/// their names in the same order, and are merged part by part. Unions are merged in the same way as columns, by tag and
+/// name, but that what one of the two lacks stays as it is. The keys of a map are sorted if
 /// those of both are, and if the key types are equal but for nullabilities: a reader that puts the columns of a key into
 /// another order, or adds one, has sorted keys no more. Null is a value of every nullable type, so a type is merged with
 /// `null` to its nullable form. What else has no parts is merged by nullability alone.
@@ -246,7 +247,8 @@ pub fn merge_columns(a: &DType, b: &DType) -> Answer<Option<DType>> {
             fields.names() == others.names()
         }
         (DType::Union(variants, _), DType::Union(others, _)) => {
-            variants.names() == others.names() && variants.type_ids() == others.type_ids()
+            let merged = merge_variants(variants, others)?;
+            return Ok(merged.map(|it| DType::Union(it, nullability)));
         }
         (DType::List(..), DType::List(..)) | (DType::Map(..), DType::Map(..)) => true,
         (DType::FixedSizeList(_, size, _), DType::FixedSizeList(_, other, _)) => size == other,
@@ -273,6 +275,37 @@ pub fn merge_columns(a: &DType, b: &DType) -> Answer<Option<DType>> {
         return Ok(Some(DType::Map(merged, nullability)));
     }
     with_parts(a, merged, nullability).map(Some)
+}
+
+/// The variants of the first union, each merged with the one of its tag and its name in the second, and then those that
+/// only the second has; none where a tag or a name repeats then.
+fn merge_variants(variants: &UnionVariants, others: &UnionVariants) -> Answer<Option<UnionVariants>> {
+    type Key = (FieldName, u8);
+    let keyed = |it: &UnionVariants| -> Vec<(Key, DType)> {
+        let keys = it.names().iter().cloned().zip(it.type_ids().iter().copied());
+        keys.zip(it.variants()).collect()
+    };
+    let (mut merged, mut further) = (Vec::new(), keyed(others));
+    for (key, dtype) in keyed(variants) {
+        let place = further.iter().position(|(other, _)| *other == key);
+        let both = match place.map(|place| further.remove(place)) {
+            Some((_, other)) => merge_columns(&dtype, &other)?,
+            None => Some(dtype),
+        };
+        let Some(both) = both else {
+            return Ok(None);
+        };
+        merged.push((key, both));
+    }
+    merged.extend(further);
+    let names: HashSet<&FieldName> = merged.iter().map(|((name, _), _)| name).collect();
+    let tags: HashSet<u8> = merged.iter().map(|((_, tag), _)| *tag).collect();
+    if names.len() < merged.len() || tags.len() < merged.len() {
+        return Ok(None);
+    }
+    let (keys, dtypes): (Vec<Key>, Vec<DType>) = merged.into_iter().unzip();
+    let (names, tags): (Vec<FieldName>, Vec<u8>) = keys.into_iter().unzip();
+    Ok(Some(UnionVariants::try_new(names.into(), dtypes, tags)?))
 }
 
 /// The least type as which all of these types can be read, which are merged by columns one after another.

@@ -5,25 +5,27 @@ use Rattle.std.proofs.Common.{◌≡◌, ◌≢◌, ◌∙◌, ◌&&◌, ◌++�
 use Rattle.std.specs.Iterator.Adapters.{zip_first, zip_second}
 use Rattle.std.specs.List.{zip}
 use Rattle.std.specs.Option.{option_map}
-use Rattle.std.proofs.lemmas.Bool.Decides.{Decides-eqb}
 use Rattle.std.proofs.lemmas.List.{length-map}
 use Rattle.std.proofs.lemmas.Slice.Eq.{bytes_eq-Decides}
 use Rattle.dtype_base.specs.Errors.{Makes}
 use Rattle.dtype_types.specs.nullability.Nullable.{IsNullable}
-use Rattle.dtype_types.specs.parts.Lookups.{field_names, field_types, first_named, variant_names, variant_tags, variant_types}
+use Rattle.dtype_types.specs.parts.Lookups.{field_names, field_types, first_named}
 use Rattle.dtype_types.specs.parts.FieldTypes.{field_tree}
-use Rattle.dtype_types.specs.tree.TreeOf.{children, map_shown, shown, tree, variant_list}
-use Rattle.dtype_merging.specs.MergedColumns.{column, columns_merged, no_repeats}
+use Rattle.dtype_types.specs.tree.Tree.{pairs}
+use Rattle.dtype_types.specs.tree.TreeOf.{children, map_shown, shown, tree, variants_of}
+use Rattle.dtype_merging.specs.MergedColumns.{column, columns_merged, no_repeats, variant_type}
+use Rattle.dtype_merging.specs.ReadsAs.{keyed}
 use Rattle.dtype_merging.specs.private.Collected.{types_merged}
 use Rattle.dtype_merging.proofs.Collecting.{keys_nullable, lighter, merged_more, merged_stops, structs_by_name, structs_by_position}
-use Rattle.dtype_merging.proofs.Ordered.{fields_count, fields_weigh, left_done, right_done, struct_apart, struct_made, struct_unmade, told_alike, told_apart, union_apart, union_some, union_unmade, variants_count, variants_weigh, weight_all}
+use Rattle.dtype_merging.proofs.Ordered.{fields_count, fields_weigh, left_done, right_done, struct_apart, struct_made, struct_unmade, told_alike, told_apart, weight_all}
+use Rattle.dtype_merging.proofs.Tagging.{tagged_all, tagged_more, tagged_stops, variants_lighter}
 use Rattle.dtype_merging.proofs.Apart.{others_apart, plain_others}
 use Rattle.dtype_merging.proofs.lemmas.Order.{plain}
 use Rattle.dtype_types.specs.declared.dtype.DType.{fold_out-DType, fold-roll-DType, the_lemmas}
 use Rattle.dtype_types.specs.declared.dtype.kinds.Kind.TheVariants as variants
 use Rattle.dtype_types.specs.tree.Kinds.{kind}
 use Rattle.dtype_merging.proofs.merge.+merging.Goals as goal
-use Rattle.dtype_merging.proofs.merge.+merging.Goals.{merge-in_default-via-in-List+in_default, merge-in_default-via-in-FixedSizeList+in_default, merge-in_default-via-in-Map+in_default, merge-in_default-via-in-Struct+in_default, merge-in_default-via-in-Union+in_default, merge-in_default-via-in-Extension+in_default, merge-in_default-via-in_default, merge_unions-then-ne-via-then-ne, merge_unions-then-ne-via-else-ne+then-ne-2}
+use Rattle.dtype_merging.proofs.merge.+merging.Goals.{merge-in_default-via-in-List+in_default, merge-in_default-via-in-FixedSizeList+in_default, merge-in_default-via-in-Map+in_default, merge-in_default-via-in-Struct+in_default, merge-in_default-via-in-Union+in_default, merge-in_default-via-in-Extension+in_default, merge-in_default-via-in_default}
 
 pub merge-returns-in_default : goal.merge-returns-in_default
 merge-returns-in_default t c = elim c.in_default.branch [
@@ -132,42 +134,28 @@ merge_in_order-returns-in-None t c =
     let none : None ≡ types_merged (field_types ps) (field_types qs) = search (rules, c.in_ok-dtypes.ensures, c.in-None.is, c.fields.ensures.all, c.fields-2.ensures.all) in
     struct_unmade c.args.n ps qs same none
 
-pub merge_unions-returns-then-ne : goal.merge_unions-returns-then-ne
-merge_unions-returns-then-ne t c = union_apart c.args.n (variant_list c.args.a.now) (variant_list c.args.b.now) (λ e f. elim c.then-ne.branch [
-  | merge_unions-then-ne-via-then-ne w ↦ told_apart bytes_eq-Decides c.names.result.now c.names-2.result.now c.ne.result c.ne.ensures w.if-ne.true (c.names.ensures ∙ e ∙ sym c.names-2.ensures)
-  | merge_unions-then-ne-via-else-ne+then-ne-2 w ↦ told_apart Decides-eqb w.type_ids.result.now w.type_ids-else-ne.result.now w.ne-else-ne.result w.ne-else-ne.ensures w.if-ne-2.true (w.type_ids.ensures ∙ f ∙ sym w.type_ids-else-ne.ensures)
-])
+pub merge_by_tag-loop-name-preserved : goal.merge_by_tag-loop-name-preserved
+merge_by_tag-loop-name-preserved t c =
+    let gs = keyed (variants_of c.args.b.now) in
+    let found : shown tree c.variant_with.result ≡ first_named (pairs gs) (c.in-Some.tag ∷ c.in-Some.name.now) = search (rules, c.variant_with.ensures) in
+    let made : Some (tree c.in-Some-2.merged) ≡ variant_type (tree c.in-Some.dtype.now) (λ u. columns_merged (tree c.in-Some.dtype.now) u) (shown tree c.variant_with.result) = search (rules, c.in_ok-merged.ensures, c.in-Some-2.is) in
+    let put : c.push.new.self.items ≡ c.loop-name.variants.items ++ (c.in-Some.name.now, c.in-Some.tag, c.in-Some-2.merged) ∷ [] = search (rules, c.in_ok-push-in-Some-2.ensures.items, c.in_ok-try_clone-in-Some-2.ensures) in
+    record {
+      merged = tagged_more gs c.loop-name.variants.items c.push.new.self.items c.loop-name.name-iterator c.next.new.self c.in-Some.name.now c.in-Some.dtype.now c.in-Some-2.merged c.in-Some.tag (shown tree c.variant_with.result) _
+          c.loop-name.invariant.merged c.in-Some.ensures.steps found made put;
+      within = variants_lighter c.loop-name.name-iterator c.next.new.self c.in-Some.name.now c.in-Some.dtype.now c.in-Some.tag _ c.in-Some.ensures.steps c.loop-name.invariant.within;
+    }
 
-pub merge_unions-merge_types-requires : goal.merge_unions-merge_types-requires
-merge_unions-merge_types-requires t c = (omega (arith, ap weight_all c.variants.ensures.all, variants_weigh (variant_list c.args.a.now)), tt)
+pub merge_by_tag-returns-in-None-2 : goal.merge_by_tag-returns-in-None-2
+merge_by_tag-returns-in-None-2 t c =
+    let gs = keyed (variants_of c.args.b.now) in
+    let found : shown tree c.variant_with.result ≡ first_named (pairs gs) (c.in-Some.tag ∷ c.in-Some.name.now) = search (rules, c.variant_with.ensures) in
+    let none : None ≡ variant_type (tree c.in-Some.dtype.now) (λ u. columns_merged (tree c.in-Some.dtype.now) u) (shown tree c.variant_with.result) = search (rules, c.in_ok-merged.ensures, c.in-None-2.is) in
+    tagged_stops gs c.loop-name.variants.items c.loop-name.name-iterator c.next.new.self c.in-Some.name.now c.in-Some.dtype.now c.in-Some.tag (shown tree c.variant_with.result) _ c.loop-name.invariant.merged c.in-Some.ensures.steps found none
 
-pub merge_unions-union_of-requires : goal.merge_unions-union_of-requires
-merge_unions-union_of-requires t c =
-    let vs = variant_list c.args.a.now in
-    let ws = variant_list c.args.b.now in
-    let items = c.in-Some.dtypes.items in
-    let names : variant_names vs ≡ variant_names ws = sym c.names.ensures ∙ told_alike bytes_eq-Decides c.names.result.now c.names-2.result.now c.ne.result c.ne.ensures c.if-ne.false ∙ c.names-2.ensures in
-    let made : Some (map tree items) ≡ types_merged (variant_types vs) (variant_types ws) = search (rules, c.in_ok-dtypes.ensures, c.in-Some.is, c.variants.ensures.all, c.variants-2.ensures.all) in
-    sym (length-map items tree) ∙ variants_count vs ws (map tree items) made names
-
-pub merge_unions-returns-in-Some : goal.merge_unions-returns-in-Some
-merge_unions-returns-in-Some t c =
-    let vs = variant_list c.args.a.now in
-    let ws = variant_list c.args.b.now in
-    let ts = map tree c.in-Some.dtypes.items in
-    let names : variant_names vs ≡ variant_names ws = sym c.names.ensures ∙ told_alike bytes_eq-Decides c.names.result.now c.names-2.result.now c.ne.result c.ne.ensures c.if-ne.false ∙ c.names-2.ensures in
-    let tags : variant_tags vs ≡ variant_tags ws = sym c.type_ids.ensures ∙ told_alike Decides-eqb c.type_ids.result.now c.type_ids-else-ne.result.now c.ne-else-ne.result c.ne-else-ne.ensures c.if-ne-2.false ∙ c.type_ids-else-ne.ensures in
-    let made : Some ts ≡ types_merged (variant_types vs) (variant_types ws) = search (rules, c.in_ok-dtypes.ensures, c.in-Some.is, c.variants.ensures.all, c.variants-2.ensures.all) in
-    subst (λ z. Makes c.union_of.result (λ r. option_map tree r ≡ z)) (union_some c.args.n vs ws ts names tags made) c.union_of.ensures
-
-pub merge_unions-returns-in-None : goal.merge_unions-returns-in-None
-merge_unions-returns-in-None t c =
-    let vs = variant_list c.args.a.now in
-    let ws = variant_list c.args.b.now in
-    let names : variant_names vs ≡ variant_names ws = sym c.names.ensures ∙ told_alike bytes_eq-Decides c.names.result.now c.names-2.result.now c.ne.result c.ne.ensures c.if-ne.false ∙ c.names-2.ensures in
-    let tags : variant_tags vs ≡ variant_tags ws = sym c.type_ids.ensures ∙ told_alike Decides-eqb c.type_ids.result.now c.type_ids-else-ne.result.now c.ne-else-ne.result c.ne-else-ne.ensures c.if-ne-2.false ∙ c.type_ids-else-ne.ensures in
-    let none : None ≡ types_merged (variant_types vs) (variant_types ws) = search (rules, c.in_ok-dtypes.ensures, c.in-None.is, c.variants.ensures.all, c.variants-2.ensures.all) in
-    union_unmade c.args.n vs ws names tags none
+pub merge_by_tag-returns : goal.merge_by_tag-returns
+merge_by_tag-returns t c =
+    tagged_all (keyed (variants_of c.args.b.now)) c.loop-name.variants.items c.loop-name.name-iterator _ c.loop-name.invariant.merged (search (rules, c.in-None.ensures.steps))
 
 pub merge_types-returns : goal.merge_types-returns
 merge_types-returns t c =

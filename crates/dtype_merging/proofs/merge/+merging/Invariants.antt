@@ -8,9 +8,11 @@ use Rattle.dtype_types.specs.parts.Maps.{key_tree, value_tree}
 use Rattle.dtype_types.specs.tree.Tree.{fields}
 use Rattle.dtype_types.specs.tree.TreeOf.{fields_of, storage_tree, tree, variants_of, with_trees}
 use Rattle.dtype_types.proofs.lemmas.TypesBelow.{weight, weight_items}
-use Rattle.dtype_merging.specs.MergedColumns.{merged_by_name}
-use Rattle.dtype_merging.specs.private.Collected.{collected, types_merged}
+use Rattle.dtype_merging.specs.MergedColumns.{joined, merged_by_name, merged_by_tag}
+use Rattle.dtype_merging.specs.ReadsAs.{keyed}
+use Rattle.dtype_merging.specs.private.Collected.{collected, gathered, types_merged}
 use Rattle.dtype_merging.proofs.Ordered.{weight_all}
+use Rattle.dtype_merging.proofs.Tagging.{variants_left}
 use Rattle.dtype_merging.proofs.merge.+merging.Given as goal
 
 abbrev pub decreases-merge : goal.decreases-merge
@@ -37,6 +39,12 @@ decreases-merge_in_order l = 4 * weight_items (fields_of l.a.now) + 3
 abbrev pub decreases-merge_unions : goal.decreases-merge_unions
 decreases-merge_unions l = 4 * weight_items (variants_of l.a.now) + 3
 
+abbrev pub decreases-merge_by_tag : goal.decreases-merge_by_tag
+decreases-merge_by_tag l = 4 * weight_items (variants_of l.a.now) + 2
+
+abbrev pub decreases-merge_variant : goal.decreases-merge_variant
+decreases-merge_variant l = 4 * weight (tree l.dtype.now) + 1
+
 abbrev pub decreases-merge_types : goal.decreases-merge_types
 decreases-merge_types l = 4 * weight_all (map tree l.a) + 1
 
@@ -52,4 +60,11 @@ abbrev pub invariant-merge_by_name-loop-name : goal.invariant-merge_by_name-loop
 invariant-merge_by_name-loop-name l = record {
   merged : option_map (λ qs. collected l.columns.items ++ qs) (merged_by_name (fields (with_trees l.name-iterator)) (fields_of l.b)) ≡ merged_by_name (fields_of l.a) (fields_of l.b);
   within : weight_items (fields (with_trees l.name-iterator)) ≤ weight_items (fields_of l.a);
+}
+
+-- the variants so far, followed by what is merged of those that are left, are what is merged of all
+abbrev pub invariant-merge_by_tag-loop-name : goal.invariant-merge_by_tag-loop-name
+invariant-merge_by_tag-loop-name l = record {
+  merged : option_map (λ us. joined (gathered l.variants.items) us) (merged_by_tag (variants_left l.name-iterator) (keyed (variants_of l.b))) ≡ merged_by_tag (variants_of l.a) (keyed (variants_of l.b));
+  within : weight_items (variants_left l.name-iterator) ≤ weight_items (variants_of l.a);
 }

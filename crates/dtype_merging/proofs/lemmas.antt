@@ -14,3 +14,4 @@ pub mod MergeLaws
 pub mod Filling
 pub mod Conflicting
 pub mod AllMerged
+pub mod Paths

@@ -2,7 +2,7 @@
 // SPDX-FileCopyrightText: Copyright the Vortex contributors
 
 // Theorems about the definitions. Each function's contract is the theorem, and its body is empty.
-ghost use Rattle.std.specs.Prelude.{◌≡◌, ◌↔◌, None, Some};
+ghost use Rattle.std.specs.Prelude.{◌≡◌, ◌↔◌, ◌⊎◌, List, None, Some};
 ghost use Rattle.dtype_base.specs.declared.nullability.Nullability.TheVariants.{Nullable};
 ghost use Rattle.dtype_types.specs.nullability.Merged.{merged};
 ghost use Rattle.dtype_types.specs.nullability.Nullable.{IsNullable, set_null};
@@ -11,6 +11,8 @@ ghost use Rattle.dtype_types.specs.tree.Erase.{erase};
 ghost use Rattle.dtype_types.specs.tree.Tree.{Tree, null};
 ghost use Rattle.dtype_types.specs.tree.Valid.{Valid};
 ghost use Rattle.dtype_types.specs.values.Value.{Of, Value};
+ghost use Rattle.dtype_paths.specs.At.{At, ExistsIn};
+ghost use Rattle.dtype_paths.specs.declared.field.Field.{Field};
 ghost use Rattle.dtype_merging.specs.Filled.{filled};
 ghost use Rattle.dtype_merging.specs.MergedColumns.{columns_merged};
 ghost use Rattle.dtype_merging.specs.ReadsAs.{HaveNoReader, IsLeastReader, ReadsAs, SameColumns};
@@ -94,6 +96,21 @@ pub fn keys_that_stay_sorted_stay_the_same()
 #[tactic(auto, using(crate::proofs::lemmas::Filling::of_filled))]
 pub fn values_are_filled()
     ensures { (t u : Tree) (v : Value) → ReadsAs t u → Of v t → Of (filled t u v) u }
+{}
+
+/// For all types `t` and `u` such that `t` can be read as `u`, and for all types `a`, `b` and `c` such that
+/// `columns_merged a b` is `Some c`:
+/// - `read`: each path that leads to a type in `t` leads in `u` to one as which that type can be read.
+/// - `merged`: each path that exists in `c` exists in `a` or in `b`.
+///
+/// For example, `a.b` leads to `i32` in `{a={b=i32}}`, and to `i32?` in `{c=u8?, a={b=i32?}}`. With this law a caller knows
+/// that a path which exists in a file exists in the table, and that a path which the table has is in one of its files.
+///
+/// About [`merge_columns`].
+#[tactic(auto, using(crate::proofs::lemmas::Paths::read_at))]
+pub fn paths_lead_to_what_is_read()
+    ensures read { (t u x : Tree) (p : List Field) → ReadsAs t u → At t p x → ((y : Tree) × At u p y × ReadsAs x y) }
+    ensures merged { (a b c : Tree) (p : List Field) → columns_merged a b ≡ Some c → ExistsIn c p → (ExistsIn a p ⊎ ExistsIn b p) }
 {}
 
 /// For all types `a`, `b` and `c`:

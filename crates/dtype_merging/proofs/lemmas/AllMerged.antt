@@ -20,20 +20,20 @@ use Rattle.dtype_merging.proofs.lemmas.MergeLaws.{merge_valid, merged_is_least, 
 use Rattle.dtype_merging.proofs.lemmas.Reading.{reads_itself, reads_more}
 
 -- what one more type is merged to
-one_more : (t u c : Tree) (us : List Tree) → all_columns_merged t (u ∷ us) ≡ Some c → (m : Tree) × (columns_merged t u ≡ Some m) × (all_columns_merged m us ≡ Some c)
+pub one_more : (t u c : Tree) (us : List Tree) → all_columns_merged t (u ∷ us) ≡ Some c → (m : Tree) × (columns_merged t u ≡ Some m) × (all_columns_merged m us ≡ Some c)
 one_more t u c us e = by_option (columns_merged t u)
     (λ none. let z = sym (ap (option_and_then (λ m. all_columns_merged m us)) none) ∙ e in cc)
     (λ m is. (m, is, sym (ap (option_and_then (λ m. all_columns_merged m us)) is) ∙ e))
 
-least : (t c : Tree) (us : List Tree) → all_columns_merged t us ≡ Some c → IsLeastReaderOfAll t us c
-least t c [] e =
+pub reads_all : (t c : Tree) (us : List Tree) → all_columns_merged t us ≡ Some c → IsLeastReaderOfAll t us c
+reads_all t c [] e =
     let is = same_Some t c e in
     record { first = subst (ReadsAs t) is (reads_itself t); others = tt; least = λ d v h g. subst (λ z. ReadsAs z d) is h }
-least t c (u ∷ us) e =
+reads_all t c (u ∷ us) e =
     let r = one_more t u c us e in
     let m = r.0 in
     let up = merged_is_least t u m r.1 in
-    let rest = least m c us r.2 in
+    let rest = reads_all m c us r.2 in
     record {
       first = reads_more t m c up.first rest.first;
       others = (reads_more u m c up.second rest.first, rest.others);
@@ -51,7 +51,7 @@ filled_in c [] h = tt
 filled_in c (u ∷ us) h = (of_filled u c h.0, filled_in c us h.1)
 
 values : (t c : Tree) (us : List Tree) → all_columns_merged t us ≡ Some c → AllFilledIn t us c
-values t c us e = let l = least t c us e in record { first = of_filled t c l.first; others = filled_in c us l.others }
+values t c us e = let l = reads_all t c us e in record { first = of_filled t c l.first; others = filled_in c us l.others }
 
 valid : (t c : Tree) (us : List Tree) → all_columns_merged t us ≡ Some c → Valid t → AllByRecursion Valid us → Valid c
 valid t c [] e h k = subst Valid (same_Some t c e) h
@@ -61,7 +61,7 @@ valid t c (u ∷ us) e h k = let r = one_more t u c us e in valid r.0 c us r.2 (
 
 pub all_least : (t : Tree) (us : List Tree) (o : Option DType) → option_map tree o ≡ all_columns_merged t us → IfSome o (λ c. IsLeastReaderOfAll t us (tree c))
 all_least t us None is = tt
-all_least t us (Some c) is = least t (tree c) us (sym is)
+all_least t us (Some c) is = reads_all t (tree c) us (sym is)
 
 pub all_none : (t : Tree) (us : List Tree) (o : Option DType) → option_map tree o ≡ all_columns_merged t us → IfNone o (HaveNoReaderOfAll t us)
 all_none t us None is = none t us (sym is)

@@ -31,7 +31,7 @@ made_set (extension i b s) =
     f ∙ ap Some (sym (ap (or_tree (extension i b s)) f))
 made_set _ = refl
 
-made_in_storage : (i b : List ℕ) (s : Tree) → made_nullable (extension i b s) ≡ extension i b (made_nullable s)
+pub made_in_storage : (i b : List ℕ) (s : Tree) → made_nullable (extension i b s) ≡ extension i b (made_nullable s)
 made_in_storage i b s = ap (or_tree (extension i b s)) (ap (option_and_then (λ x. Some (extension i b x))) (made_set s))
 
 pub made_above : (t : Tree) → ReadsAs t (made_nullable t)

@@ -164,9 +164,6 @@ sorted_written o =
 
 -- ---- types
 
-join_cons : (x : List ℕ) (xs : List (List ℕ)) → join_by (λ t. t) (codes ", ") (x ∷ xs) ≡ x ++ flat_map (λ t. codes ", " ++ t) xs
-join_cons x xs = refl
-
 in_parentheses_written : (L : List ℕ → Type 0) (x : List ℕ) → L x → in_parentheses L (codes "(" ++ (x ++ codes ")"))
 in_parentheses_written L x h =
     joined (lit (codes "(")) (blanks <> (L <> (blanks <> lit (codes ")")))) (codes "(") (x ++ codes ")") refl

@@ -10,8 +10,7 @@ use Rattle.std.specs.HashMap.{keys, IsUnique}
 use Rattle.std.specs.List.{AllByRecursion, IsDistinct}
 use Rattle.std.specs.List.Sorted.{IsPermutation, IsSorted, IsStrictlySortedBy}
 use Rattle.std.specs.Map.{keys_of, lookup}
-use Rattle.std.specs.Ordering.{is_eq, is_lt, nat_cmp, ordering_reverse}
-use Rattle.std.specs.declared.cmp.Ordering.{Ordering}
+use Rattle.std.specs.Ordering.{is_eq, is_lt, nat_cmp}
 use Rattle.std.specs.declared.cmp.Ordering.TheVariants.{Less}
 use Rattle.std.specs.String.{string_eq}
 use Rattle.std.specs.declared.alloc.Global.{Global}
@@ -63,9 +62,6 @@ distinct_bytes : {Y : Type 0} (ks : List (String Y)) → IsDistinct string_eq ks
 unfolding IsDistinct
 distinct_bytes [] h = tt
 distinct_bytes (k ∷ ks) h = (apart_bytes k ks h.0, distinct_bytes ks h.1)
-
-order_is : (o : Ordering) → is_lt o ≡ false → is_eq (ordering_reverse o) ≡ false → ordering_reverse o ≡ Less
-order_is o a b = grind (arith, a, b)
 
 less_next : (x y : List ℕ) → is_lt (slice_cmp nat_cmp y x) ≡ false → bytes_eq x y ≡ false → slice_cmp nat_cmp x y ≡ Less
 less_next x y a b = grind (arith, a, b, nat_list_cmp_total.antisymm x y, is_eq-slice_cmp x y)

@@ -69,10 +69,6 @@ plain_itself t = sub_reflexive t
 pub not_null : (t u : Tree) → kind t ≡ kind u → is_null t ≡ false → is_null u ≡ false
 not_null t u e s = sym (ap null_kind e) ∙ s
 
-of_sub : (t u : Tree) → is_null t ≡ false → Sub t u → ReadsPlain t u
-of_sub null u s h = absurd (false≢true (sym s))
-of_sub t u s h = h
-
 allows_more : (l m n : Nullability) → Allows l m → Allows m n → Allows l n
 allows_more l m n f g h = g (f h)
 

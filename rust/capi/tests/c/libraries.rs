@@ -12,6 +12,18 @@ use std::process::Command;
 /// What the example prints.
 const SHOWN: &str = "customer.city = utf8?\n{customer={city=utf8?}, lines=list({sku=utf8})}\n";
 
+/// What `example_tree.c` prints without an argument.
+const TREE: &str = "\
+struct
+  id: u64
+  customer: struct
+    city: utf8?
+  lines: list
+    []: struct
+      sku: utf8
+      price: decimal(10,2)?
+";
+
 /// How large the shared library may be, and what a program gets of the static library.
 const MOST_BYTES: u64 = 1_500_000;
 
@@ -102,6 +114,18 @@ fn a_program_gets_few_bytes() {
     assert!(length(program.clone()) <= MOST_BYTES);
     let said = succeeds(Command::new("readelf").arg("-dW").arg(program));
     assert!(!said.contains("libgcc_s"), "{said}");
+}
+
+#[test]
+fn a_program_prints_a_type_as_a_tree() {
+    let program = compiled("example_tree", &["cc"], &["-std=c99"], &["example_tree.c"]);
+    assert_eq!(succeeds(&mut Command::new(&program)), TREE);
+    let mut run = Command::new(program);
+    let said = succeeds(run.arg("list({\"\"=map(utf8, i8, keys_sorted=true)?}?)?"));
+    assert_eq!(
+        said,
+        "list?\n  []: struct?\n    : map(utf8, i8, keys_sorted=true)?\n"
+    );
 }
 
 #[test]

@@ -2,8 +2,8 @@
 # SPDX-FileCopyrightText: Copyright the Vortex contributors
 
 """The Rust crate as a Cargo package that stands alone, so that it can be published and put into an archive: the sources of
-rust/vortex-logical-types, and in place of its build script the Rust files that `erase --into` writes. Its tests and the
-demo aren't in it."""
+rust/vortex-logical-types, and in place of its build script the Rust files that `erase --into` writes. Its tests, the
+demo and the planner of scans, which are other crates, aren't in it."""
 import os
 import re
 import subprocess
@@ -12,7 +12,8 @@ from glob import glob
 from cargo import CRATE, command
 from repository import text_of
 
-SOURCES = ["README.md", "src/*.rs", "src/habits/**/*.rs", "src/rattle_std/**/*.rs", "examples/**/*.rs"]
+SOURCES = ["README.md", "src/*.rs", "src/habits/**/*.rs", "src/rattle_std/**/*.rs", "examples/*.rs",
+           "examples/vortex_array/*.rs"]
 # The sections of Cargo.toml that a package alone has no use for.
 LEFT_OUT = ("build-dependencies", "dev-dependencies", "[test]", "lints")
 SECTION = re.compile(r"(?m)^\[(.+)\]$")

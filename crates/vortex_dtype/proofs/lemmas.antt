@@ -12,6 +12,7 @@ pub mod Compared
 pub mod Differences
 pub mod StorageKinds
 pub mod NamesAmong
+pub mod ColumnPaths
 pub mod EachAmong
 pub mod EachRegistered
 pub mod MergedAll

@@ -43,6 +43,8 @@ pub use Rattle.dtype_paths.proofs.lemmas.Covering.{collected_paths, covered_path
 pub use Rattle.dtype_paths.proofs.lemmas.PathsBelow.{stepping_into}
 pub use Rattle.dtype_paths.proofs.lemmas.Stepping.{one_column}
 pub use Rattle.dtype_paths.proofs.lemmas.Steps.{one_step}
+-- the columns of a type, by their names and as paths of one step
+pub use Rattle.vortex_dtype.proofs.lemmas.ColumnPaths.{column_paths}
 -- two lists side by side
 pub use Rattle.vortex_dtype.proofs.lemmas.Zipped.{zipped}
 -- what a loop has collected in a list, and loops that go from a type to a part of it
@@ -50,8 +52,9 @@ pub use Rattle.vortex_dtype.proofs.lemmas.Collected.{collected}
 pub use Rattle.vortex_dtype.proofs.lemmas.Smaller.{smaller_parts}
 -- the ids of a session, each of many
 pub use Rattle.vortex_dtype.proofs.lemmas.EachRegistered.{each_registered}
--- several types that a loop merges by columns
+-- several types that a loop merges by columns, and which paths exist in the merged type
 pub use Rattle.dtype_merging.proofs.lemmas.AllMerged.{all_merged}
+pub use Rattle.dtype_merging.proofs.lemmas.Paths.{merged_paths}
 -- several types that a loop merges by nullability
 pub use Rattle.vortex_dtype.proofs.lemmas.MergedAll.{merging_all}
 -- a type and a cursor that are stepped together, and its lemmas one by one, for answers that a caller writes

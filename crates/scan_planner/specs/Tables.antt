@@ -1,0 +1,33 @@
+-- SPDX-License-Identifier: Apache-2.0
+-- SPDX-FileCopyrightText: Copyright the Vortex contributors
+
+-- What the type of a table promises for its files, whose types are `ts`.
+use Rattle.std.specs.Prelude.{List, [], ◌∷◌, Option, None}
+use Rattle.std.specs.List.{AllByRecursion}
+use Rattle.vortex_dtype.specs.At.{ExistsIn}
+use Rattle.vortex_dtype.specs.AllMerged.{FilledIn, all_columns_merged}
+use Rattle.vortex_dtype.specs.ReadsAs.{ReadsAs}
+use Rattle.vortex_dtype.specs.Tree.{Tree}
+use Rattle.vortex_dtype.specs.Types.Field.{Field}
+use Rattle.vortex_dtype.specs.Valid.{Valid}
+
+-- what the types of the files are merged to, or None if two of them can't be merged, or if there is no file
+abbrev pub table_of : List Tree → Option Tree
+table_of [] = None
+table_of (t ∷ ts) = all_columns_merged t ts
+
+-- each of the files can be read as `t`
+abbrev pub ReadsAll : List Tree → Tree → Type 0
+ReadsAll ts t = AllByRecursion (λ u. ReadsAs u t) ts
+
+-- `t` can be read as each valid type as which all of the files can be read
+abbrev pub IsLeast : List Tree → Tree → Type 0
+IsLeast ts t = (d : Tree) → Valid d → ReadsAll ts d → ReadsAs t d
+
+-- Each of the types lacks the path. This is no abbreviation, so that a caller's search takes it as one word.
+unfoldable pub AllLackPath : List Tree → List Field → Type 0
+AllLackPath ts p = AllByRecursion (λ u. ExistsIn u p → ⊥) ts
+
+-- each value of each file, with nulls for the columns that the file lacks, is a value of `t`
+abbrev pub FillsAll : List Tree → Tree → Type 0
+FillsAll ts t = AllByRecursion (λ u. FilledIn u t) ts

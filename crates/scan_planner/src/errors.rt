@@ -1,0 +1,39 @@
+// SPDX-License-Identifier: Apache-2.0
+// SPDX-FileCopyrightText: Copyright the Vortex contributors
+
+//! Why a scan isn't planned.
+ghost use Rattle.std.specs.Prelude.{◌≡◌};
+ghost use Rattle.vortex_dtype.specs.Types.VortexError.TheVariants.{OutOfMemory};
+ghost use Rattle.scan_planner.specs.declared.errors.PlanError.TheVariants.{Library};
+
+use std::alloc::AllocFailed;
+use vortex_dtype::{FieldPath, VortexError};
+
+/// Why a scan isn't planned.
+#[derive(Debug, Drop)]
+pub enum PlanError {
+    /// There is no file, so the table has no type.
+    NoFiles,
+    /// There is no type as which all files can be read.
+    NoCommonType,
+    /// No file has this path, which the query needs.
+    Missing(FieldPath),
+    /// A call of the library failed.
+    Library(VortexError),
+}
+
+impl From<VortexError> for PlanError {
+    ghost from_gives = { λ source error. error ≡ Library source };
+
+    fn from(source: VortexError) -> PlanError {
+        PlanError::Library(source)
+    }
+}
+
+impl<T: Drop> From<AllocFailed<T>> for PlanError {
+    ghost from_gives = { λ _ error. error ≡ Library OutOfMemory };
+
+    fn from(_source: AllocFailed<T>) -> PlanError {
+        PlanError::Library(VortexError::OutOfMemory)
+    }
+}

@@ -5,7 +5,7 @@
 //! limits of what is built here. Everything else is tested there (`rust/vortex-logical-types/tests`).
 //!
 //! The tests are about names and native types (`names`, `native`), what is as wide or as deep as it may be (`limits`),
-//! sessions and extension types (`extensions`, `sessions_handed_out`), the code of the tutorial (`orders`) and texts of
+//! sessions and extension types (`extensions`, `sessions_handed_out`), the functions of `uses::orders` (`orders`) and texts of
 //! paths that can't be read (`texts`). `plugins` has extension types as a user writes them, which prove the laws that the
 //! library asks of plugins.
 //!

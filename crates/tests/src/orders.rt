@@ -1,7 +1,7 @@
 // SPDX-License-Identifier: Apache-2.0
 // SPDX-FileCopyrightText: Copyright the Vortex contributors
 
-// The code of the tutorial, run.
+// The functions of `uses::orders`, run.
 use std::test::Fail;
 use uses::orders::columns::customer_column;
 use uses::orders::money::Money;

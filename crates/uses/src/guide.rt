@@ -1,7 +1,7 @@
 // SPDX-License-Identifier: Apache-2.0
 // SPDX-FileCopyrightText: Copyright the Vortex contributors
 
-//! The recipes of `docs/GUIDE.md`, and others beside them, in plain code. It is proved that they are safe and that they
+//! The recipes of `docs/PROVING.md`, in plain code. It is proved that they are safe and that they
 //! return. They have no contracts, so that they do what their comments say isn't proved; what each call in them returns
 //! is in its own contract.
 use std::alloc::Global;

@@ -11,7 +11,7 @@
 //! this crate lists only `vortex_dtype`, `dtype_types` and `dtype_projection`. Each function is on a page, or shows a
 //! ruleset or a form of clause; at most two functions show the same ruleset.
 //!
-//! - Pages: `orders` is the code of `docs/TUTORIAL.md`, and `guide` that of `docs/GUIDE.md`.
+//! - Pages: `docs/PROVING.md` begins with `orders`, and `guide` has its recipes.
 //! - Types: `arrays` (how wide a row and a decimal are), `binder` (column references), `structs`, `fields`,
 //!   `over_fields`, `loops` (to copy), `presence`, `wanted` (many names), `unions`, `equality`, `nullabilities`,
 //!   `columns` (files with different columns), `validity`.

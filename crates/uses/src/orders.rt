@@ -1,10 +1,8 @@
 // SPDX-License-Identifier: Apache-2.0
 // SPDX-FileCopyrightText: Copyright the Vortex contributors
 
-//! The code of `docs/TUTORIAL.md`: a shop's orders, from the schema of their table to an extension type of the
-//! shop's own.
-//!
-//! Read it in the order of that page: `schema`, `columns`, `query`, `money`, `stored`, `errors`.
+//! A shop's orders, from the schema of their table to an extension type of the shop's own. `docs/PROVING.md` begins with
+//! `schema` and `columns`, and shows the others where it is about what they show.
 
 pub mod columns;
 pub mod errors;

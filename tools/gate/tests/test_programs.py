@@ -80,13 +80,13 @@ class Runs(Planted):
         self.assertEqual((len(names), names), (4096, sorted(set(names))))
 
     def test_tells_pages_that_do_not_compile(self):
-        """Over an `rt` that looks for a function in each page's crate."""
+        """Over an `rt` that looks for a function in each of the page's crates."""
         self.script("rt", "[ $(cat ../my_crate/src/*.rt src/*.rt | grep -c 'fn one') = 2 ]")
-        self.write("docs/GUIDE.md", "# Guide\n\n```rust\n/// A recipe.\nfn one() {}\n```\n")
-        self.write("docs/TUTORIAL.md", "# Tutorial\n\nIn `src/orders.rt`:\n\n```rust\nfn one() {}\n```\n")
+        self.write("docs/PROVING.md", "# Proving\n\n## A first function\n\nIn `src/orders.rt`:\n\n```rust\nfn one() {}\n```\n\n"
+                   "## A planner\n\n```rust\nfn two() {}\n```\n\n## Recipes\n\n```rust\n/// A recipe.\nfn one() {}\n```\n")
         self.assertEqual(self.run_tool("recipes"), (0, "1 passed, 0 failed\n"))
-        self.change("docs/TUTORIAL.md", "fn one", "fn two")
-        self.assert_told("recipes", "recipes: docs/GUIDE.md and docs/TUTORIAL.md don't compile as they are:")
+        self.change("docs/PROVING.md", "/// A recipe.\nfn one", "/// A recipe.\nfn two")
+        self.assert_told("recipes", "recipes: docs/PROVING.md doesn't compile as it is:")
 
     def test_takes_the_least_of_all_runs(self):
         self.script("port", "cat >/dev/null; echo find/wide/10 $(head -n 1 times) 1; sed -i 1d times")

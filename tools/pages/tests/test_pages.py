@@ -6,16 +6,16 @@ from planted import Planted
 
 NAME = "crates/dtype_base/src/field_name.rt"
 TABLE = "rust/console/src/commands/paths.rs"
-CALLING = "crates/vortex_dtype/CALLING.md"
+PROVING = "docs/PROVING.md"
 CHANGES = [
     ("README.md", "", "```rust\nlet gone = FieldName::gone();\n```\n", "README.md:LINE: no source has this block"),
     ("README.md", "", "```c\nvlt_gone();\n```\n", "README.md:LINE: no source has this block"),
     ("README.md", "", "```console\n> name a\nb\n```\n", "README.md:LINE: > name a: the transcript has no such line with"),
-    (CALLING, "", "```text\nfn FieldName::gone()\n```\n", "fn FieldName::gone(): no function has this signature"),
-    (CALLING, "(into_iter_items r.0)", "(into_iter_items r.1)", "no such clause: ensures ok: Makes result (λ r. set_of"),
+    (PROVING, "", "```text\nfn FieldName::gone()\n```\n", "fn FieldName::gone(): no function has this signature"),
+    (PROVING, "(into_iter_items r.0)", "(into_iter_items r.1)", "no such clause: ensures ok: Makes result (λ r. set_of"),
     ("docs/TRUST.md", "", "\n[there](GONE.md)\n", "docs/TRUST.md: there is no GONE.md"),
-    ("docs/TRUST.md", "", "\n[here](GUIDE.md#gone)\n", "docs/TRUST.md: docs/GUIDE.md has no heading #gone"),
-    ("docs/GUIDE.md", "| 0 |", "| 1 |", "docs/GUIDE.md: lacks error 0, OutOfMemory"),
+    ("docs/TRUST.md", "", "\n[here](PACKAGES.md#gone)\n", "docs/TRUST.md: docs/PACKAGES.md has no heading #gone"),
+    ("docs/PACKAGES.md", "| 0 |", "| 1 |", "docs/PACKAGES.md: lacks error 0, OutOfMemory"),
     ("docs/CONSOLE.md", "`name NAME`", "`gone NAME`", "docs/CONSOLE.md: has no such command gone NAME"),
     (TABLE, 'byte by byte"]', 'byte by byte", "Io (1)"]', "name_cmp: there is no error Io"),
     ("rust/console/tests/transcript.txt", "> native_integer u16\n", "> native_integer u8\n", "no line has native_integer u16"),

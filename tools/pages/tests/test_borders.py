@@ -50,6 +50,8 @@ CHANGES = [
     (NAME, "use std::fmt;", "ghost use Rattle.std.specs.Prelude.{◌≡◌, codes};\nuse std::fmt;", "imports codes, and"),
     (NULLABILITY, "use std::fmt;", "ghost use Rattle.std.specs.Prelude.{◌≡◌};\nuse std::fmt;",
      f"{NULLABILITY}: imports ◌≡◌ twice"),
+    ("docs/GLOSSARY.md", ", `Rattle.vortex_dtype.specs.TypeText`", "",
+     "docs/GLOSSARY.md:LINE: text can't be imported from Rattle.vortex_dtype.specs.Text"),
     ("docs/GLOSSARY.md", "| `Beginning p q`", "| `Starting p q`", "docs/GLOSSARY.md:LINE: Starting is defined in no"),
 ]
 

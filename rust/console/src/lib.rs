@@ -2,7 +2,7 @@
 // SPDX-FileCopyrightText: Copyright the Vortex contributors
 
 //! A program that makes calls of the library on values that are written as text: each line is a command with its
-//! arguments, and is answered by a line. `docs/CONSOLE.md` has the commands and their answers. It is a library, because
+//! arguments, and is answered by a line. `docs/CONSOLE.md` says how commands and answers are written. It is a library, because
 //! `python -m vortex_logical_types` runs it, too.
 //!
 //! Begin with `table.rs`, in which the commands stand, and with `console.rs`, which answers a line.

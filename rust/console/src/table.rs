@@ -16,7 +16,7 @@ pub struct Row {
     pub arguments: &'static str,
     /// The arguments of an example.
     pub example: &'static str,
-    /// What it answers, in the words of `docs/CONSOLE.md`.
+    /// What it answers, as `help` says it.
     pub answer: &'static str,
     /// The errors of the call, each with its number, and its condition. Empty if it has none of its own.
     pub errors: &'static str,

@@ -16,7 +16,7 @@ CHANGES = [
     ("docs/TRUST.md", "", "\n[there](GONE.md)\n", "docs/TRUST.md: there is no GONE.md"),
     ("docs/TRUST.md", "", "\n[here](PACKAGES.md#gone)\n", "docs/TRUST.md: docs/PACKAGES.md has no heading #gone"),
     ("docs/PACKAGES.md", "| 0 |", "| 1 |", "docs/PACKAGES.md: lacks error 0, OutOfMemory"),
-    ("docs/CONSOLE.md", "`name NAME`", "`gone NAME`", "docs/CONSOLE.md: has no such command gone NAME"),
+    ("docs/CONSOLE.md", "`foreign ID HEX T`", "`gone ID HEX T`", "docs/CONSOLE.md: has no such command gone ID HEX T"),
     (TABLE, 'byte by byte"]', 'byte by byte", "Io (1)"]', "name_cmp: there is no error Io"),
     ("rust/console/tests/transcript.txt", "> native_integer u16\n", "> native_integer u8\n", "no line has native_integer u16"),
     ("docs/TRUST.md", "", "\n| [`E`](../crates/dtype_base/specs/Errors.antt) | 900 | errors |\n", " lines, not 900"),

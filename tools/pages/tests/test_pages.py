@@ -1,7 +1,7 @@
 # SPDX-License-Identifier: Apache-2.0
 # SPDX-FileCopyrightText: Copyright the Vortex contributors
 
-"""tools/pages/pages, with what it checks by speed.py and tools/pages/reference."""
+"""tools/pages/pages, with what it checks by tools/pages/reference."""
 from planted import Planted
 
 NAME = "crates/dtype_base/src/field_name.rt"
@@ -25,8 +25,6 @@ CHANGES = [
     ("docs/TRUST.md", "", "\n`tools/mutations dtype_base`\n", "docs/TRUST.md: tools/mutations is a folder"),
     ("docs/TRUST.md", "", "\n`tools/pages/reference --chek`\n", "docs/TRUST.md: tools/pages/reference has no --chek"),
     ("Cargo.toml", "[workspace.package]\n", '[workspace.package]\nversion = "0.1.9"\n', "Cargo.toml: its version is 0.1.9, and the newest"),
-    ("docs/benchmarks.csv", "", "find/x/10,30,10\n", "its summary isn't of docs/benchmarks.csv"),
-    ("docs/benchmarks.csv", "", "fly/x,20,10\n", "no operation of tools/pages/speed.py has the case fly/x"),
 ]
 
 
@@ -37,11 +35,6 @@ class Pages(Planted):
     def test_takes_what_is_there(self):
         self.change("docs/TRUST.md", "", "\n```console\n> name \"a b\"\n\"a b\"\n```\n\n```sh\ntools/pages/reference --check\n```\n")
         self.assertEqual(self.run_tool("pages")[0], 0)
-
-    def test_the_summary_has_the_greatest_ratio(self):
-        self.change("docs/benchmarks.csv", "", "find/x/10,300,10\n")
-        self.run_tool("speed.py")
-        self.assertRegex(self.read("docs/BENCHMARKS.md"), r"\| find among 10 fields \| [\d.]+ to 30 \|")
 
     def test_the_reference_says_what_a_call_does(self):
         self.change(NAME, "/// Returns the name with this text. The text is copied.", "/// Returns a name.")

@@ -1158,7 +1158,15 @@ VLT_MUST_USE vlt_result vlt_paths_len(const vlt_path_list *paths, size_t *count)
 VLT_MUST_USE vlt_result vlt_paths_get(const vlt_path_list *paths, size_t index, vlt_path *out);
 
 
-/* == The part of a type that paths lead to == */
+/* == The parts of a type that paths lead to == */
+
+/* Stores in `out` the type without the parts to which the paths of the set lead. A path that doesn't exist in the type
+ * changes nothing. A struct that loses all its fields stays, without fields, and a list is left out with its element.
+ * If several fields of a struct have the same name, each of them is treated in the same way. For example, `{a=i32,
+ * b={c=u8, d=u8}}` without `a` and `b.c` is `{b={d=u8}}`. Returns VLT_NONE if nothing is left.
+ *
+ * Results: VLT_DONE, VLT_NONE, VLT_KIND, VLT_SAME_SLOT or VLT_LIBRARY. */
+VLT_MUST_USE vlt_result vlt_without_paths(const vlt_dtype *dtype, const vlt_path_set *set, vlt_dtype *out);
 
 /* Stores in `out` the part of the type to which the paths of the set lead. It is the schema of the columns that a
  * reader of these paths has to open. The type at the end of a path is kept whole. A struct on the way keeps only the

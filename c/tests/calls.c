@@ -745,6 +745,14 @@ static void sets(void) {
     HAS(&s[2], "{a=list({c=u32})?}");
     DONE(vlt_set_new(&s[3].set));
     NONE(vlt_project_paths(&s[1].dtype, &s[3].set, &s[2].dtype));
+    DONE(vlt_without_paths(&s[1].dtype, &s[3].set, &s[2].dtype));
+    HAS(&s[2], "{a=list({c=u32, d=i8})?, y=i64}");
+    DONE(vlt_set_insert(&s[3].set, &p[2].path));
+    DONE(vlt_without_paths(&s[1].dtype, &s[3].set, &s[2].dtype));
+    HAS(&s[2], "{a=list({d=i8})?, y=i64}");
+    path_of(&s[2], ".");
+    DONE(vlt_set_insert(&s[3].set, &s[2].path));
+    NONE(vlt_without_paths(&s[1].dtype, &s[3].set, &s[2].dtype));
     IS(VLT_KIND, vlt_set_insert(&s[1].set, &p[0].path));
     IS(VLT_KIND, vlt_set_insert(&s[0].set, &s[1].path));
     vlt_free(&p[1].slot);

@@ -16,8 +16,10 @@ JOINED = " || "
 GENERAL = "All objects"
 PARTS = {"dtype": "Types", "struct": "Structs (of another type the calls return VLT_CONDITION)",
          "union": "Unions (of another type the calls return VLT_CONDITION)", "fields": "Fields", "path": "Paths",
-         "set": "Sets of paths", "paths": "Lists of paths", "project": "The part of a type that paths lead to", "mask": "Masks",
+         "set": "Sets of paths", "paths": "Lists of paths", "project": "The parts of a type that paths lead to", "mask": "Masks",
          "message": "Messages of types", "error": "Errors"}
+# Words whose functions are in the part of another word.
+PART_OF = {"without": "project"}
 # The types of C for objects of one kind, by the words that find such an object in a slot; and what each contains.
 TYPES = {"type_in": ("dtype", "a type"), "path_in": ("path", "a path"), "set_in": ("path_set", "a set of paths"),
          "paths_in": ("path_list", "a list of paths"), "mask_in": ("mask", "a mask"),
@@ -45,8 +47,9 @@ NEVER = {("vlt_dtype_union_nullability", 5): "a type doesn't become non-nullable
 
 
 def part_of(name):
-    """Which part of the interface a function belongs to: the word behind `vlt_`, if it is one of PARTS."""
+    """Which part of the interface a function belongs to: the word behind `vlt_`, or that of PART_OF, if it is one of PARTS."""
     word = name.split("_")[1]
+    word = PART_OF.get(word, word)
     return word if word in PARTS else ""
 
 

@@ -43,6 +43,7 @@ mod buffers;
 mod changes;
 mod constructors;
 mod cursors;
+mod edits;
 mod error_texts;
 mod errors;
 mod failures;

@@ -2,30 +2,29 @@
 -- SPDX-FileCopyrightText: Copyright the Vortex contributors
 
 -- What is read of a text: a type or a path for which it stands, or the reason why there is none.
-use Rattle.std.specs.Prelude.{◌≡◌, ◌⊎◌, ◌+◌, ◌<◌, ◌≤◌, ℕ, List, length, Option}
+use Rattle.std.specs.Prelude.{◌≡◌, ◌⊎◌, ◌<◌, ℕ, List, Option}
 use Rattle.c_objects.specs.declared.failure.Failure.{Failure}
 use Rattle.c_objects.specs.declared.failure.Failure.TheVariants.{Library, Text, Deep, Arrow}
 use Rattle.c_objects.specs.declared.object.Object.{Object}
 use Rattle.dtype_paths.specs.declared.field.Field.{Field}
+use Rattle.dtype_text.specs.Errors.{IsPositionIn}
 use Rattle.dtype_text.specs.Grammar.{IsSpelled, Refuses, Stands, levels}
 use Rattle.dtype_text.specs.PathGrammar.{StandsForPath}
+use Rattle.dtype_text.specs.Within.{HasRefused, IsDeepAt}
 use Rattle.dtype_text.specs.declared.text_error.TextError.{TextError}
 use Rattle.dtype_text.specs.declared.text_error.TextError.TheVariants as of
 use Rattle.dtype_types.specs.tree.Tree.{Tree}
 use Rattle.dtype_types.specs.tree.Valid.{Valid}
 use Rattle.vortex_logical_types.specs.Vocabulary.{Failed, Outcome}
 
--- the place of a byte of a text of this length, from 1, or of its end
-abbrev pub IsPlace : ℕ → ℕ → Type 0
-IsPlace size at = (1 ≤ at) × (at ≤ size + 1)
-
--- Why a text isn't read as a type: no type is spelled so; or a type is, and it isn't valid, for this error of its own or of a
--- part; or it has more than 128 levels. For example, of `{a=decimal(0,0)}` the reason is `Library (PrecisionZero 76)`, which the
--- library returns for the decimal type, and no valid type is spelled so.
+-- Why a text isn't read as a type: no type is spelled so; or a type stands in it that the library refuses with this error; or one
+-- begins at this position that is inside more than 128 others. If the text spells a type, then that is refused with the error, or
+-- has more than 128 levels. For example, of `{a=decimal(0,0)}` the reason is `Library (PrecisionZero 76)`, with which the library
+-- refuses the decimal type.
 abbrev pub IsUnreadType : List ℕ → Failure → Type 0
-IsUnreadType text (Text at message) = IsPlace (length text) at × ((t : Tree) → IsSpelled t text → ⊥)
-IsUnreadType text (Library e) = (t : Tree) → IsSpelled t text → (Valid t → ⊥) × Refuses t e
-IsUnreadType text (Deep at) = IsPlace (length text) at × ((t : Tree) → IsSpelled t text → 128 < levels t)
+IsUnreadType text (Text at message) = IsPositionIn text at × ((t : Tree) → IsSpelled t text → ⊥)
+IsUnreadType text (Library e) = HasRefused e text × ((t : Tree) → IsSpelled t text → (Valid t → ⊥) × Refuses t e)
+IsUnreadType text (Deep at) = IsDeepAt at text × ((t : Tree) → IsSpelled t text → 128 < levels t)
 IsUnreadType text (Arrow message) = ⊥
 
 -- The type for which a text stands, or why there is none. For example, of `i32?` it is the nullable primitive type i32.
@@ -34,7 +33,7 @@ reads_type text No Why Yes = Yes (λ t. Stands t text) ⊎ Why (IsUnreadType tex
 
 -- why a text isn't read as a path: it stands for none
 abbrev pub IsUnreadPath : List ℕ → Failure → Type 0
-IsUnreadPath text (Text at message) = IsPlace (length text) at × ((p : List Field) → StandsForPath p text → ⊥)
+IsUnreadPath text (Text at message) = IsPositionIn text at × ((p : List Field) → StandsForPath p text → ⊥)
 IsUnreadPath text (Library e) = ⊥
 IsUnreadPath text (Deep at) = ⊥
 IsUnreadPath text (Arrow message) = ⊥
@@ -43,18 +42,14 @@ IsUnreadPath text (Arrow message) = ⊥
 abbrev pub reads_path : List ℕ → Outcome (List Field)
 reads_path text No Why Yes = Yes (λ p. StandsForPath p text) ⊎ Why (IsUnreadPath text)
 
--- the place of an error of the reader, in a text of this length
-abbrev pub IsPlaceOf : ℕ → ℕ → ℕ → Type 0
-IsPlaceOf position size at = IsPlace size at × (IsPlace size position → at ≡ position)
-
 -- the reason that is stored for an error of the reader
-abbrev pub IsReasonOf : TextError → ℕ → Failure → Type 0
-IsReasonOf (of.Refused e) size (Library f) = f ≡ e
-IsReasonOf (of.TooDeep position) size (Deep at) = IsPlaceOf position size at
-IsReasonOf (of.Misread position expected found) size (Text at message) = IsPlaceOf position size at
-IsReasonOf _ _ _ = ⊥
+abbrev pub IsReasonOf : TextError → Failure → Type 0
+IsReasonOf (of.Refused e) (Library f) = f ≡ e
+IsReasonOf (of.TooDeep position) (Deep at) = at ≡ position
+IsReasonOf (of.Misread position expected found) (Text at message) = at ≡ position
+IsReasonOf _ _ = ⊥
 
--- The reason for an error of the reader of a text of this length is stored, unless memory is short. For example, of `TooDeep` with
--- the position 200 it is `Deep 200`.
-abbrev pub StoresUnread : TextError → ℕ → ℕ → Option Object → Option Object → Type 0
-StoresUnread why size code was is = Failed (IsReasonOf why size) code is ⊎ ((code ≡ 100) × (is ≡ was))
+-- The reason for an error of the reader is stored, unless memory is short. For example, of `TooDeep` with the position 200 it is
+-- `Deep 200`.
+abbrev pub StoresUnread : TextError → ℕ → Option Object → Option Object → Type 0
+StoresUnread why code was is = Failed (IsReasonOf why) code is ⊎ ((code ≡ 100) × (is ≡ was))

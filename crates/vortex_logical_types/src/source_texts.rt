@@ -2,7 +2,7 @@
 // SPDX-FileCopyrightText: Copyright the Vortex contributors
 
 // Types in the text form that can be read back.
-ghost use Rattle.std.specs.Prelude.{◌≡◌, IfSome, OnOk, length, string_bytes};
+ghost use Rattle.std.specs.Prelude.{◌≡◌, IfSome, OnOk, string_bytes};
 ghost use Rattle.dtype_base.specs.Errors.{Makes};
 ghost use Rattle.dtype_text.specs.Grammar.{AreTexts};
 ghost use Rattle.dtype_text.specs.Source.{source};
@@ -65,7 +65,7 @@ fn put_read(alloc: Global, text: &str, out: &mut Slot, error: &mut Slot) -> u32
 /// Stores in the slot `error` the reason for which a text can't be read, and returns its number. If memory runs out,
 /// the slot is unchanged, and the call returns 100.
 pub fn fail_to_read(alloc: Global, error: &mut Slot, why: TextError, text: &str) -> u32
-    ensures { StoresUnread why (length text.now) result error.old.value error.new.value }
+    ensures { StoresUnread why result error.old.value error.new.value }
 {
     let message = match hint_of(alloc, &why, text) {
         Ok(Some(TextHint { message, .. })) => message,
@@ -75,12 +75,8 @@ pub fn fail_to_read(alloc: Global, error: &mut Slot, why: TextError, text: &str)
     match why {
         TextError::OutOfMemory => LIBRARY,
         TextError::Refused(why) => fail_with(alloc, error, why),
-        TextError::TooDeep { position } => {
-            let position = position.clamp(1, text.len() + 1);
-            fail(alloc, error, Failure::Deep { position })
-        }
+        TextError::TooDeep { position } => fail(alloc, error, Failure::Deep { position }),
         TextError::Misread { position, .. } => {
-            let position = position.clamp(1, text.len() + 1);
             fail(alloc, error, Failure::Text { position, message })
         }
     }

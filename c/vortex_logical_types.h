@@ -929,7 +929,8 @@ VLT_MUST_USE vlt_result vlt_path_from_message(
  *
  * Returns VLT_UTF8 if the text isn't UTF-8, and VLT_UNREADABLE if it isn't spelled like a path. Then `error` contains
  * an error: `vlt_error_position` returns at which byte, counted from 1, something else was expected, and
- * `vlt_error_message` what.
+ * `vlt_error_message` what. For example, the message for `a[0]` ends with `[] is a step of its own, for example in
+ * a.[].b`.
  *
  * Results: VLT_DONE, VLT_UTF8, VLT_UNREADABLE, VLT_SAME_SLOT, VLT_RANGE or VLT_LIBRARY. */
 VLT_MUST_USE vlt_result vlt_path_from_text(const uint8_t *text, size_t text_len, vlt_path *out, vlt_error *error);

@@ -939,6 +939,10 @@ static void errors(void) {
     IS_ERROR(&why, 77, 4, "expected a type");
     IS(VLT_UNREADABLE, vlt_path_from_text(TEXT("a..b"), &path.path, &why.error));
     IS_ERROR(&why, 77, 3, "expected");
+    IS(VLT_UNREADABLE, vlt_path_from_text(TEXT("a[0]"), &path.path, &why.error));
+    IS_ERROR(&why, 77, 2, "expected the end of the text, found `[`; [] is a step of its own, for example in a.[].b");
+    IS(VLT_UNREADABLE, vlt_path_from_text(TEXT("a/b"), &path.path, &why.error));
+    IS_ERROR(&why, 77, 2, "expected the end of the text, found `/`; steps are joined by dots, for example a.[].b");
     IS(VLT_SAME_SLOT, vlt_dtype_decimal(1, 0, false, &s[1].dtype, (vlt_error *)&s[1]));
     IS(VLT_SAME_SLOT, vlt_dtype_map(&s[0].dtype, &s[1].dtype, false, false, &s[2].dtype, (vlt_error *)&s[0]));
     HAS(&s[0], "{a=i32, b=utf8?}");

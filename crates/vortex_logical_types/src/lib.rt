@@ -28,8 +28,8 @@
 //! list of paths is open. These functions leave more open:
 //!
 //! - `vlt_dtype_from_text` and `vlt_path_from_text` don't specify at which byte of a text something else was expected,
-//!   nor the message. If a text has several faults, and no type is spelled like it, they don't specify which of these
-//!   is reported.
+//!   nor the message, except for the words with which the message for a path ends. If a text has several faults, and no
+//!   type is spelled like it, they don't specify which of these is reported.
 //! - `vlt_error_message` doesn't specify the text of an error of the library.
 //! - If memory runs out in `vlt_set_extend_from_list`, it isn't specified how many paths were added.
 //!

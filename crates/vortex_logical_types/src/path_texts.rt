@@ -21,13 +21,14 @@ use dtype_paths::FieldPath;
 use dtype_text::{read_path, write_path};
 use std::alloc::Global;
 use std::str;
+use text_hints::hint_of_path;
 
 /// Reads a path from its text and stores it in `out`. For example, `a.[].b` is a path of three steps, and `.` is the
 /// root. The text is written in the form of `vlt_path_to_text`, and blanks and comments may stand around it.
 ///
 /// Returns 3 if the text isn't UTF-8, and 4 if it isn't spelled like a path. Then `error` contains an error:
 /// `vlt_error_position` returns at which byte, counted from 1, something else was expected, and `vlt_error_message`
-/// what.
+/// what. For example, the message for `a[0]` ends with `[] is a step of its own, for example in a.[].b`.
 #[unsafe(no_mangle)]
 pub extern "C" fn vlt_core_path_from_text(
     alloc: Global,
@@ -50,7 +51,10 @@ fn put_read(alloc: Global, text: &str, out: &mut Slot, error: &mut Slot) -> u32
 {
     match read_path(alloc, text) {
         Ok(path) => put(alloc, out, Object::Path(path)),
-        Err(why) => fail_to_read(alloc, error, why, text),
+        Err(why) => {
+            let hint = hint_of_path(alloc, &why, text);
+            fail_to_read(alloc, error, why, hint)
+        }
     }
 }
 

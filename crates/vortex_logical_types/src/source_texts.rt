@@ -20,7 +20,7 @@ use c_objects::{Failure, Object, Slot};
 use dtype_base::VortexResult;
 use dtype_text::{TextError, read_dtype, write_dtype};
 use dtype_types::DType;
-use std::alloc::Global;
+use std::alloc::{AllocError, Global};
 use std::str;
 use text_hints::{TextHint, hint_of};
 
@@ -58,16 +58,24 @@ fn put_read(alloc: Global, text: &str, out: &mut Slot, error: &mut Slot) -> u32
 {
     match read_dtype(alloc, text) {
         Ok(dtype) => put(alloc, out, Object::DType(dtype)),
-        Err(why) => fail_to_read(alloc, error, why, text),
+        Err(why) => {
+            let hint = hint_of(alloc, &why, text);
+            fail_to_read(alloc, error, why, hint)
+        }
     }
 }
 
-/// Stores in the slot `error` the reason for which a text can't be read, and returns its number. If memory runs out,
-/// the slot is unchanged, and the call returns 100.
-pub fn fail_to_read(alloc: Global, error: &mut Slot, why: TextError, text: &str) -> u32
-    ensures { StoresUnread why result error.old.value error.new.value }
+/// Stores in the slot `error` the reason for which a text can't be read, with the message of the hint, and returns its
+/// number. If memory runs out, for the hint or here, the slot is unchanged, and the call returns 100.
+pub fn fail_to_read(
+    alloc: Global,
+    error: &mut Slot,
+    why: TextError,
+    hint: Result<Option<TextHint>, AllocError>,
+) -> u32
+    ensures { StoresUnread why hint result error.old.value error.new.value }
 {
-    let message = match hint_of(alloc, &why, text) {
+    let message = match hint {
         Ok(Some(TextHint { message, .. })) => message,
         Ok(None) => String::new(alloc),
         Err(_) => return LIBRARY,

@@ -191,7 +191,9 @@ uint32_t vlt_core_dtype_list(vlt_slot *element, bool nullable, vlt_slot *out);
 uint32_t vlt_core_dtype_fixed_size_list(vlt_slot *element, uint32_t size, bool nullable, vlt_slot *out);
 uint32_t vlt_core_set_below(vlt_slot *paths, vlt_slot *path, bool *is_end, bool *has_element, size_t *name_count);
 uint32_t vlt_core_set_names_below(vlt_slot *paths, vlt_slot *path, vlt_slot *out);
+uint32_t vlt_core_leaf_paths(vlt_slot *dtype, vlt_slot *out);
 uint32_t vlt_core_without_paths(vlt_slot *dtype, vlt_slot *set, vlt_slot *out);
+uint32_t vlt_core_with_type_at(vlt_slot *dtype, vlt_slot *path, vlt_slot *part, vlt_slot *out);
 uint32_t vlt_core_error_text(uint32_t code, uint8_t *buffer, size_t buffer_len, size_t *length);
 uint32_t vlt_core_error_number(vlt_slot *error, uint32_t *number);
 uint32_t vlt_core_error_position(vlt_slot *error, size_t *position);
@@ -1371,6 +1373,13 @@ vlt_result vlt_paths_get(const vlt_path_list *paths, size_t index, vlt_path *out
     return with_argument(result, ARGUMENTS({"paths", &paths->slot, 1, VLT_OBJECT_PATH_LIST}), NULL, "paths");
 }
 
+vlt_result vlt_leaf_paths(const vlt_dtype *dtype, vlt_path_set *out) {
+    if (are_same(&dtype->slot, &out->slot))
+        return vlt_is_wrong("out", VLT_SAME_SLOT);
+    vlt_result result = (vlt_result)vlt_core_leaf_paths((vlt_slot *)&dtype->slot, &out->slot);
+    return with_argument(result, ARGUMENTS({"dtype", &dtype->slot, 1, VLT_OBJECT_DTYPE}), NULL, "dtype");
+}
+
 vlt_result vlt_without_paths(const vlt_dtype *dtype, const vlt_path_set *set, vlt_dtype *out) {
     if (are_same(&dtype->slot, &out->slot) || are_same(&set->slot, &out->slot))
         return vlt_is_wrong("out", VLT_SAME_SLOT);
@@ -1385,6 +1394,27 @@ vlt_result vlt_without_paths(const vlt_dtype *dtype, const vlt_path_set *set, vl
             result,
             ARGUMENTS({"dtype", &dtype->slot, 1, VLT_OBJECT_DTYPE}, {"set", &set->slot, 1, VLT_OBJECT_PATH_SET}), NULL,
             "dtype");
+}
+
+vlt_result vlt_with_type_at(const vlt_dtype *dtype, const vlt_path *path, const vlt_dtype *part, vlt_dtype *out) {
+    if (are_same(&dtype->slot, &out->slot) || are_same(&path->slot, &out->slot) || are_same(&part->slot, &out->slot))
+        return vlt_is_wrong("out", VLT_SAME_SLOT);
+    if (are_same(&dtype->slot, &path->slot) || are_same(&path->slot, &part->slot))
+        return with_argument(
+                VLT_KIND,
+                ARGUMENTS({"dtype", &dtype->slot, 1, VLT_OBJECT_DTYPE}, {"path", &path->slot, 1, VLT_OBJECT_PATH}, {"part", &part->slot, 1, VLT_OBJECT_DTYPE}),
+                NULL, NULL);
+    vlt_slot copy = {0};
+    const vlt_slot *apart = &part->slot;
+    vlt_result result = copied_if_same(&dtype->slot, &apart, vlt_core_dtype_copy, &copy);
+    if (result == VLT_DONE)
+        result = (vlt_result)vlt_core_with_type_at(
+                (vlt_slot *)&dtype->slot, (vlt_slot *)&path->slot, (vlt_slot *)apart, &out->slot);
+    empty(&copy);
+    return with_argument(
+            result,
+            ARGUMENTS({"dtype", &dtype->slot, 1, VLT_OBJECT_DTYPE}, {"path", &path->slot, 1, VLT_OBJECT_PATH}, {"part", &part->slot, 1, VLT_OBJECT_DTYPE}),
+            NULL, "dtype");
 }
 
 vlt_result vlt_project_paths(const vlt_dtype *dtype, const vlt_path_set *set, vlt_dtype *out) {

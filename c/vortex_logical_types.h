@@ -1161,6 +1161,14 @@ VLT_MUST_USE vlt_result vlt_paths_get(const vlt_path_list *paths, size_t index, 
 
 /* == The parts of a type that paths lead to == */
 
+/* Stores in `out` the set of the paths to the parts of the type into which no step leads further. They are the columns
+ * of the type: a step leads into a list, and none leads into a struct without fields, a map, a union or an extension.
+ * If several fields of a struct have the same name, a path leads to the first of them, so the others have no paths.
+ * For example, the paths of `{a=list(i32), b={}}` are `a.[]` and `b`.
+ *
+ * Results: VLT_DONE, VLT_KIND, VLT_SAME_SLOT or VLT_LIBRARY. */
+VLT_MUST_USE vlt_result vlt_leaf_paths(const vlt_dtype *dtype, vlt_path_set *out);
+
 /* Stores in `out` the type without the parts to which the paths of the set lead. A path that doesn't exist in the type
  * changes nothing. A struct that loses all its fields stays, without fields, and a list is left out with its element.
  * If several fields of a struct have the same name, each of them is treated in the same way. For example, `{a=i32,
@@ -1168,6 +1176,15 @@ VLT_MUST_USE vlt_result vlt_paths_get(const vlt_path_list *paths, size_t index, 
  *
  * Results: VLT_DONE, VLT_NONE, VLT_KIND, VLT_SAME_SLOT or VLT_LIBRARY. */
 VLT_MUST_USE vlt_result vlt_without_paths(const vlt_dtype *dtype, const vlt_path_set *set, vlt_dtype *out);
+
+/* Stores in `out` the type with the part at the path replaced by the type in `part`. Every other part stays as it is,
+ * with its nullability. If several fields of a struct have the same name, a path leads to the first of them. For
+ * example, it is `{a=list(utf8)?}` for `{a=list(i32)?}`, the path `a.[]` and `utf8`. Returns VLT_NONE if the path
+ * doesn't exist in the type, and VLT_DEEP if the result would have more than 128 levels.
+ *
+ * Results: VLT_DONE, VLT_NONE, VLT_KIND, VLT_DEEP, VLT_SAME_SLOT or VLT_LIBRARY. */
+VLT_MUST_USE vlt_result vlt_with_type_at(
+        const vlt_dtype *dtype, const vlt_path *path, const vlt_dtype *part, vlt_dtype *out);
 
 /* Stores in `out` the part of the type to which the paths of the set lead. It is the schema of the columns that a
  * reader of these paths has to open. The type at the end of a path is kept whole. A struct on the way keeps only the

@@ -128,7 +128,7 @@ static void general(void) {
 
 /* 128 levels below a type can be made, and 129 can't. (Not with allocations refused: there are thousands.) */
 static void levels(void) {
-    any s[2] = {VLT_EMPTY, VLT_EMPTY}, f = VLT_EMPTY;
+    any s[2] = {VLT_EMPTY, VLT_EMPTY}, f = VLT_EMPTY, out = VLT_EMPTY;
     size_t depth;
     uint8_t *text = (uint8_t *)malloc(6 * 129 + 2);
     for (depth = 129; depth >= 128; depth--) {
@@ -148,8 +148,15 @@ static void levels(void) {
     IS(VLT_DEEP, vlt_dtype_union(&f.fields, NULL, 0, false, &s[1].dtype, NULL));
     IS(VLT_DEEP, vlt_dtype_union_consecutive(&f.fields, false, &s[1].dtype, NULL));
     HOLDS(s[1].slot.at == NULL);
+    type_of(&s[1], "list(i8)");
+    path_of(&f, "[]");
+    IS(VLT_DEEP, vlt_with_type_at(&s[1].dtype, &f.path, &s[0].dtype, &out.dtype));
+    HOLDS(out.slot.at == NULL);
+    DONE(vlt_with_type_at(&s[0].dtype, &f.path, &s[1].dtype, &out.dtype));
+    HAS(&out, "list(list(i8))");
     free_all(s, 2);
     free_all(&f, 1);
+    free_all(&out, 1);
 }
 
 /* 256 variants can be made without tags, and 257 can't. (Not with allocations refused: there are hundreds.) */
@@ -787,6 +794,38 @@ static void set_relations(void) {
     free_all(&path, 1);
 }
 
+/* The leaves of a type, and the type with the part at a path replaced. */
+static void edits(void) {
+    any s[3] = {VLT_EMPTY, VLT_EMPTY, VLT_EMPTY}, path = VLT_EMPTY, set = VLT_EMPTY;
+    type_of(&s[0], "{a=list({c=u32, d={}})?, b=map(utf8, i8, keys_sorted=true), a=utf8}");
+    DONE(vlt_leaf_paths(&s[0].dtype, &set.set));
+    DONE(vlt_set_members(&set.set, &path.paths));
+    IS_LIST(&path, "a.[].c a.[].d b ");
+    IS(VLT_SAME_SLOT, vlt_leaf_paths(&s[0].dtype, &s[0].set));
+    IS(VLT_KIND, vlt_leaf_paths(&path.dtype, &set.set));
+    type_of(&s[1], "i64?");
+    path_of(&path, "a.[].c");
+    DONE(vlt_with_type_at(&s[0].dtype, &path.path, &s[1].dtype, &s[2].dtype));
+    HAS(&s[2], "{a=list({c=i64?, d={}})?, b=map(utf8, i8, keys_sorted=true), a=utf8}");
+    path_of(&path, "a");
+    DONE(vlt_with_type_at(&s[0].dtype, &path.path, &s[0].dtype, &s[2].dtype));
+    HAS(&s[2], "{a={a=list({c=u32, d={}})?, b=map(utf8, i8, keys_sorted=true), a=utf8}, b=map(utf8, i8, keys_sorted=true), a=utf8}");
+    path_of(&path, "b.[]");
+    NONE(vlt_with_type_at(&s[0].dtype, &path.path, &s[1].dtype, &s[2].dtype));
+    path_of(&path, ".");
+    DONE(vlt_with_type_at(&s[0].dtype, &path.path, &s[1].dtype, &s[2].dtype));
+    HAS(&s[2], "i64?");
+    IS(VLT_SAME_SLOT, vlt_with_type_at(&s[0].dtype, &path.path, &s[1].dtype, &s[1].dtype));
+    IS(VLT_SAME_SLOT, vlt_with_type_at(&s[0].dtype, &path.path, &s[1].dtype, &path.dtype));
+    IS(VLT_KIND, vlt_with_type_at(&s[0].dtype, &s[0].path, &s[1].dtype, &s[2].dtype));
+    IS(VLT_KIND, vlt_with_type_at(&s[0].dtype, &path.path, &path.dtype, &s[2].dtype));
+    IS(VLT_KIND, vlt_with_type_at(&s[0].dtype, &path.path, &set.dtype, &s[2].dtype));
+    HAS(&s[2], "i64?");
+    free_all(s, 3);
+    free_all(&path, 1);
+    free_all(&set, 1);
+}
+
 /* An error tells this number and this position (of which 0 is none), and its message contains this text. */
 static void is_error(any *slot, uint32_t number, size_t position, const char *wanted, int line) {
     uint8_t buffer[300] = {0};
@@ -1200,6 +1239,8 @@ static void wrong_arguments(void) {
     WRONG(VLT_KIND, "path", vlt_path_resolve(&dtype.dtype, &dtype.path, &out.dtype));
     WRONG(VLT_KIND, "path", vlt_path_resolve(&dtype.dtype, &other.path, &out.dtype));
     WRONG(VLT_KIND, "paths", vlt_set_extend(&set.set, two, 2, &length));
+    WRONG(VLT_KIND, "path", vlt_with_type_at(&dtype.dtype, &dtype.path, &other.dtype, &out.dtype));
+    WRONG(VLT_KIND, "part", vlt_with_type_at(&dtype.dtype, &path.path, &path.dtype, &out.dtype));
     WRONG(VLT_KIND, "one", vlt_dtype_eq(&path.dtype, &dtype.dtype, &answer));
     WRONG(VLT_KIND, "other", vlt_dtype_eq(&dtype.dtype, &path.dtype, &answer));
     WRONG(VLT_SAME_SLOT, "out", vlt_dtype_list(&dtype.dtype, false, &dtype.dtype));
@@ -1264,6 +1305,7 @@ static void all(void) {
     masks();
     sets();
     set_relations();
+    edits();
     errors();
     passed_twice();
     messages();

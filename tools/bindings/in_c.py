@@ -19,7 +19,7 @@ PARTS = {"dtype": "Types", "struct": "Structs (of another type the calls return 
          "set": "Sets of paths", "paths": "Lists of paths", "project": "The parts of a type that paths lead to", "mask": "Masks",
          "message": "Messages of types", "error": "Errors"}
 # Words whose functions are in the part of another word.
-PART_OF = {"without": "project"}
+PART_OF = {"without": "project", "with": "project", "leaf": "project"}
 # The types of C for objects of one kind, by the words that find such an object in a slot; and what each contains.
 TYPES = {"type_in": ("dtype", "a type"), "path_in": ("path", "a path"), "set_in": ("path_set", "a set of paths"),
          "paths_in": ("path_list", "a list of paths"), "mask_in": ("mask", "a mask"),
@@ -65,23 +65,24 @@ def pairs_of(export):
     if sum(it.form == SLOTS for it in slots) > 1:
         give_up("bindings", f"{export.name}: two arrays of slots aren't one of the forms that these declarations know")
     pairs = [(one, other) for at, one in enumerate(slots) for other in slots[at + 1:]]
-    return [it for it in pairs if it != read_twice(export)]
+    return [it for it in pairs if it not in read_together(export)]
 
 
-def read_twice(export):
-    """The two slots that a call only reads, if there are two. They may be one slot, or have one object, unless nothing copies
-    objects of their kind."""
+def read_together(export):
+    """The pairs of slots that a call only reads. Two of them may be one slot, or have one object, unless nothing copies objects
+    of their kind."""
     read = [it for it in export.parameters if it.form == SLOT and it.role == READS]
-    if len(read) > 2:
-        give_up("bindings", f"{export.name}: three slots that are read aren't one of the forms that these declarations know")
-    may_be_one = len(read) == 2 and (read[0].kind != read[1].kind or copy_of(read[0]))
-    return tuple(read) if may_be_one else None
+    pairs = [(one, other) for at, one in enumerate(read) for other in read[at + 1:]]
+    return [it for it in pairs if it[0].kind != it[1].kind or copy_of(it[0])]
 
 
-def is_copied(export):
-    """Whether the layer copies an object that is passed twice. Otherwise one of the two has another kind than it should."""
-    read = read_twice(export)
-    return bool(read) and read[0].kind == read[1].kind
+def copied(export):
+    """The two slots of one kind that a call only reads, if there are two, or None. The layer copies an object that is passed as
+    both. Of two slots of different kinds that have one object, one has another kind than it should."""
+    pairs = [it for it in read_together(export) if it[0].kind == it[1].kind]
+    if len(pairs) > 1:
+        give_up("bindings", f"{export.name}: three slots of one kind that are read aren't one of the forms that these declarations know")
+    return pairs[0] if pairs else None
 
 
 def is_question(export):
@@ -119,7 +120,7 @@ def returned(export):
         return sorted(found)
     added = {8} if is_apart(export) else set()
     added |= {9} if any(it.form in (SLICE, SLOTS) for it in export.parameters) else set()
-    added |= {100} if is_copied(export) else set()
+    added |= {100} if copied(export) else set()
     return sorted((found & export.numbers) - ({1} if is_question(export) else set()) | added)
 
 
@@ -346,13 +347,18 @@ def given(it):
     return [f"{it.name} ? {cast if it.form == SLOTS else ''}{it.name} : {cast}no_items", f"{it.name}_len"]
 
 
+def if_any(tests):
+    """The lines that ask whether one of these tests of C is true."""
+    line = f"    if ({JOINED.join(tests)})"
+    return [line] if len(line) <= WIDTH else [
+        f"    if ({tests[0]}", *(f"        || {one}" for one in tests[1:-1]), f"        || {tests[-1]})"]
+
+
 def tested(it, tests, result="VLT_SAME_SLOT"):
     """The lines that return a result where one of these tests of C is true, by which this parameter is wrong."""
     if not tests:
         return
-    line = f"    if ({JOINED.join(tests)})"
-    yield from [line] if len(line) <= WIDTH else [
-        f"    if ({tests[0]}", *(f"        || {one}" for one in tests[1:-1]), f"        || {tests[-1]})"]
+    yield from if_any(tests)
     yield f'        return vlt_is_wrong("{it.name}", {result});'
 
 
@@ -408,8 +414,9 @@ def checks_of(export):
     for it in export.parameters:
         if it.form == SLOTS:
             yield from tested(it, [f"have_repeats({slots_at(it)}, {it.name}_len)"])
-    if (read := read_twice(export)) and not is_copied(export):
-        yield f"    if ({is_same(*read)})"
+    if apart := [it for it in read_together(export) if it[0].kind != it[1].kind]:
+        read = [it for it in export.parameters if any(it in pair for pair in apart)]
+        yield from if_any([is_same(*it) for it in apart])
         yield from filled("return with_argument(", ["VLT_KIND", *arguments(read), "NULL", "NULL"], ");", " " * 8)
 
 
@@ -424,8 +431,8 @@ def called(export):
     elif result == "vlt_result":
         opening = f"(vlt_result){opening}"
     indent = " " * 4
-    if is_copied(export):
-        one, other = read_twice(export)
+    if pair := copied(export):
+        one, other = pair
         yield from ["    vlt_slot copy = {0};", f"    const vlt_slot *apart = {slot_at(other)};",
                     f"    vlt_result result = copied_if_same({slot_at(one)}, &apart, {copy_of(one)}, &copy);",
                     "    if (result == VLT_DONE)"]

@@ -20,7 +20,9 @@ use pyo3::PyTypeInfo;
 use std::hash::{DefaultHasher, Hash, Hasher};
 use vortex_logical_types::time::{Date, Time, TimeUnit, Timestamp};
 use vortex_logical_types::{self as library, DecimalDType, ExtDTypeRef, ExtId, FieldName, Kind, MAX_LEVELS};
-use vortex_logical_types::{MergeConflict, Nullability, PType, StructFields, UnionVariants, VortexError, VortexResult};
+use vortex_logical_types::{
+    MergeConflict, Nullability, PType, RepeatedName, StructFields, UnionVariants, VortexError, VortexResult,
+};
 
 /// A logical type. `DType("{a=list(i32?)}")` reads a text in the form of the library's console, and `DType(dtype)`
 /// copies a type.
@@ -103,20 +105,38 @@ fn part(it: &PyAny, name: impl std::fmt::Display) -> Made<library::DType> {
 
 /// Returns the names and the types in a mapping, or in the pairs of an iterable.
 fn parts(it: &PyAny, name: &str) -> Made<Vec<(FieldName, library::DType)>> {
-    let pairs = match it.downcast::<PyMapping>() {
-        Ok(mapping) => mapping.items()?,
-        Err(_) => it,
-    };
     let mut parts = Vec::new();
-    for (at, pair) in items(pairs, name, "pairs")?.enumerate() {
-        let pair = pair?;
-        if !(PyTuple::is_type_of(pair) || PyList::is_type_of(pair)) || pair.len()? != 2 {
-            return Err(wrong(format_args!("{name}[{at}]"), "a pair of a str and a DType", pair).into());
-        }
+    for (at, pair) in pairs(it, name, "a pair of a str and a DType")?.into_iter().enumerate() {
         let field = FieldName::try_new(text(pair.get_item(0)?, format_args!("{name}[{at}][0]"))?)?;
         parts.push((field, part(pair.get_item(1)?, format_args!("{name}[{at}][1]"))?));
     }
     Ok(parts)
+}
+
+/// Returns the items of a mapping, or the pairs of an iterable.
+fn pairs<'p>(it: &'p PyAny, name: &str, wanted: &str) -> Made<Vec<&'p PyAny>> {
+    let given = match it.downcast::<PyMapping>() {
+        Ok(mapping) => mapping.items()?,
+        Err(_) => it,
+    };
+    let mut pairs = Vec::new();
+    for (at, pair) in items(given, name, "pairs")?.enumerate() {
+        let pair = pair?;
+        if !(PyTuple::is_type_of(pair) || PyList::is_type_of(pair)) || pair.len()? != 2 {
+            return Err(wrong(format_args!("{name}[{at}]"), wanted, pair).into());
+        }
+        pairs.push(pair);
+    }
+    Ok(pairs)
+}
+
+/// Returns the old and the new names in a mapping, or in the pairs of an iterable.
+fn renames(it: &PyAny, name: &str) -> Made<Vec<(FieldName, FieldName)>> {
+    let of_names = |pair: &PyAny, at: usize, side: usize| {
+        Ok::<_, Failure>(FieldName::try_new(text(pair.get_item(side)?, format_args!("{name}[{at}][{side}]"))?)?)
+    };
+    let one = |(at, pair)| Ok((of_names(pair, at, 0)?, of_names(pair, at, 1)?));
+    pairs(it, name, "a pair of two str")?.into_iter().enumerate().map(one).collect()
 }
 
 /// Returns the unit of an argument, and the nullability of another.
@@ -145,6 +165,11 @@ impl DType {
 
     fn struct_fields(&self) -> Made<&StructFields> {
         self.dtype.as_struct_fields_opt().ok_or_else(|| self.is_no("struct"))
+    }
+
+    /// Returns the struct of these fields, with the outer nullability of this type.
+    fn with_fields(&self, fields: StructFields) -> Made<Self> {
+        Ok(library::DType::Struct(fields, self.dtype.nullability()).into())
     }
 
     fn union_variants(&self) -> Made<&UnionVariants> {
@@ -742,6 +767,70 @@ impl DType {
         let index = position(index, "index")?;
         let fields = self.struct_fields()?.without_field(index)?;
         Ok(library::DType::Struct(fields, self.dtype.nullability()).into())
+    }
+
+    /// Returns the struct with one more field at the end. A field of this name that is there already stays, so the name may
+    /// repeat. It has the outer nullability of the original struct. Raises `LibraryError` (`PRECONDITION`) if the type isn't
+    /// a struct.
+    ///
+    /// >>> DType("{a=i8}?").push_field("b", "i16")
+    /// DType('{a=i8, b=i16}?')
+    #[pyo3(text_signature = "($self, name, dtype)")]
+    fn push_field(&self, name: &PyAny, dtype: &PyAny) -> Made<Self> {
+        let (name, dtype) = (FieldName::try_new(text(name, "name")?)?, part(dtype, "dtype")?);
+        self.with_fields(self.struct_fields()?.try_push_field(name, dtype)?)
+    }
+
+    /// Returns the struct with one more field at this index, which is counted from 0. The fields from that index on come
+    /// after it. If the index is the number of fields, the field is the last. A field of this name that is there already
+    /// stays, so the name may repeat. The struct has the outer nullability of the original struct. Raises
+    /// `IndexOutOfBounds` (17), which is an `IndexError` too, if the index is above the number of fields, with both numbers
+    /// in its text. Raises `IndexError` if the index is negative, and `LibraryError` (`PRECONDITION`) if the type isn't a
+    /// struct.
+    ///
+    /// >>> DType("{a=i8, b=i16}").with_field_at(1, "c", "utf8")
+    /// DType('{a=i8, c=utf8, b=i16}')
+    #[pyo3(text_signature = "($self, index, name, dtype)")]
+    fn with_field_at(&self, index: &PyAny, name: &PyAny, dtype: &PyAny) -> Made<Self> {
+        let index = position(index, "index")?;
+        let (name, dtype) = (FieldName::try_new(text(name, "name")?)?, part(dtype, "dtype")?);
+        self.with_fields(self.struct_fields()?.with_field_at(index, name, dtype)?)
+    }
+
+    /// Returns the struct with a field of this name and this type. If a field has the name, the type of the first such
+    /// field is replaced, and the field stays where it is. Otherwise the new field is added at the end. The struct has the
+    /// outer nullability of the original struct. Raises `LibraryError` (`PRECONDITION`) if the type isn't a struct.
+    ///
+    /// >>> DType("{a=i8, b=i16}").with_field("a", "utf8")
+    /// DType('{a=utf8, b=i16}')
+    #[pyo3(text_signature = "($self, name, dtype)")]
+    fn with_field(&self, name: &PyAny, dtype: &PyAny) -> Made<Self> {
+        let (name, dtype) = (FieldName::try_new(text(name, "name")?)?, part(dtype, "dtype")?);
+        self.with_fields(self.struct_fields()?.try_with_field(name, dtype)?)
+    }
+
+    /// Returns the struct with other names, with the same types in the same order. `names` is a mapping of old names to new
+    /// names, or pairs of them, of which the first with an old name counts. Each field whose name is an old name gets the
+    /// new one. All other fields keep their names, and an old name that no field has changes nothing. Names can be swapped.
+    /// The struct has the outer nullability of the original struct.
+    ///
+    /// >>> DType("{a=i8, b=i16}").with_fields_renamed({"a": "b", "b": "a"})
+    /// DType('{b=i8, a=i16}')
+    ///
+    /// Raises `LibraryError`: `DUPLICATE_NAMES` (18) if a name would occur twice, with the first name that repeats in its
+    /// text, and `PRECONDITION` if the type isn't a struct. With `allow_repeats=True` names may repeat.
+    #[args("*", allow_repeats = "LEFT_OUT")]
+    #[pyo3(text_signature = "($self, names, *, allow_repeats=False)")]
+    fn with_fields_renamed(&self, names: &PyAny, allow_repeats: Optional<'_>) -> Made<Self> {
+        let (renames, allow_repeats) = (renames(names, "names")?, flag(allow_repeats, "allow_repeats")?);
+        let fields = self.struct_fields()?;
+        if allow_repeats {
+            return self.with_fields(fields.try_with_fields_renamed_allowing_repeats(&renames)?);
+        }
+        match fields.try_with_fields_renamed(&renames)? {
+            Ok(fields) => self.with_fields(fields),
+            Err(name) => Err(Failure::Library(RepeatedName { name }.into())),
+        }
     }
 
     /// Returns the struct that has the fields of this struct followed by those of `other`. It has the outer nullability

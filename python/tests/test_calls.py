@@ -10,7 +10,7 @@ import unittest
 
 import vortex_logical_types
 from vortex_logical_types import (ELEMENT, Below, DType, ErrorKind, FieldMask, FieldPath, FieldPathSet, FlatMessage, Kind,
-                                  Message, Node, PType, TimeUnit, VortexError)
+                                  LibraryError, Message, Node, PType, TimeUnit, Unreadable, VortexError)
 
 
 class Calls(unittest.TestCase):
@@ -84,6 +84,32 @@ class Calls(unittest.TestCase):
         self.refused(ErrorKind.DUPLICATE_NAMES, whole.disjoint_merge, whole)
         self.refused(ErrorKind.PRECONDITION, DType("i8").field, "a")
         self.assertRaises(IndexError, whole.field_name, -1)
+
+    def test_changes_fields(self):
+        whole = DType("{a=i32, b=utf8?, a=f64}?")
+        self.assertEqual(whole.push_field("a", "i8"), DType("{a=i32, b=utf8?, a=f64, a=i8}?"))
+        self.assertEqual(whole.with_field("a", DType("i8")), DType("{a=i8, b=utf8?, a=f64}?"))
+        self.assertEqual(whole.with_field("c", "i8"), whole.push_field("c", "i8"))
+        self.assertEqual(whole.with_field_at(1, "c", "i8"), DType("{a=i32, c=i8, b=utf8?, a=f64}?"))
+        self.assertEqual(whole.with_field_at(3, "c", "i8"), whole.push_field("c", "i8"))
+        self.refused(ErrorKind.INDEX_OUT_OF_BOUNDS, whole.with_field_at, 4, "c", "i8")
+        self.refused(ErrorKind.PRECONDITION, DType("i8").push_field, "a", "i8")
+        self.assertRaises(IndexError, whole.with_field_at, -1, "c", "i8")
+        self.assertRaises(Unreadable, whole.push_field, "c", "i9")
+
+    def test_renames_fields(self):
+        whole = DType("{a=i32, b={a=utf8}}?")
+        self.assertEqual(whole.with_fields_renamed({"a": "b", "b": "a"}), DType("{b=i32, a={a=utf8}}?"))
+        self.assertEqual(whole.with_fields_renamed([("a", "x"), ("a", "y"), ("z", "b")]), DType("{x=i32, b={a=utf8}}?"))
+        self.assertEqual(whole.with_fields_renamed({}), whole)
+        self.refused(ErrorKind.DUPLICATE_NAMES, whole.with_fields_renamed, {"a": "b"})
+        with self.assertRaisesRegex(LibraryError, '^the name "b" would occur twice$'):
+            whole.with_fields_renamed({"a": "b"})
+        repeated = whole.with_fields_renamed({"a": "b"}, allow_repeats=True)
+        self.assertEqual(repeated, DType("{b=i32, b={a=utf8}}?"))
+        self.refused(ErrorKind.DUPLICATE_NAMES, repeated.with_fields_renamed, {"c": "d"})
+        for names in ({"a": 5}, [("a",)], "ab", 5):
+            self.assertRaisesRegex(TypeError, "^names", whole.with_fields_renamed, names)
 
     def test_compares(self):
         one, other = DType("{a=i32, b=utf8?}"), DType("{a=i32?, b=utf8}")

@@ -42,7 +42,8 @@ OF_TIMES = {"time_unit", "time_zone"}
 METHODS = {
     Kind.MAP: (("entries",),),
     Kind.STRUCT: (("field_name", 0), ("field_by_index", 0), ("find", "a"), ("field", "a"), ("project", ["a"]),
-                  ("without_field", 0), ("disjoint_merge", DType("{}")), ("indented",)),
+                  ("without_field", 0), ("push_field", "c", "i8"), ("with_field_at", 0, "c", "i8"), ("with_field", "a", "i8"),
+                  ("with_fields_renamed", {}), ("disjoint_merge", DType("{}")), ("indented",)),
     Kind.UNION: (("variant_name", 0), ("variant_by_index", 0), ("find_variant", "a"), ("variant_of", "a"),
                  ("child_index_to_tag", 0), ("tag_to_child_index", 5), ("tag_to_child_index", 256)),
 }

@@ -72,6 +72,8 @@ def of_paths() -> None:
     left: Optional[DType] = DType.struct({"a": "i8"}).without_paths(["a", path])
     replaced: Optional[DType] = DType.struct({"a": "i8"}).with_type_at(path, "u8")
     leaves: FieldPathSet = DType.struct({"a": "i8"}).leaf_paths()
+    wider: DType = DType.struct({"a": "i8"}).push_field("b", "i16").with_field("a", DType("i32")).with_field_at(0, "c", "u8")
+    renamed: DType = wider.with_fields_renamed({"a": "b"}, allow_repeats=True).with_fields_renamed([("c", "d")])
     parts: list[tuple[FieldPath, DType]] = DType.struct({"a": "i8"}).parts()
     paths: FieldPathSet = FieldPathSet(["a.b", path])
     members: MutableSet[FieldPath] = paths

@@ -97,7 +97,8 @@ class ErrorKind(Named):
         15  UNION_NAMES_REPEAT  two variants of a union have the same name
         16  FIELD_NOT_FOUND  a selected name isn't the name of a field
         17  INDEX_OUT_OF_BOUNDS  the index of a field isn't below the number of fields
-        18  DUPLICATE_NAMES  two structs can't be merged, because a name occurs in both of them, or twice in one of them
+        18  DUPLICATE_NAMES  two structs can't be merged, because a name occurs in both of them, or twice in one of them; or fields
+                             can't be renamed, because two of them would have the same name
         19  WIDTH_OVERFLOW  the width of a value in bytes is above 2**64 - 1
         20  EXACT_ROOT  a field mask that selects only the root can't be stepped into
         21  ALL_MASK  the field mask that selects all paths has no starting field

@@ -33,7 +33,7 @@ class VortexError(Exception):
         OutOfMemory       MemoryError              0       an allocation failed
         Unreadable        ValueError               None    a text can't be read: UNREADABLE, or TOO_DEEP, with `position`
         FieldNotFound     LibraryError, KeyError   16      `project` is passed a name that no field has
-        IndexOutOfBounds  LibraryError, IndexError 17      `without_field` is passed an index that no field has
+        IndexOutOfBounds  LibraryError, IndexError 17      `without_field` or `with_field_at` is passed an index that's too large
         LibraryError      ValueError               others  the library, or the interface to it, refuses the arguments
 
     An argument of the wrong type raises a `TypeError`. The docstring of `ErrorKind` lists the kinds.

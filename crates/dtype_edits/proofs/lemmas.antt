@@ -6,3 +6,4 @@ pub mod Replacing
 pub mod Leaving
 pub mod Leaves
 pub mod LeafProjection
+pub mod EditingFields

@@ -4,3 +4,4 @@
 pub mod Replaced
 pub mod Without
 pub mod Leaves
+pub mod EditedFields

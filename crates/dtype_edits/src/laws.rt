@@ -2,9 +2,11 @@
 // SPDX-FileCopyrightText: Copyright the Vortex contributors
 
 // Theorems about the definitions. Each function's contract is the theorem, and its body is empty.
-ghost use Rattle.std.specs.Prelude.{◌≡◌, ◌↔◌, ◌++◌, ℕ, false, true, IsTrue, List, None, Some, option_and_then};
+ghost use Rattle.std.specs.Prelude.{◌≡◌, ◌↔◌, ◌++◌, ℕ, false, true, IsSome, IsTrue, List, None, Some, map, option_and_then, slice_get};
 ghost use Rattle.std.specs.FinSet as set;
 ghost use Rattle.std.specs.List.{Contains};
+ghost use Rattle.dtype_base.specs.FieldNames.{FirstAt, IsAbsent};
+ghost use Rattle.dtype_types.specs.parts.Lookups.{field_names, field_types, first_named};
 ghost use Rattle.dtype_types.specs.tree.Tree.{Tree};
 ghost use Rattle.dtype_types.specs.tree.Valid.{Valid};
 ghost use Rattle.dtype_paths.specs.Along.{along};
@@ -15,6 +17,7 @@ ghost use Rattle.dtype_paths.specs.PathOrder.{set_of};
 ghost use Rattle.dtype_paths.specs.PathPredicates.{PathPredicate, after_steps, contains_above, no_path};
 ghost use Rattle.dtype_paths.specs.declared.field.Field.{Field};
 ghost use Rattle.dtype_projection.specs.Projected.{projected};
+ghost use Rattle.dtype_edits.specs.EditedFields.{new_name, renamed, with_named};
 ghost use Rattle.dtype_edits.specs.Leaves.{IsLeaf, NamesDiffer, leaves};
 ghost use Rattle.dtype_edits.specs.Replaced.{replaced};
 ghost use Rattle.dtype_edits.specs.Without.{elements, without};
@@ -153,4 +156,40 @@ pub fn paths_are_the_prefixes_of_leaves()
 /// About [`leaf_paths`].
 pub fn the_projection_to_the_leaves_is_the_type()
     ensures { (t : Tree) → NamesDiffer t → projected t (set.contains (set_of (leaves t))) ≡ Some t }
+{}
+
+/// For all fields `ps` of a struct, each name `m` and all types `u` and `v`, the following is true of `ps` with the field
+/// `m` of type `u`:
+/// - `names`: if a field is named `m`, the names of the fields are those of `ps`, in the same order.
+/// - `itself`: if `u` is the type of the first field named `m`, the fields are `ps`.
+/// - `again`: these fields with the field `m` of type `v` are `ps` with the field `m` of type `v`.
+///
+/// For example, `a=i32, b=utf8, a=u8` with the field `a` of type `i32` are the same fields. So nothing else changes, such as
+/// the order of the fields, or the second field named `a`.
+///
+/// About [`with_field`].
+#[tactic(auto, using(crate::proofs::lemmas::EditingFields::names_kept, crate::proofs::lemmas::EditingFields::named_itself, crate::proofs::lemmas::EditingFields::named_again))]
+pub fn a_field_gets_its_type_where_it_stands()
+    ensures names { (ps : List (List ℕ × Tree)) (m : List ℕ) (u : Tree) → IsSome (first_named ps m)
+        → field_names (with_named ps m u) ≡ field_names ps }
+    ensures itself { (ps : List (List ℕ × Tree)) (m : List ℕ) (u : Tree) → first_named ps m ≡ Some u → with_named ps m u ≡ ps }
+    ensures again { (ps : List (List ℕ × Tree)) (m : List ℕ) (u v : Tree) → with_named (with_named ps m u) m v ≡ with_named ps m v }
+{}
+
+/// For each table `rs` of old and new names, the following is true of renaming fields by it:
+/// - `types`: the types of the fields stay, in the same order.
+/// - `there`: if `n` is the old name of the pair `r` of the table, and of no pair before it, then `n` becomes the new name of
+///   `r`.
+/// - `others`: if `n` isn't an old name of the table, it stays.
+///
+/// For example, by the table with the pairs `a`, `b` and `b`, `a` the fields `a=i32, b=utf8` become `b=i32, a=utf8`, because
+/// each name is looked up once. With this law a caller can replace the recursion `new_name` by a lookup.
+///
+/// About [`with_fields_renamed`] and [`with_fields_renamed_allowing_repeats`].
+#[tactic(auto, using(crate::proofs::lemmas::EditingFields::renamed_types, crate::proofs::lemmas::EditingFields::name_there, crate::proofs::lemmas::EditingFields::kept_name))]
+pub fn only_names_in_the_table_change()
+    ensures types { (rs : List (List ℕ × List ℕ)) (ps : List (List ℕ × Tree)) → field_types (renamed rs ps) ≡ field_types ps }
+    ensures there { (rs : List (List ℕ × List ℕ)) (n : List ℕ) (i : ℕ) (r : List ℕ × List ℕ) → FirstAt (map (λ q. q.0) rs) n i
+        → slice_get rs i ≡ Some r → new_name rs n ≡ r.1 }
+    ensures others { (rs : List (List ℕ × List ℕ)) (n : List ℕ) → IsAbsent (map (λ q. q.0) rs) n → new_name rs n ≡ n }
 {}

@@ -1,8 +1,8 @@
 // SPDX-License-Identifier: Apache-2.0
 // SPDX-FileCopyrightText: Copyright the Vortex contributors
 
-//! Types made from other types by paths: a type with one part replaced, and a type without some of its parts. And the paths
-//! of a type: its leaves.
+//! Types made from other types by paths: a type with one part replaced, and a type without some of its parts. Structs made
+//! from other structs by names. And the paths of a type: its leaves.
 //!
 //! The following is proved of `with_type_at`:
 //! - It returns a type exactly if the path exists in the original type.
@@ -20,19 +20,28 @@
 //! exactly these paths, that none of them is a prefix of another, and that a path exists in the type exactly if it is a
 //! prefix of one of them.
 //!
+//! `push_field`, `with_field_at`, `with_field` and `with_fields_renamed` return the fields of a struct with one more field,
+//! with another type of a field, and with other names. Their contracts say which names and types the result has, in order.
+//!
 //! The definitions are in `specs/`:
 //! - `Replaced`: a type with the part at a path replaced, by recursion on the path.
 //! - `Without`: a type without the parts to which some paths lead, by recursion on the type.
 //! - `Leaves`: the leaves of a type, by recursion on the type (`leaves`), and when a path is one (`IsLeaf`).
+//! - `EditedFields`: fields with another type of a field, and fields that are renamed by a table.
 //!
 //! `proofs/lemmas` contains the lemmas that callers may cite. `laws` states the theorems about the definitions.
 #![tactic(auto)]
 
+mod fields;
 pub mod laws;
 mod leaves;
 mod replace;
 mod without;
 
+pub use fields::{
+    push_field, with_field, with_field_at, with_fields_renamed,
+    with_fields_renamed_allowing_repeats,
+};
 pub use leaves::leaf_paths;
 pub use replace::with_type_at;
 pub use without::without_paths;

@@ -93,7 +93,7 @@ fn replace(
 }
 
 // Returns the fields with the type of the field at this position replaced.
-fn with_dtype(
+pub(crate) fn with_dtype(
     alloc: Global,
     fields: &StructFields,
     position: usize,
@@ -125,7 +125,7 @@ fn replaced_types(
 }
 
 // Returns copies of the types of the fields, in order.
-fn copied_types(alloc: Global, fields: &StructFields) -> VortexResult<Vec<DType>>
+pub(crate) fn copied_types(alloc: Global, fields: &StructFields) -> VortexResult<Vec<DType>>
     ensures { Makes result (λ dtypes. map tree dtypes.items ≡ field_types (children fields.now)) }
 {
     let mut dtypes = Vec::with_capacity(alloc, fields.nfields())?;

@@ -72,6 +72,7 @@ pub use Rattle.dtype_types.specs.nullability.Merged
 pub use Rattle.dtype_edits.specs.Replaced
 pub use Rattle.dtype_edits.specs.Without
 pub use Rattle.dtype_edits.specs.Leaves
+pub use Rattle.dtype_edits.specs.EditedFields
 pub use Rattle.dtype_merging.specs.AllMerged
 pub use Rattle.dtype_merging.specs.Conflicts
 pub use Rattle.dtype_merging.specs.Filled

@@ -45,8 +45,8 @@ pub use dtype_types::{
 };
 #[doc(inline)]
 pub use habits::{
-    Below, BrokenLaw, Error, ErrorKind, MergeConflict, Parts, Resolvable, check_plugin, fallible,
-    time,
+    Below, BrokenLaw, Error, ErrorKind, MergeConflict, Parts, RepeatedName, Resolvable,
+    check_plugin, fallible, time,
 };
 #[doc(inline)]
 pub use vortex_dtype::{

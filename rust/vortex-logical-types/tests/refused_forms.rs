@@ -113,6 +113,12 @@ fn of_names() -> Vec<Tried> {
 fn of_types() -> Vec<Tried> {
     let type_of = || dtype("{a={b=i32, c=utf8?}}");
     let other = dtype("{a={b=i32?, c=utf8}}");
+    let more = || {
+        (
+            type_of().into_struct_fields(),
+            (FieldName::from("b"), wide()),
+        )
+    };
     let (whole, list) = (wide(), dtype("list(i32)"));
     vec![
         copied("DType::try_clone", &wide(), DType::try_clone),
@@ -162,6 +168,20 @@ fn of_types() -> Vec<Tried> {
         tried("try_leaf_paths", {
             let all = type_of();
             move || dtype_edits::try_leaf_paths(&all)
+        }),
+        given("try_push_field", more, |(fields, new)| {
+            dtype_edits::try_push_field(&fields, new.0, new.1)
+        }),
+        given("try_with_field", more, |(fields, new)| {
+            dtype_edits::try_with_field(&fields, new.0, new.1)
+        }),
+        tried("try_with_fields_renamed", {
+            let (fields, renames) = (type_of().into_struct_fields(), [("a".into(), "b".into())]);
+            move || dtype_edits::try_with_fields_renamed(&fields, &renames)
+        }),
+        tried("try_with_fields_renamed_allowing_repeats", {
+            let (fields, renames) = (type_of().into_struct_fields(), [("a".into(), "b".into())]);
+            move || dtype_edits::try_with_fields_renamed_allowing_repeats(&fields, &renames)
         }),
         tried("try_with_type_at", {
             let (all, path, new) = (type_of(), path(), other.clone());

@@ -5,6 +5,7 @@
 
 use super::prelude::*;
 use crate::argument::{Index, Tag, Tags};
+use vortex_logical_types::fallible::Vec as List;
 
 pub const STRUCTS: &[Row] = rows! {
     ["names", "S", r#"{a=i32, "b c"=utf8}"#, "the names of the fields"] (fields: StructFields => fields.names())
@@ -19,6 +20,11 @@ pub const STRUCTS: &[Row] = rows! {
     ["project", "NAMES S", "int_col,x {int_col=i32?}", "the struct of the fields with these names, in the order of the names", "FieldNotFound (16)"] (names: FieldNames, fields: StructFields => project(&fields, &names)?)
     ["without_field", "I S", "0 {a=i32, b=utf8}", "the struct without the field at this index", "IndexOutOfBounds (17)"] (index: Index, fields: StructFields => fields.without_field(index.0)?)
     ["disjoint_merge", "S S", "{a=i32} {b=utf8}", "the struct of the fields of both", "DuplicateNames (18)"] (fields: StructFields, other: StructFields => disjoint_merge(&fields, &other)?)
+    ["push_field", "NAME T S", "c u8 {a=i32, b=utf8}", "the struct with one more field at the end"] (name: FieldName, dtype: DType, fields: StructFields => fields.try_push_field(name, dtype)?)
+    ["with_field", "NAME T S", "a u8 {a=i32, b=utf8}", "the struct with the type of the first field of this name replaced, or with one more field at the end if there is none"] (name: FieldName, dtype: DType, fields: StructFields => fields.try_with_field(name, dtype)?)
+    ["with_field_at", "I NAME T S", "1 c u8 {a=i32, b=utf8}", "the struct with one more field at this index", "IndexOutOfBounds (17)"] (index: Index, name: FieldName, dtype: DType, fields: StructFields => fields.with_field_at(index.0, name, dtype)?)
+    ["with_fields_renamed", "NAMES NAMES S", "a,b b,a {a=i32, b=utf8}", "the struct whose fields have the second names in place of the first names", "DuplicateNames (18); condition: needs as many new names as old names"] (old: FieldNames, new: FieldNames, fields: StructFields => with_fields_renamed(&fields, old, new)?)
+    ["with_fields_renamed_allowing_repeats", "NAMES NAMES S", "a b {a=i32, b=utf8}", "the same, even if a name then occurs twice", "condition: needs as many new names as old names"] (old: FieldNames, new: FieldNames, fields: StructFields => fields.try_with_fields_renamed_allowing_repeats(&renames(old, new)?)?)
     ["fields_text", "S", "{a=i32}?", "the text that the library prints of the fields"] (fields: StructFields => Shown(&fields))
     ["indented", "S", "{a={b=i32}}", "the text of the fields on lines of their own, indented"] (fields: StructFields => Shown(&fields.try_indented()?))
     ["fields_copy", "S", "{a=i32}", "a copy of the fields"] (fields: StructFields => fields.try_clone()?)
@@ -70,6 +76,19 @@ fn disjoint_merge(fields: &StructFields, other: &StructFields) -> Result<StructF
         VortexError::DuplicateNames => Error::of_subject(error, first_repeated(fields, other).map(text_of)),
         other => other.into(),
     })
+}
+
+/// Returns the fields with the new names in place of the old names. The error that a name repeats ends with the name.
+fn with_fields_renamed(fields: &StructFields, old: FieldNames, new: FieldNames) -> Result<StructFields> {
+    fields
+        .try_with_fields_renamed(&renames(old, new)?)?
+        .map_err(|name| Error::of_subject(VortexError::DuplicateNames, Some(text_of(&name))))
+}
+
+/// Returns the pairs of an old name and a new name.
+fn renames(old: FieldNames, new: FieldNames) -> Result<List<(FieldName, FieldName)>> {
+    unless(old.len() == new.len(), "needs as many new names as old names")?;
+    Ok(old.into_iter().zip(new).collect_in()?)
 }
 
 /// Returns the first name, of the fields of both structs in order, that an earlier field has, too.

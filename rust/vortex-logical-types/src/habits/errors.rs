@@ -3,6 +3,7 @@
 
 //! Errors: one type for those of the library and those of texts, and their kinds.
 
+use super::RepeatedName;
 use crate::dtype_base::VortexError;
 use std::fmt;
 use thiserror::Error as ThisError;
@@ -27,6 +28,9 @@ pub enum Error {
     /// An error of the library. A text that is spelled like a type which isn't valid, such as `decimal(3,9)`, is one.
     #[error(transparent)]
     Vortex(#[from] VortexError),
+    /// Two fields of a struct would have the same name.
+    #[error(transparent)]
+    RepeatedName(#[from] RepeatedName),
     /// A text can't be read from this byte on. Positions are counted from 1. The position is one more than the length of
     /// the text if the text ends too early.
     #[error("unreadable at byte {position}: {message}")]
@@ -63,6 +67,7 @@ impl Error {
     pub fn kind(&self) -> ErrorKind {
         match self {
             Self::Vortex(error) => error.kind(),
+            Self::RepeatedName(_) => ErrorKind::DuplicateNames,
             Self::Unreadable { .. } => ErrorKind::Unreadable,
             Self::TooDeep { .. } => ErrorKind::TooDeep,
             Self::Arrow { .. } => ErrorKind::Arrow,
@@ -80,7 +85,7 @@ impl Error {
     #[must_use]
     pub fn position(&self) -> Option<usize> {
         match self {
-            Self::Vortex(_) | Self::Arrow { .. } => None,
+            Self::Vortex(_) | Self::RepeatedName(_) | Self::Arrow { .. } => None,
             Self::Unreadable { position, .. } => Some(*position),
             Self::TooDeep { position } => *position,
         }
@@ -156,7 +161,8 @@ kinds! {
     FieldNotFound,
     /// 17: the index of a field isn't below the number of fields.
     IndexOutOfBounds,
-    /// 18: two structs can't be merged, because a name occurs in both of them, or twice in one of them.
+    /// 18: two structs can't be merged, because a name occurs in both of them, or twice in one of them. Or fields can't be
+    /// renamed, because two of them would have the same name ([`Error::RepeatedName`]).
     DuplicateNames,
     /// 19: the width of a value in bytes is above `usize::MAX`.
     WidthOverflow,

@@ -8,6 +8,7 @@ mod dtype;
 mod errors;
 mod extensions;
 pub mod fallible;
+mod fields;
 mod masks;
 mod merging;
 mod messages;
@@ -25,6 +26,7 @@ mod threads;
 pub mod time;
 
 pub use errors::{Error, ErrorKind};
+pub use fields::RepeatedName;
 pub use merging::MergeConflict;
 pub use parts::Parts;
 pub use path_sets::Below;

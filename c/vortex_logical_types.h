@@ -42,10 +42,11 @@
  * vlt_error_text writes what a number means, and vlt_wrong_argument returns which argument was wrong.
  *
  * Errors with their data. A function whose last parameter is `error` first empties this slot, and then stores an error in it
- * if it returns VLT_UNREADABLE, VLT_ARROW, a VLT_ERROR_.., or VLT_DEEP for a text. The error tells more than the result,
- * for example the position in a text at which reading failed. So after a call the slot is empty, or contains why this call
- * failed. (If the call returns VLT_SAME_SLOT because `error` is another of its slots, nothing is changed.) The pointer may
- * be null if the error isn't wanted. If no memory is left for the error, the function returns VLT_LIBRARY.
+ * if it returns VLT_UNREADABLE, VLT_ARROW, a VLT_ERROR_.., or VLT_DEEP for a text or for a schema of Arrow. The error tells
+ * more than the result, for example the position in a text at which reading failed. So after a call the slot is empty, or
+ * contains why this call failed. (If the call returns VLT_SAME_SLOT because `error` is another of its slots, nothing is
+ * changed.) The pointer may be null if the error isn't wanted. If no memory is left for the error, the function returns
+ * VLT_LIBRARY.
  *
  * Texts and bytes that are passed in. A call takes a pointer and a length, and copies the bytes. They may contain zero
  * bytes. The pointer may be null if the length is 0. Several names are passed as two arrays: `names` contains the bytes
@@ -1353,8 +1354,8 @@ VLT_MUST_USE vlt_result vlt_error_text(uint32_t code, uint8_t *buffer, size_t bu
 
 /* Writes the number of the library's error to `number`. It is from 0 to 36, and 100 less than the result of the call
  * that stored the error. For example, it is 9 if the key type of a map is nullable. Returns VLT_NONE if the error is
- * that a text can't be read or is nested too deeply, or that a type isn't one of Arrow's or the reverse, which are no
- * errors of the library, and VLT_KIND if the slot contains no error.
+ * that a text can't be read, that a type is nested too deeply, or that a type isn't one of Arrow's or the reverse,
+ * which are no errors of the library, and VLT_KIND if the slot contains no error.
  *
  * Results: VLT_DONE, VLT_NONE or VLT_KIND. */
 VLT_MUST_USE vlt_result vlt_error_number(const vlt_error *error, uint32_t *number);
@@ -1369,8 +1370,8 @@ VLT_MUST_USE vlt_result vlt_error_position(const vlt_error *error, size_t *posit
 /* Writes the message of the error to `buffer`. For an error of the library it is the library's own text, for example
  * `index 9 out of bounds for struct with 2 fields`. If a text can't be read, it states what was expected at the
  * position of the error, for example `expected a type, not "int32"; nearest: i32`. For a schema of Arrow it names the
- * field, for example `column "a": the Arrow format "tdX" has no type here`. Returns VLT_KIND if the slot contains no
- * error.
+ * field, for example `column "a": the Arrow format "tdX" has no type here`, and if the library refuses the type of the
+ * field, the library's own text follows. Returns VLT_KIND if the slot contains no error.
  *
  * Results: VLT_DONE, VLT_KIND, VLT_SMALL, VLT_RANGE or VLT_LIBRARY. */
 VLT_MUST_USE vlt_result vlt_error_message(const vlt_error *error, uint8_t *buffer, size_t buffer_len, size_t *length);
@@ -1431,11 +1432,11 @@ struct ArrowArray {
  * these are there.
  *
  * Returns VLT_ARROW if the field isn't one, if it has no type here, or if its type can't be one of this library for a reason
- * that has no number of its own. Then `error` has a message that begins with the path of the field and names the format, for
- * example `column "a.item": the Arrow format "tdX" has no type here`. Returns VLT_DEEP if the type has more than 128
- * levels, VLT_ERROR_PRECISION_ZERO to VLT_ERROR_SCALE_ABOVE_PRECISION for a decimal that the library refuses,
- * VLT_ERROR_MAP_KEY_NULLABLE for a map whose key is nullable, and one of the VLT_ERROR_UNION_.. below for a union that the
- * library refuses. Returns VLT_RANGE if `schema` is null.
+ * that has no number of its own. Returns VLT_DEEP if the type has more than 128 levels, VLT_ERROR_PRECISION_ZERO to
+ * VLT_ERROR_SCALE_ABOVE_PRECISION for a decimal that the library refuses, VLT_ERROR_MAP_KEY_NULLABLE for a map whose key is
+ * nullable, and one of the VLT_ERROR_UNION_.. below for a union that the library refuses. In all these cases `error` has a
+ * message that begins with the path of the field, for example `column "a.item": the Arrow format "tdX" has no type here`, or
+ * `column "m": map key dtype must be non-nullable`. Returns VLT_RANGE if `schema` is null.
  *
  * Results: VLT_DONE, VLT_DEEP, VLT_SAME_SLOT, VLT_RANGE, VLT_ARROW, VLT_LIBRARY, VLT_ERROR_PRECISION_ZERO,
  * VLT_ERROR_PRECISION_TOO_LARGE, VLT_ERROR_SCALE_TOO_LARGE, VLT_ERROR_SCALE_ABOVE_PRECISION,
@@ -1450,11 +1451,11 @@ VLT_MUST_USE vlt_result vlt_dtype_from_arrow(const struct ArrowSchema *schema, v
  * Each struct in the field owns its own strings, so a child may be moved out and released after its parent.
  * `vlt_dtype_from_arrow` makes the same type of it.
  *
- * Returns VLT_ARROW if a part of the type can't be written: `variant`, an extension whose storage type is another extension (unless
- * that one is a date, a time or a timestamp), a union with a tag above 127, a fixed-size list longer than 2^31 - 1, metadata
- * that is longer, and a name, an id or a time zone with a zero byte. Then `error` has a message that begins with the path of
- * the part. Returns VLT_KIND if the slot has no type, and VLT_RANGE if `out` is
- * null.
+ * Returns VLT_ARROW if a part of the type can't be written: `variant`, an extension whose storage type is another extension
+ * (unless that one is a date, a time, a timestamp, a duration or an interval), a union with a tag above 127, a fixed-size list
+ * longer than 2^31 - 1, metadata that is longer, and a name, an id or a time zone with a zero byte. Returns VLT_DEEP if the type
+ * has more than 128 levels. In both cases `error` has a message that begins with the path of the part. Returns VLT_KIND if the
+ * slot has no type, and VLT_RANGE if `out` is null.
  *
  * Results: VLT_DONE, VLT_KIND, VLT_DEEP, VLT_SAME_SLOT, VLT_RANGE, VLT_ARROW or VLT_LIBRARY. */
 VLT_MUST_USE vlt_result vlt_dtype_to_arrow(const vlt_dtype *dtype, struct ArrowSchema *out, vlt_error *error);

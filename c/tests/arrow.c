@@ -102,6 +102,7 @@ static void is_refused(struct ArrowSchema *schema, vlt_result wanted, const char
 }
 #define REFUSED(one, other, ...) is_refused(__VA_ARGS__, VLT_ARROW, one, other, __LINE__)
 #define FAILS(wanted, ...) is_refused(__VA_ARGS__, wanted, "", "", __LINE__)
+#define FAILS_WITH(wanted, message, ...) is_refused(__VA_ARGS__, wanted, message, "", __LINE__)
 
 #define LEAF(format, flags) field_of(format, "", flags, 0)
 #define NAMED(name, format) field_of(format, name, 0, 0)
@@ -268,6 +269,29 @@ static void refused_unions(void) {
     FAILS(VLT_ERROR_UNION_NAMES_REPEAT, WITH("+ud:3,4", 0, NAMED("a", "i"), NAMED("a", "u")));
 }
 
+/* The error of the library says in which column it is, and has its number. */
+static void errors_of_columns(void) {
+    struct ArrowSchema *schema = WITH("+s", 0, NAMED("a", "i"), NAMED("odd", "d:2,4"));
+    vlt_dtype dtype = VLT_EMPTY;
+    vlt_error error = VLT_EMPTY;
+    uint32_t number = 0;
+    size_t position = 7;
+    vlt_result result;
+    CALLED(result, vlt_dtype_from_arrow(schema, &dtype, &error));
+    HOLDS(result == VLT_ERROR_SCALE_ABOVE_PRECISION);
+    HOLDS(strcmp(message_of(&error), "column \"odd\": decimal scale 4 is greater than precision 2") == 0);
+    HOLDS(vlt_error_number(&error, &number) == VLT_DONE && number == 4);
+    HOLDS(vlt_error_position(&error, &position) == VLT_NONE && position == 7);
+    vlt_error_free(&error);
+    CALLED(result, vlt_dtype_from_arrow(schema, &dtype, NULL));
+    HOLDS(result == VLT_ERROR_SCALE_ABOVE_PRECISION);
+    drop(schema);
+    FAILS_WITH(VLT_ERROR_PRECISION_ZERO, "column \"l.e\": decimal precision", WITH("+s", 0, field_with("+l", "l", 0, NAMED("e", "d:0,0"), NULL)));
+    FAILS_WITH(VLT_ERROR_UNION_NAMES_REPEAT, "column \"u\": ", WITH("+s", 0, field_with("+us:0,1", "u", 0, NAMED("a", "i"), NAMED("a", "u"), NULL)));
+    /* The root has no name. */
+    FAILS_WITH(VLT_ERROR_PRECISION_ZERO, "decimal precision", LEAF("d:0,0", 0));
+}
+
 static void refused_texts(void) {
     struct ArrowSchema *schema = WITH("+s", 0, NAMED("a", "i"), NAMED("b\xff", "i"));
     static const char wrong[][16] = {"\xff\xff\xff\xff", "\1\0\0\0\xfe\xff\xff\xff", "\1\0\0\0\1\0\0\0k\0\0\0\x80"};
@@ -333,7 +357,8 @@ static void levels(void) {
     HOLDS(vlt_dtype_from_arrow(&made, &dtype, NULL) == VLT_DONE);
     made.release(&made);
     vlt_dtype_free(&dtype);
-    FAILS(VLT_DEEP, lists(129, LEAF("i", 0)));
+    FAILS_WITH(VLT_DEEP, "column \".", lists(129, LEAF("i", 0)));
+    FAILS_WITH(VLT_DEEP, ".\": nested more than 128 levels deep", lists(129, LEAF("i", 0)));
     FAILS(VLT_DEEP, lists(128, LEAF("w:3", 0)));
     FAILS(VLT_DEEP, lists(128, LEAF("tdD", 0)));
     FAILS(VLT_DEEP, lists(299, LEAF("i", 0)));
@@ -512,6 +537,7 @@ static void all(void) {
     refused_formats();
     refused_children();
     refused_unions();
+    errors_of_columns();
     refused_texts();
     refused_structs();
     written();
@@ -829,7 +855,7 @@ static void is_read_or_refused(const struct ArrowSchema *schema) {
     vlt_result result = vlt_dtype_from_arrow(schema, &dtype, &error);
     HOLDS(is_expected(result));
     HOLDS((result == VLT_DONE) == (dtype.slot.at != NULL));
-    HOLDS((result == VLT_DONE || result == VLT_DEEP) == (error.slot.at == NULL));
+    HOLDS((result == VLT_DONE) == (error.slot.at == NULL));
     if (result == VLT_DONE) {
         result = vlt_dtype_to_arrow(&dtype, &made, &error);
         HOLDS(result == VLT_DONE || result == VLT_ARROW);

@@ -1162,7 +1162,8 @@ impl DType {
     ///   with the path of the field and has its format. It is also raised if the schema or the stream was released, or if
     ///   the stream has no schema.
     /// - `TOO_DEEP` if the type has more than 128 levels
-    /// - the error of `decimal`, `map_` or `union` if they refuse the parts of a field, such as a decimal with 77 digits
+    /// - the error of `decimal`, `map_` or `union` if they refuse the parts of a field, such as a decimal with 77 digits.
+    ///   The text of these two errors begins with the path of the field, too.
     #[staticmethod]
     #[pyo3(text_signature = "(source)")]
     fn from_arrow(source: &PyAny) -> Made<Self> {

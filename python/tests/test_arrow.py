@@ -160,6 +160,18 @@ class Arrow(unittest.TestCase):
                 DType(text).__arrow_c_schema__()
             self.assertIs(caught.exception.kind, ErrorKind.ARROW)
 
+    def test_errors_of_the_library_name_the_column(self):
+        wrong = exported(DType("{a=list({b=decimal(2,1)})}"))
+        child = wrong.children[0].contents.children[0].contents.children[0].contents
+        text = ctypes.create_string_buffer(b"d:2,4")
+        ctypes.c_void_p.from_buffer(child).value = ctypes.addressof(text)
+        with self.assertRaises(LibraryError) as caught:
+            DType.from_arrow_address(ctypes.addressof(wrong))
+        self.assertIs(caught.exception.kind, ErrorKind.SCALE_ABOVE_PRECISION)
+        self.assertEqual(caught.exception.number, 4)
+        self.assertEqual(str(caught.exception), 'column "a.item.b": decimal scale 4 is greater than precision 2')
+        release(wrong)
+
     def test_capsules(self):
         """Capsules that nobody reads, one that is moved out, and one over a part that was moved out."""
         for _ in range(100):

@@ -32,9 +32,10 @@ use Rattle.dtype_types.specs.tree.Tree.{Tree, fields, variants}
 use Rattle.dtype_types.specs.tree.TreeOf.{tree, children, variant_list}
 use Rattle.dtype_text.specs.TypeParts.{a_decimal}
 use Rattle.dtype_text.specs.Unions.{differ, is_empty}
-use Rattle.c_arrow.specs.Faults.{Fault, library, IsMemory, Stops}
+use Rattle.c_arrow.specs.Faults.{Fault, IsLibrary, IsMemory, Stops, library, library_in, names_in}
 use Rattle.c_arrow.specs.Read.{decimal_of, map_of, union_of}
 use Rattle.c_arrow.specs.declared.fault.ArrowFault.{ArrowFault}
+use Rattle.c_arrow.specs.declared.fault.ArrowFault.TheVariants.{Library}
 use Rattle.c_arrow.proofs.Leaves.{both}
 use Rattle.c_arrow.proofs.Reading.{children_of}
 
@@ -47,9 +48,14 @@ stops_library v e read is h = elim h [
   | inl m ↦ subst (λ (g : ArrowFault). Stops g read) (sym (subst (λ (w : VortexError). IsMemory w e) m is)) tt
   | inr no_ ↦ other v is no_
 ] where
+  -- the fault of the field itself
+  its_own : (v : VortexError) (e : ArrowFault) → IsLibrary v e → read ≡ Err (library v) → Stops e read
+  its_own v (Library c w) is h = h ∙ ap (λ (ns : List (List ℕ)). Err (library_in ns v)) (sym is.0) ∙ ap (λ (x : VortexError). Err (library_in (names_in c) x)) (sym is.1)
+  its_own v _ is h = absurd is
+
   other : (v : VortexError) → IsMemory v e → read ≡ Err (library v) → Stops e read
   other error.OutOfMemory is h = subst (λ (g : ArrowFault). Stops g read) (sym is) tt
-  other _ is h = subst (λ (g : ArrowFault). Stops g read) (sym is) h
+  other v is h = its_own v e is h
 
 -- ---- decimals
 

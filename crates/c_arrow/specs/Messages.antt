@@ -1,11 +1,12 @@
 -- SPDX-License-Identifier: Apache-2.0
 -- SPDX-FileCopyrightText: Copyright the Vortex contributors
 
--- The message of a refusal.
-use Rattle.std.specs.Prelude.{ℕ, List, [], ◌∷◌, ◌++◌, Bool, true, false, nat_lt, if◌then◌else◌, length, map, take, codes}
+-- The messages of faults.
+use Rattle.std.specs.Prelude.{ℕ, List, [], ◌∷◌, ◌++◌, Bool, true, false, nat_lt, if◌then◌else◌, length, take, codes}
 use Rattle.std.specs.Fmt.{decimal}
 use Rattle.std.specs.Str.Lossy.{utf8_lossy}
 use Rattle.dtype_base.specs.Escapes.{escaped}
+use Rattle.c_arrow.specs.Faults.{names_in}
 use Rattle.c_arrow.specs.declared.fault.Problem.{Problem}
 use Rattle.c_arrow.specs.declared.fault.Problem.TheVariants as p
 use Rattle.c_arrow.specs.declared.fault.Refusal.{Refusal}
@@ -71,8 +72,9 @@ abbrev pub column : List (List ℕ) → List ℕ
 column [] = []
 column (n ∷ ns) = codes "column \"" ++ (outer ns ++ (shown_text n ++ codes "\": "))
 
-abbrev pub names_of : Refusal → List (List ℕ)
-names_of r = map (λ n. n.items) r.names.items
+-- The message that says a text about the field with these names. For example, it is `column "a": nested more than 128 levels deep`.
+abbrev pub message_about : List (List ℕ) → List ℕ → List ℕ
+message_about names text = column names ++ text
 
 abbrev pub problem_of : Refusal → Problem
 problem_of r = r.problem
@@ -97,4 +99,4 @@ message_from names format problem =
 
 -- the message of a refusal
 abbrev pub message_of : Refusal → List ℕ
-message_of r = message_from (names_of r) r.format.items r.problem
+message_of r = message_from (names_in r.column) r.format.items r.problem

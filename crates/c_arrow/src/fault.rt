@@ -5,9 +5,9 @@
 ghost use Rattle.std.specs.Prelude.{◌≡◌, ◌∷◌, [], ◌++◌, IfOk, Some, false, map, string_bytes, true};
 ghost use Rattle.std.specs.Str.Lossy.{utf8_lossy};
 ghost use Rattle.dtype_base.specs.Escapes.{escaped};
-ghost use Rattle.c_arrow.specs.Faults.{IsFault, IsMemory, IsWithin, problem_of_number, refused as refused_spec};
-ghost use Rattle.c_arrow.specs.Messages.{before, behind, column, front as front_spec, is_about_format, length_told, message_of, outer, phrase, problem_of, shown_text};
-ghost use Rattle.c_arrow.specs.declared.fault.ArrowFault.TheVariants.{OutOfMemory, Library, Refused};
+ghost use Rattle.c_arrow.specs.Faults.{IsFault, IsMemory, IsWithin, names_in, problem_of_number, refusal_of, refused as refused_spec, within};
+ghost use Rattle.c_arrow.specs.Messages.{before, behind, column, front as front_spec, is_about_format, length_told, message_about, message_of, outer, phrase, problem_of, shown_text};
+ghost use Rattle.c_arrow.specs.declared.fault.ArrowFault.TheVariants.{OutOfMemory};
 
 use dtype_base::{FieldName, VortexError};
 use std::alloc::{AllocError, AllocFailed, Global};
@@ -24,19 +24,25 @@ pub enum ArrowFault {
     OutOfMemory,
     /// The nodes and texts are no flat form of a schema: nodes or bytes end too early, or some are left.
     OutOfRange,
-    /// A type is nested in more than 128 others.
-    TooDeep,
-    /// The library refuses a type that the schema describes, for example a map whose key type is nullable.
-    Library(VortexError),
+    /// The type of this field is nested in more than 128 others, or a part of it is.
+    TooDeep(Column),
+    /// The library refuses the type of this field, for example a map whose key type is nullable.
+    Library(Column, VortexError),
     /// A field has no type here, or a type has no Arrow type.
     Refused(Refusal),
+}
+
+/// Which field a fault is about. For example, it is the field `item` in the field `a`, which is in the root.
+#[derive(Debug, Drop)]
+pub struct Column {
+    // The names of the fields from this one outwards, without that of the root, or `None` for the root.
+    pub(crate) names: Option<Vec<Vec<u8>>>,
 }
 
 /// Which field was refused, and why.
 #[derive(Debug, Drop)]
 pub struct Refusal {
-    // The names of the fields from this one outwards, without that of the root.
-    pub(crate) names: Vec<Vec<u8>>,
+    pub(crate) column: Column,
     // The format of the field, or no bytes if there is none.
     pub(crate) format: Vec<u8>,
     pub(crate) problem: Problem,
@@ -149,7 +155,7 @@ impl ArrowFault {
     {
         match Vec::from_slice(alloc, format) {
             Ok(format) => ArrowFault::Refused(Refusal {
-                names: Vec::new(alloc),
+                column: Column { names: None },
                 format,
                 problem,
             }),
@@ -162,25 +168,73 @@ impl ArrowFault {
         ensures { IsWithin name.now self result }
     {
         match self {
-            ArrowFault::Refused(mut refusal) => match pushed(alloc, &mut refusal.names, name) {
-                Ok(()) => ArrowFault::Refused(refusal),
+            ArrowFault::OutOfMemory => ArrowFault::OutOfMemory,
+            ArrowFault::OutOfRange => ArrowFault::OutOfRange,
+            ArrowFault::TooDeep(column) => match column.within(alloc, name) {
+                Ok(column) => ArrowFault::TooDeep(column),
                 Err(_) => ArrowFault::OutOfMemory,
             },
-            fault => fault,
+            ArrowFault::Library(column, error) => match column.within(alloc, name) {
+                Ok(column) => ArrowFault::Library(column, error),
+                Err(_) => ArrowFault::OutOfMemory,
+            },
+            ArrowFault::Refused(refusal) => match refusal.within(alloc, name) {
+                Ok(refusal) => ArrowFault::Refused(refusal),
+                Err(_) => ArrowFault::OutOfMemory,
+            },
         }
     }
 }
 
-// Adds a name.
-fn pushed(alloc: Global, names: &mut Vec<Vec<u8>>, name: &[u8]) -> Result<(), AllocError>
-    ensures { IfOk result (λ _. map (λ n. n.items) names.new.items ≡ map (λ n. n.items) names.old.items ++ name.now ∷ []) }
-{
-    let name = Vec::from_slice(alloc, name)?;
-    names.push(name)?;
-    Ok(())
+impl Column {
+    // Returns the same field, as the parent of the outermost field with a name sees it, whose name is this.
+    fn within(self, alloc: Global, name: &[u8]) -> Result<Column, AllocError>
+        ensures { IfOk result (λ c. names_in c ≡ names_in self ++ name.now ∷ []) }
+    {
+        let mut names = match self.names {
+            Some(names) => names,
+            None => Vec::new(alloc),
+        };
+        names.push(Vec::from_slice(alloc, name)?)?;
+        Ok(Column { names: Some(names) })
+    }
+
+    /// Returns the message that says `text` about the field. It names the path of the field unless that is the root. For
+    /// example, it is `column "a.item": map key dtype must be non-nullable`.
+    ///
+    /// # Errors
+    ///
+    /// `AllocError` if an allocation fails.
+    pub fn message(&self, alloc: Global, text: &str) -> Result<String, AllocError>
+        ensures { IfOk result (λ s. string_bytes s ≡ message_about (names_in self.now) text.now) }
+    {
+        let mut out = String::new(alloc);
+        self.push(alloc, &mut out)?;
+        out.push_str(text)?;
+        Ok(out)
+    }
+
+    // Appends the path of the field, if it isn't the root.
+    fn push(&self, alloc: Global, out: &mut String) -> Result<(), AllocError>
+        ensures { IfOk result (λ _. string_bytes out.new ≡ string_bytes out.old ++ column (names_in self.now)) }
+    {
+        match &self.names {
+            Some(names) => push_column(alloc, out, names)?,
+            None => {}
+        }
+        Ok(())
+    }
 }
 
 impl Refusal {
+    // Returns the same refusal of a field with this name, as its parent sees it.
+    fn within(self, alloc: Global, name: &[u8]) -> Result<Refusal, AllocError>
+        ensures { IfOk result (λ r. refusal_of r ≡ within (name.now) (refusal_of self)) }
+    {
+        let column = self.column.within(alloc, name)?;
+        Ok(Refusal { column, ..self })
+    }
+
     /// Returns what is wrong.
     pub fn problem(&self) -> Problem
         ensures { result ≡ problem_of self.now }
@@ -199,7 +253,7 @@ impl Refusal {
         ensures { IfOk result (λ s. string_bytes s ≡ message_of self.now) }
     {
         let mut out = String::new(alloc);
-        push_column(alloc, &mut out, &self.names)?;
+        self.column.push(alloc, &mut out)?;
         self.push_before(alloc, &mut out)?;
         out.push_str(self.problem.phrase())?;
         self.push_behind(alloc, &mut out)?;
@@ -364,7 +418,7 @@ impl From<VortexError> for ArrowFault {
     fn from(error: VortexError) -> ArrowFault {
         match error {
             VortexError::OutOfMemory => ArrowFault::OutOfMemory,
-            error => ArrowFault::Library(error),
+            error => ArrowFault::Library(Column { names: None }, error),
         }
     }
 }

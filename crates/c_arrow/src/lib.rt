@@ -9,7 +9,8 @@
 //!
 //! What is proved:
 //! - `dtype_of` returns what `specs/Read` says: a type, or the first fault that is met when the nodes are read in order, with
-//!   the names of the fields from the refused field outwards and its format. Only a failed allocation may come first.
+//!   the names of the fields from the one that it is about outwards, and with the format of a refused field. Only a failed
+//!   allocation may come first.
 //! - What is read of the nodes and texts of a schema is what `from_arrow` makes of the schema as plain data
 //!   (`specs/FromArrow`), a row for each format ([`laws`]).
 //! - The type that `dtype_of` returns is valid and has at most 128 levels, whatever the nodes and the texts are.
@@ -21,7 +22,8 @@
 //! - `nodes_of` returns exactly the nodes and the texts of the schema that `specs/Write` defines, or exactly the fault that
 //!   it defines, with the path of the part that has no Arrow type. Only a failed allocation may come first.
 //! - The schema that is written of a type is read as this type ([`laws`]).
-//! - The message of a refusal is exactly that of `specs/Messages`.
+//! - The message of a refusal is exactly that of `specs/Messages`, and so is what the message of another fault says of the field
+//!   that it is about.
 //! - Both functions return for all nodes, texts and types, without an overflow or an index out of range. At most 300 fields
 //!   are read inside one another.
 //!
@@ -29,7 +31,7 @@
 //! types and the messages that are expected of them.
 #![tactic(auto)]
 
-pub use fault::{ArrowFault, Problem, Refusal};
+pub use fault::{ArrowFault, Column, Problem, Refusal};
 pub use node::ArrowNode;
 pub use reader::dtype_of;
 pub use writer::nodes_of;

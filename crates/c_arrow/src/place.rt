@@ -7,7 +7,7 @@ ghost use Rattle.dtype_base.specs.Nullability.{nullability_of};
 ghost use Rattle.c_arrow.specs.Faults.{Gives};
 ghost use Rattle.c_arrow.specs.Read.{level};
 
-use crate::fault::ArrowFault;
+use crate::fault::{ArrowFault, Column};
 use dtype_base::Nullability;
 
 /// Where a field is: whether its type is nullable, how many levels the type may have, and how many fields may be inside this
@@ -31,7 +31,7 @@ impl Place {
                 levels,
                 fields: self.fields,
             }),
-            None => Err(ArrowFault::TooDeep),
+            None => Err(ArrowFault::TooDeep(Column { names: None })),
         }
     }
 
@@ -42,7 +42,7 @@ impl Place {
     {
         match self.levels.checked_sub(1) {
             Some(levels) => Ok(Place { levels, ..self }),
-            None => Err(ArrowFault::TooDeep),
+            None => Err(ArrowFault::TooDeep(Column { names: None })),
         }
     }
 

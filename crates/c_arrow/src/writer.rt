@@ -12,7 +12,7 @@ ghost use Rattle.c_arrow.specs.Views.{map_tree, outer_of, written};
 ghost use Rattle.c_arrow.specs.Write as write;
 ghost use Rattle.c_arrow.specs.Write.{nodes_and_texts};
 
-use crate::fault::{ArrowFault, Problem};
+use crate::fault::{ArrowFault, Column, Problem};
 use crate::formats_written::{
     bytes_format, check_nul, decimal_format, fixed_size_format, letter_of, union_format,
 };
@@ -198,7 +198,7 @@ impl Flat {
     {
         let format = bytes_format(alloc, size)?;
         if levels == 0 {
-            return Err(ArrowFault::TooDeep);
+            return Err(ArrowFault::TooDeep(Column { names: None }));
         }
         self.leaf(label, format.as_bytes(), n)
     }
@@ -216,7 +216,7 @@ impl Flat {
         ensures { WritesField result self.old self.new (write.child_of levels name.now (tree dtype.now)) }
     {
         if levels == 0 {
-            return Err(ArrowFault::TooDeep);
+            return Err(ArrowFault::TooDeep(Column { names: None }));
         }
         match self.named(alloc, name, dtype, levels - 1) {
             Ok(()) => Ok(()),
@@ -271,7 +271,7 @@ impl Flat {
         ensures { WritesField result self.old self.new (write.inner_extension levels (label_of label.entry) (shown written temporal.entry)) }
     {
         match temporal {
-            Some(_) if levels == 0 => Err(ArrowFault::TooDeep),
+            Some(_) if levels == 0 => Err(ArrowFault::TooDeep(Column { names: None })),
             Some(temporal) => self.temporal(alloc, label, &temporal, levels - 1),
             None => Err(ArrowFault::refused(alloc, &[], Problem::Extension)),
         }
@@ -291,7 +291,7 @@ impl Flat {
         ensures { WritesField result self.old self.new (outer_of levels name.now (shown written temporal.entry) extension.now) }
     {
         if levels == 0 {
-            return Err(ArrowFault::TooDeep);
+            return Err(ArrowFault::TooDeep(Column { names: None }));
         }
         match temporal {
             Some(temporal) => { self.temporal(alloc, Label::called(name), &temporal, levels - 1) }
@@ -435,7 +435,7 @@ fn level_if(is_taken: bool, levels: u32) -> Result<u32, ArrowFault>
     }
     match levels.checked_sub(1) {
         Some(levels) => Ok(levels),
-        None => Err(ArrowFault::TooDeep),
+        None => Err(ArrowFault::TooDeep(Column { names: None })),
     }
 }
 

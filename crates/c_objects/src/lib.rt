@@ -21,7 +21,7 @@
 //! object, is tested and not proved, because a body that forgets the object would meet every contract.
 #![tactic(auto)]
 
-pub use failure::Failure;
+pub use failure::{ArrowReason, Failure};
 pub use object::Object;
 pub use slot::Slot;
 

@@ -39,15 +39,15 @@ type_reason text (Refused e) hint read fault (Library g) h =
     (subst (λ (v : VortexError). HasRefused v text) (sym h) fault, λ t spelled. subst (λ (v : VortexError). (Valid t → ⊥) × Refuses t v) (sym h) (read t spelled))
 type_reason text (Refused e) hint read fault (Text at message) h = absurd h
 type_reason text (Refused e) hint read fault (Deep at) h = absurd h
-type_reason text (Refused e) hint read fault (Arrow message) h = absurd h
+type_reason text (Refused e) hint read fault (Arrow reason message) h = absurd h
 type_reason text (TooDeep position) hint read fault (Deep at) h = (subst (λ (k : ℕ). IsDeepAt k text) (sym h) fault, read)
 type_reason text (TooDeep position) hint read fault (Library g) h = absurd h
 type_reason text (TooDeep position) hint read fault (Text at message) h = absurd h
-type_reason text (TooDeep position) hint read fault (Arrow message) h = absurd h
+type_reason text (TooDeep position) hint read fault (Arrow reason message) h = absurd h
 type_reason text (Misread position expected found) hint read fault (Text at message) h = (subst (λ (k : ℕ). IsPositionIn text k) (sym h.0) fault, read)
 type_reason text (Misread position expected found) hint read fault (Library g) h = absurd h
 type_reason text (Misread position expected found) hint read fault (Deep at) h = absurd h
-type_reason text (Misread position expected found) hint read fault (Arrow message) h = absurd h
+type_reason text (Misread position expected found) hint read fault (Arrow reason message) h = absurd h
 
 -- a text that isn't read as a type
 pub type_unread : {E : Type 0} (text : List ℕ) (why : TextError) (hint : Result (Option TextHint) E) (code : ℕ) (old new was is : Option Object)
@@ -79,7 +79,7 @@ path_reason text (Misread position expected found) (Some hint) error only placed
 )
 path_reason text (Misread position expected found) hint error only placed there ends (Library g) h = absurd h
 path_reason text (Misread position expected found) hint error only placed there ends (Deep at) h = absurd h
-path_reason text (Misread position expected found) hint error only placed there ends (Arrow message) h = absurd h
+path_reason text (Misread position expected found) hint error only placed there ends (Arrow reason message) h = absurd h
 
 -- a text that isn't read as a path
 pub path_unread : {E : Type 0} (text : List ℕ) (why : TextError) (hint : Result (Option TextHint) E) (code : ℕ) (old new was is : Option Object)

@@ -3,10 +3,18 @@
 
 -- What can be read from an error object, and the texts of the results of exports.
 use Rattle.std.specs.Prelude.{◌-◌, ◌==◌, if◌then◌else◌, ⊤, ℕ, List, Option, Some, None, codes, nat_le, string_bytes}
+use Rattle.c_objects.specs.declared.failure.ArrowReason.{ArrowReason}
+use Rattle.c_objects.specs.declared.failure.ArrowReason.TheVariants as arrow
 use Rattle.c_objects.specs.declared.failure.Failure.{Failure}
 use Rattle.c_objects.specs.declared.failure.Failure.TheVariants.{Library, Text, Deep, Arrow}
 use Rattle.dtype_base.specs.Errors.{number_of}
 use Rattle.vortex_logical_types.specs.Vocabulary.{Outcome, gives, gives_some}
+
+-- the number of the error with which the library refuses the type of a field of Arrow
+abbrev pub reason_number : ArrowReason → Option ℕ
+reason_number arrow.Refused = None
+reason_number arrow.TooDeep = None
+reason_number (arrow.Library e) = Some (number_of e)
 
 -- The number of the library's error, from 0 to 36. For example, `failure_number (Library MapKeyNullable)` is `Some 9`, and
 -- `failure_number (Deep 7)` is `None`.
@@ -14,21 +22,21 @@ abbrev pub failure_number : Failure → Option ℕ
 failure_number (Library e) = Some (number_of e)
 failure_number (Text at message) = None
 failure_number (Deep at) = None
-failure_number (Arrow message) = None
+failure_number (Arrow reason message) = reason_number reason
 
 -- The position in a text, from 1. For example, `failure_position (Deep 7)` is `Some 7`.
 abbrev pub failure_position : Failure → Option ℕ
 failure_position (Library e) = None
 failure_position (Text at message) = Some at
 failure_position (Deep at) = Some at
-failure_position (Arrow message) = None
+failure_position (Arrow reason message) = None
 
 -- The message. That of an error of the library is what its `Display` prints, which isn't specified.
 abbrev pub message_of : Failure → Outcome (List ℕ)
 message_of (Library e) = gives_some (λ text. ⊤)
 message_of (Text at message) = gives (string_bytes message)
 message_of (Deep at) = gives (codes "expected at most 128 levels")
-message_of (Arrow message) = gives (string_bytes message)
+message_of (Arrow reason message) = gives (string_bytes message)
 
 -- what a result below 100 means, in a few words
 abbrev pub wording : ℕ → Option (List ℕ)

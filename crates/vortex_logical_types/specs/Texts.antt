@@ -27,7 +27,7 @@ abbrev pub IsUnreadType : List ℕ → Failure → Type 0
 IsUnreadType text (Text at message) = IsPositionIn text at × ((t : Tree) → IsSpelled t text → ⊥)
 IsUnreadType text (Library e) = HasRefused e text × ((t : Tree) → IsSpelled t text → (Valid t → ⊥) × Refuses t e)
 IsUnreadType text (Deep at) = IsDeepAt at text × ((t : Tree) → IsSpelled t text → 128 < levels t)
-IsUnreadType text (Arrow message) = ⊥
+IsUnreadType text (Arrow reason message) = ⊥
 
 -- The type for which a text stands, or why there is none. For example, of `i32?` it is the nullable primitive type i32.
 abbrev pub reads_type : List ℕ → Outcome Tree
@@ -40,7 +40,7 @@ IsUnreadPath text (Text at message) =
     IsPositionIn text at × ((p : List Field) → StandsForPath p text → ⊥) × EndsWith (path_help (slice_get text (at - 1))) (string_bytes message)
 IsUnreadPath text (Library e) = ⊥
 IsUnreadPath text (Deep at) = ⊥
-IsUnreadPath text (Arrow message) = ⊥
+IsUnreadPath text (Arrow reason message) = ⊥
 
 -- The path for which a text stands, or why there is none. For example, of `.` it is the root.
 abbrev pub reads_path : List ℕ → Outcome (List Field)

@@ -8,6 +8,8 @@
 -- returns 2 if the slot `dtype` contains no type, 1 if the type is no list, and otherwise 0, and then the slot `out`
 -- contains the element type; unless it returns 0, `out` is unchanged.
 use Rattle.std.specs.Prelude.{◌≡◌, ◌≢◌, ◌⊎◌, ◌+◌, ◌++◌, ◌<◌, ◌≤◌, ℕ, List, IsUtf8, drop, length, Option, Some, None, Result, Ok, Err}
+use Rattle.c_objects.specs.declared.failure.ArrowReason.{ArrowReason}
+use Rattle.c_objects.specs.declared.failure.ArrowReason.TheVariants as arrow
 use Rattle.c_objects.specs.declared.failure.Failure.{Failure}
 use Rattle.c_objects.specs.declared.failure.Failure.TheVariants.{Library, Text, Deep, Arrow}
 use Rattle.c_objects.specs.declared.object.Object.{Object}
@@ -30,7 +32,7 @@ abbrev pub IsError : (VortexError → Type 0) → Failure → Type 0
 IsError P (Library e) = P e
 IsError P (Text at message) = ⊥
 IsError P (Deep at) = ⊥
-IsError P (Arrow message) = ⊥
+IsError P (Arrow reason message) = ⊥
 
 -- An error of the library is stored, of which P is true. For example, `fails (SelectionError names asked)` is `FieldNotFound`
 -- with the position of the first of the names `asked` that isn't one of `names`.
@@ -126,13 +128,21 @@ OfThe (Some x) P = P x
 -- and after the call; and `was` and `is` are what the slot `error` contains before and after it. A word without `error` is
 -- of an export that never fails for a reason.
 
+-- the number that is returned for a reason for which a schema of Arrow has no type here, or a type no schema
+abbrev pub reason_code : ArrowReason → ℕ
+reason_code arrow.Refused = 10
+reason_code arrow.TooDeep = 6
+reason_code (arrow.Library e) = 100 + number_of e
+
 -- The number that is returned for a reason: 100 more than the number of the library's error, 4 if a text can't be read, 6 if
--- it is nested too deeply, and 10 for a schema of Arrow that has no type here or a type that has no schema. For example, `failure_code (Library MapKeyNullable)` is 109.
+-- it is nested too deeply, and for a schema of Arrow that has no type here, or a type that has no schema, the number of the reason:
+-- 10, or 6 if a type is nested too deeply, or that of the library's error. For example, `failure_code (Library MapKeyNullable)` is
+-- 109.
 abbrev pub failure_code : Failure → ℕ
 failure_code (Library e) = 100 + number_of e
 failure_code (Text at message) = 4
 failure_code (Deep at) = 6
-failure_code (Arrow message) = 10
+failure_code (Arrow reason message) = reason_code reason
 
 -- a reason of which P is true is in the slot `error`, and its number is returned
 abbrev pub Failed : (Failure → Type 0) → ℕ → Option Object → Type 0

@@ -6,12 +6,12 @@ ghost use Rattle.std.specs.Prelude.{◌≡◌};
 ghost use Rattle.c_objects.specs.declared.failure.Failure.TheVariants.{Library};
 ghost use Rattle.vortex_logical_types.specs.Failures.{failure_number, failure_position, message_of};
 ghost use Rattle.vortex_logical_types.specs.Slots.{error_in};
-ghost use Rattle.vortex_logical_types.specs.Vocabulary.{Fills, Stores, Writes, found, gives, on, unless_memory};
+ghost use Rattle.vortex_logical_types.specs.Vocabulary.{Fills, Stores, Writes, found, gives, on, reason_code, unless_memory};
 
 use crate::buffers::write_bytes;
 use crate::errors::{ARROW, KIND, LIBRARY, NONE, OK, TOO_DEEP, UNREADABLE};
 use crate::views::as_error;
-use c_objects::{Failure, Object, Slot};
+use c_objects::{ArrowReason, Failure, Object, Slot};
 use dtype_base::VortexError;
 use std::alloc::Global;
 
@@ -25,7 +25,7 @@ pub fn fail(alloc: Global, error: &mut Slot, failure: Failure) -> u32
         Failure::Library(why) => LIBRARY + u32::from(why.number()),
         Failure::Text { .. } => UNREADABLE,
         Failure::Deep { .. } => TOO_DEEP,
-        Failure::Arrow { .. } => ARROW,
+        Failure::Arrow { reason, .. } => code_of(reason),
     };
     match Box::new(alloc, Object::Error(failure)) {
         Ok(object) => {
@@ -33,6 +33,17 @@ pub fn fail(alloc: Global, error: &mut Slot, failure: Failure) -> u32
             code
         }
         Err(_) => LIBRARY,
+    }
+}
+
+// Returns the number of a reason for which a schema of Arrow has no type here, or a type no schema.
+fn code_of(reason: &ArrowReason) -> u32
+    ensures { result ≡ reason_code reason.now }
+{
+    match reason {
+        ArrowReason::Refused => ARROW,
+        ArrowReason::TooDeep => TOO_DEEP,
+        ArrowReason::Library(why) => LIBRARY + u32::from(why.number()),
     }
 }
 
@@ -45,8 +56,8 @@ pub fn fail_with(alloc: Global, error: &mut Slot, why: VortexError) -> u32
 
 /// Writes the number of the library's error to `number`. It is from 0 to 36, and 100 less than the result of the call
 /// that stored the error. For example, it is 9 if the key type of a map is nullable. Returns 1 if the error is that a
-/// text can't be read or is nested too deeply, or that a type isn't one of Arrow's or the reverse, which are no errors
-/// of the library, and 2 if the slot contains no error.
+/// text can't be read, that a type is nested too deeply, or that a type isn't one of Arrow's or the reverse, which are
+/// no errors of the library, and 2 if the slot contains no error.
 #[unsafe(no_mangle)]
 pub extern "C" fn vlt_core_error_number(error: &mut Slot, number: &mut u32) -> u32
     ensures writes { Writes (on (error_in error.old.value) (λ e. found (failure_number e) gives)) result number.old number.new }
@@ -56,7 +67,11 @@ pub extern "C" fn vlt_core_error_number(error: &mut Slot, number: &mut u32) -> u
         return KIND;
     };
     match failure {
-        Failure::Library(why) => {
+        Failure::Library(why)
+        | Failure::Arrow {
+            reason: ArrowReason::Library(why),
+            ..
+        } => {
             *number = u32::from(why.number());
             OK
         }
@@ -87,7 +102,8 @@ pub extern "C" fn vlt_core_error_position(error: &mut Slot, position: &mut usize
 /// Writes the message of the error to `buffer`. For an error of the library it is the library's own text, for example
 /// `index 9 out of bounds for struct with 2 fields`. If a text can't be read, it states what was expected at the
 /// position of the error, for example `expected a type, not "int32"; nearest: i32`. For a schema of Arrow it names the
-/// field, for example `column "a": the Arrow format "tdX" has no type here`. Returns 2 if the slot contains no error.
+/// field, for example `column "a": the Arrow format "tdX" has no type here`, and if the library refuses the type of the
+/// field, the library's own text follows. Returns 2 if the slot contains no error.
 #[unsafe(no_mangle)]
 pub extern "C" fn vlt_core_error_message(
     alloc: Global,
@@ -104,7 +120,7 @@ pub extern "C" fn vlt_core_error_message(
         return KIND;
     };
     match failure {
-        Failure::Text { message, .. } | Failure::Arrow { message } => {
+        Failure::Text { message, .. } | Failure::Arrow { message, .. } => {
             write_bytes(message.as_bytes(), buffer, length)
         }
         Failure::Deep { .. } => write_bytes(b"expected at most 128 levels", buffer, length),

@@ -4,7 +4,7 @@
 //! Objects that a program in C refers to by a pointer. In Rattle a slot contains a pointer, and here a box, which has the
 //! same representation.
 
-pub use failure::Failure;
+pub use failure::{ArrowReason, Failure};
 pub use object::Object;
 
 mod failure {

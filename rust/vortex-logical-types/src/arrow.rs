@@ -56,10 +56,10 @@
 //!
 //! What a format means is proved. The walk through the structs of C, which is in this file, is tested.
 
-use crate::c_arrow::{ArrowFault, ArrowNode, dtype_of, nodes_of};
+use crate::c_arrow::{ArrowFault, ArrowNode, Column, dtype_of, nodes_of};
 use crate::dtype_types::DType;
 use crate::rattle_std::alloc::AllocError;
-use crate::rattle_std::boxed;
+use crate::rattle_std::{boxed, string};
 use crate::{Error, VortexError, fallible};
 use std::ffi::{CStr, c_char, c_void};
 use std::{fmt, ptr, slice};
@@ -419,20 +419,36 @@ fn filled(node: &ArrowNode, mut owned: Box<Owned>) -> ArrowSchema {
 
 // Returns the error of a fault.
 fn error_of(fault: ArrowFault) -> Error {
+    told(fault).unwrap_or_else(|AllocError| VortexError::OutOfMemory.into())
+}
+
+// Returns the same, or fails if there is no memory for it.
+fn told(fault: ArrowFault) -> Result<Error, AllocError> {
     match fault {
-        ArrowFault::OutOfMemory => VortexError::OutOfMemory.into(),
+        ArrowFault::OutOfMemory => Err(AllocError),
         ArrowFault::OutOfRange => {
             unreachable!("a walk stores each field that is counted, and nothing else")
         }
-        ArrowFault::TooDeep => Error::TooDeep { position: None },
-        ArrowFault::Library(error) => error.into(),
-        ArrowFault::Refused(refusal) => match refusal.message() {
-            Ok(message) => Error::Arrow {
-                message: message.into(),
-            },
-            Err(_) => VortexError::OutOfMemory.into(),
-        },
+        ArrowFault::TooDeep(column) => {
+            let text = "nested more than 128 levels deep";
+            told_of(&column, text, Error::TooDeep { position: None })
+        }
+        ArrowFault::Library(column, error) => {
+            let text = string::format(format_args!("{error}"))?;
+            told_of(&column, &text, error.into())
+        }
+        ArrowFault::Refused(refusal) => Ok(Error::Arrow {
+            message: refusal.message()?.into(),
+        }),
     }
+}
+
+// Returns the error about the type of a field, which has this text.
+fn told_of(column: &Column, text: &str, error: Error) -> Result<Error, AllocError> {
+    Ok(Error::ArrowField {
+        message: column.message(text)?.into(),
+        error: boxed::new(error)?,
+    })
 }
 
 impl DType {
@@ -445,9 +461,10 @@ impl DType {
     /// - `Arrow`: the struct was released, or isn't a field, or a field in it has no type here. The text of the error begins
     ///   with the path of the field and has its format, for example
     ///   `column "a.item": the Arrow format "tdX" has no type here`.
-    /// - `TooDeep`: the type has more than 128 levels.
-    /// - The errors 1 to 4 of `DecimalDType::try_new`, `MapKeyNullable` (9), and the errors 11, 12, 13 and 15 of
-    ///   `UnionVariants::try_new`.
+    /// - `ArrowField`: the type of a field has more than 128 levels, so the kind of the error is `TooDeep`, or the library
+    ///   refuses it. Then the kind is one of those with the numbers 1 to 4 (`DecimalDType::try_new`), `MapKeyNullable` (9),
+    ///   or one of those with the numbers 11, 12, 13 and 15 (`UnionVariants::try_new`). The text of the error begins with
+    ///   the path of the field, for example `column "m": map key dtype must be non-nullable`.
     /// - `OutOfMemory` (0): an allocation fails.
     pub fn from_arrow(schema: &ArrowSchema) -> Result<Self, Error> {
         let out_of_memory = |_| Error::from(VortexError::OutOfMemory);
@@ -468,7 +485,7 @@ impl DType {
     ///
     /// - `Arrow`: a part of the type can't be written. The text of the error begins with the path of the part. The module
     ///   [`arrow`](crate::arrow) lists which types can't be written.
-    /// - `TooDeep`: the type has more than 128 levels.
+    /// - `ArrowField`, whose kind is `TooDeep`: the type has more than 128 levels.
     /// - `OutOfMemory` (0): an allocation fails.
     pub fn to_arrow(&self) -> Result<ArrowSchema, Error> {
         let (nodes, texts) = nodes_of(self).map_err(error_of)?;

@@ -12,7 +12,7 @@ use std::thread;
 use vortex_logical_types::Nullability::{NonNullable, Nullable};
 use vortex_logical_types::arrow::ArrowSchema;
 use vortex_logical_types::time::{TimeUnit, Timestamp};
-use vortex_logical_types::{DType, Error, ErrorKind};
+use vortex_logical_types::{DType, Error, ErrorKind, VortexError};
 
 fn dtype(text: &str) -> DType {
     text.parse()
@@ -187,11 +187,52 @@ fn errors_name_the_part() {
             "x".repeat(64)
         )
     );
-    let deep = (0..130).fold(dtype("i8"), |element, _| DType::list(element, NonNullable));
+}
+
+/// The errors of the library, and those of types that are too deep, name the column, and keep their kind and number.
+#[test]
+fn errors_of_the_library_name_the_column() {
+    let mut odd = Foreign {
+        name: c"odd".as_ptr(),
+        ..foreign(c"d:2,4")
+    };
+    let mut good = Foreign {
+        name: c"good".as_ptr(),
+        ..foreign(c"i")
+    };
+    let mut children = [&raw mut good, &raw mut odd];
+    let exported = Foreign {
+        n_children: 2,
+        children: children.as_mut_ptr(),
+        ..foreign(c"+s")
+    };
+    // (It isn't moved out, so that its children stay in their places.)
+    let schema = unsafe { &*(&raw const exported).cast::<ArrowSchema>() };
+    let error = DType::from_arrow(schema).unwrap_err();
+    let text = "column \"odd\": decimal scale 4 is greater than precision 2";
     assert_eq!(
-        deep.to_arrow().unwrap_err().to_string(),
-        "nested more than 128 levels deep"
+        (error.to_string().as_str(), error.number(), error.position()),
+        (text, Some(4), None)
     );
+    assert_eq!(error.kind(), ErrorKind::ScaleAbovePrecision);
+    let Error::ArrowField { error, .. } = error else {
+        panic!("{error:?}");
+    };
+    assert!(matches!(
+        *error,
+        Error::Vortex(VortexError::ScaleAbovePrecision { .. })
+    ));
+
+    let deep = (0..130).fold(dtype("i8"), |element, _| DType::list(element, NonNullable));
+    let error = DType::struct_([("a", deep)], NonNullable)
+        .to_arrow()
+        .unwrap_err();
+    assert_eq!((error.kind(), error.number()), (ErrorKind::TooDeep, None));
+    let text = format!(
+        "column \"a{}\": nested more than 128 levels deep",
+        ".item".repeat(127)
+    );
+    assert_eq!(error.to_string(), text);
 }
 
 /// Each fault of a struct that the walk finds, before anything behind it is read.

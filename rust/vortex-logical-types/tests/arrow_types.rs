@@ -148,8 +148,11 @@ fn shown((nodes, texts): &Flat) -> String {
         Err(ArrowFault::Refused(refusal)) => {
             format!("?{}", refusal.message().expect("there is memory"))
         }
-        Err(ArrowFault::Library(error)) => format!("library: {error}"),
-        Err(ArrowFault::TooDeep) => "too deep".to_owned(),
+        Err(ArrowFault::Library(column, error)) => {
+            let message = column.message(&error.to_string());
+            format!("library: {}", message.expect("there is memory"))
+        }
+        Err(ArrowFault::TooDeep(_)) => "too deep".to_owned(),
         Err(ArrowFault::OutOfRange) => "out of range".to_owned(),
         Err(ArrowFault::OutOfMemory) => "out of memory".to_owned(),
     }

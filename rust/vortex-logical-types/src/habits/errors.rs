@@ -52,6 +52,14 @@ pub enum Error {
         /// Which field or type it is, and why.
         message: String,
     },
+    /// The library refuses the type of an Arrow field, or the type is nested too deeply.
+    #[error("{message}")]
+    ArrowField {
+        /// Which field it is, and the text of the error. For example, it is `column "m": map key dtype must be non-nullable`.
+        message: String,
+        /// The error: `Vortex` or `TooDeep`. It decides on the kind and the number of this error.
+        error: Box<Error>,
+    },
 }
 
 fn too_deep(position: Option<usize>) -> String {
@@ -71,10 +79,11 @@ impl Error {
             Self::Unreadable { .. } => ErrorKind::Unreadable,
             Self::TooDeep { .. } => ErrorKind::TooDeep,
             Self::Arrow { .. } => ErrorKind::Arrow,
+            Self::ArrowField { error, .. } => error.kind(),
         }
     }
 
-    /// Returns the number of the error, from 0 to 36, or `None` for an error of a text or of Arrow.
+    /// Returns the number of the error, from 0 to 36, or `None` for an error that isn't one of the library.
     #[must_use]
     pub fn number(&self) -> Option<u8> {
         self.kind().number()
@@ -85,7 +94,10 @@ impl Error {
     #[must_use]
     pub fn position(&self) -> Option<usize> {
         match self {
-            Self::Vortex(_) | Self::RepeatedName(_) | Self::Arrow { .. } => None,
+            Self::Vortex(_)
+            | Self::RepeatedName(_)
+            | Self::Arrow { .. }
+            | Self::ArrowField { .. } => None,
             Self::Unreadable { position, .. } => Some(*position),
             Self::TooDeep { position } => *position,
         }

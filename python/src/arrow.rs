@@ -14,8 +14,8 @@ use pyo3::prelude::*;
 use pyo3::types::{PyCapsule, PyTuple};
 use std::ffi::{c_char, c_int, c_void, CStr};
 use std::ptr;
-use vortex_logical_types::arrow::ArrowSchema;
-use vortex_logical_types::DType;
+use vortex_logical_types::arrow::{ArrowSchema, FieldMetadata};
+use vortex_logical_types::{DType, Error};
 
 const SCHEMA: &CStr = c"arrow_schema";
 const STREAM: &CStr = c"arrow_array_stream";
@@ -32,6 +32,16 @@ struct ArrowArrayStream {
 
 /// Returns the type of what an object exports, or of a capsule.
 pub fn dtype_of(source: &PyAny) -> Made<DType> {
+    read(source, DType::from_arrow)
+}
+
+/// Returns the same, and the metadata of the fields.
+pub fn dtype_and_metadata_of(source: &PyAny) -> Made<(DType, Vec<FieldMetadata>)> {
+    read(source, DType::from_arrow_with_metadata)
+}
+
+/// Returns what a call reads of the schema that an object exports, or of a capsule.
+fn read<T>(source: &PyAny, call: impl Fn(&ArrowSchema) -> Result<T, Error>) -> Made<T> {
     for (method, name) in
         [("__arrow_c_schema__", SCHEMA), ("__arrow_c_array__", SCHEMA), ("__arrow_c_stream__", STREAM)]
     {
@@ -40,12 +50,12 @@ pub fn dtype_of(source: &PyAny) -> Made<DType> {
             let wanted = || format!("a capsule named {}", name.to_string_lossy());
             let pointer = pointer_in(capsule, name)?;
             let pointer = pointer.ok_or_else(|| wrong(format_args!("source.{method}()"), &wanted(), capsule))?;
-            return dtype_behind(source.py(), pointer, name);
+            return read_behind(source.py(), pointer, name, call);
         }
     }
     for name in [SCHEMA, STREAM] {
         if let Some(pointer) = pointer_in(schema_in(source), name)? {
-            return dtype_behind(source.py(), pointer, name);
+            return read_behind(source.py(), pointer, name, call);
         }
     }
     let wanted = "an object with __arrow_c_schema__, __arrow_c_array__ or __arrow_c_stream__, or a capsule of one";
@@ -68,12 +78,17 @@ fn pointer_in(it: &PyAny, name: &CStr) -> PyResult<Option<*mut c_void>> {
     }
 }
 
-/// Returns the type of the schema, or of that of the stream, in a capsule. The capsule keeps what is in it.
-fn dtype_behind(py: Python<'_>, pointer: *mut c_void, name: &CStr) -> Made<DType> {
+/// Returns what a call reads of the schema, or of that of the stream, in a capsule. The capsule keeps what is in it.
+fn read_behind<T>(
+    py: Python<'_>,
+    pointer: *mut c_void,
+    name: &CStr,
+    call: impl Fn(&ArrowSchema) -> Result<T, Error>,
+) -> Made<T> {
     match name == SCHEMA {
         // SAFETY: a capsule with this name has the pointer.
-        true => Ok(DType::from_arrow(unsafe { &*pointer.cast() })?),
-        false => Ok(DType::from_arrow(&schema_of(py, pointer.cast())?)?),
+        true => Ok(call(unsafe { &*pointer.cast() })?),
+        false => Ok(call(&schema_of(py, pointer.cast())?)?),
     }
 }
 
@@ -113,7 +128,7 @@ fn schema_of(py: Python<'_>, stream: *mut ArrowArrayStream) -> Made<ArrowSchema>
     }
 }
 
-/// Returns a capsule with the schema of a type, which is released with the capsule unless it was moved out.
-pub fn capsule_of<'p>(py: Python<'p>, dtype: &DType) -> Made<&'p PyAny> {
-    Ok(PyCapsule::new(py, dtype.to_arrow()?, Some(SCHEMA.into()))?)
+/// Returns a capsule with a schema, which is released with the capsule unless it was moved out.
+pub fn capsule_of(py: Python<'_>, schema: ArrowSchema) -> Made<&PyAny> {
+    Ok(PyCapsule::new(py, schema, Some(SCHEMA.into()))?)
 }

@@ -6,6 +6,7 @@ use crate::arguments::{
     LEFT_OUT,
 };
 use crate::arrow;
+use crate::arrow_field::{self, ArrowField};
 use crate::errors::{Failure, Made};
 use crate::field_path::FieldPath;
 use crate::field_path_set::FieldPathSet;
@@ -1170,6 +1171,27 @@ impl DType {
         Ok(arrow::dtype_of(source)?.into())
     }
 
+    /// Returns the type that `from_arrow` returns, and the metadata of the schema and of its fields: a list with a path, a
+    /// key and a value for each key, in the order of the fields. A type itself has no metadata.
+    ///
+    /// A path is a tuple of the names that lead to a field, and is empty for the schema itself. The names are those with
+    /// which a type is written: in a list the element is `item`, and in a map the key is `key` in `entries`, and the value
+    /// `value`. The two keys that make an extension type of a field aren't in the list, because they are in the type.
+    ///
+    /// >>> schema = DType("{id=u64, city=utf8?}").to_arrow([(["city"], b"PARQUET:field_id", b"2")])
+    /// >>> DType.from_arrow_with_metadata(schema)
+    /// (DType('{id=u64, city=utf8?}'), [(('city',), b'PARQUET:field_id', b'2')])
+    ///
+    /// Metadata of what is no field of the type isn't read: that of the values of a dictionary or of a run-end encoded
+    /// type, that of run ends, and that of a field of a struct in which an earlier field has the same name. Raises the
+    /// errors of `from_arrow`, and `LibraryError` (`ARROW`) if the list would take more than 2**31 bytes of memory.
+    #[staticmethod]
+    #[pyo3(text_signature = "(source)")]
+    fn from_arrow_with_metadata<'p>(py: Python<'p>, source: &PyAny) -> Made<(Self, &'p PyList)> {
+        let (dtype, metadata) = arrow::dtype_and_metadata_of(source)?;
+        Ok((dtype.into(), arrow_field::list_of(py, &metadata)))
+    }
+
     /// Returns the type of the `struct ArrowSchema` at this address, for libraries that export it by its address: GDAL
     /// through `ctypes`, and pyarrow by `_export_to_c`. Who made the struct releases it afterwards. Raises the errors of
     /// `from_arrow`, and `LibraryError` (`OUT_OF_RANGE`) for an address at which no struct can be: one that isn't from
@@ -1188,7 +1210,23 @@ impl DType {
     /// the text of the error.
     #[pyo3(text_signature = "($self)")]
     fn __arrow_c_schema__<'p>(&self, py: Python<'p>) -> Made<&'p PyAny> {
-        arrow::capsule_of(py, &self.dtype)
+        arrow::capsule_of(py, self.dtype.to_arrow()?)
+    }
+
+    /// Returns the type with metadata, as an object that pyarrow, polars and others read as a schema or as a field: it has
+    /// the method `__arrow_c_schema__`, as a type has. For example, `pyarrow.schema(dtype.to_arrow(metadata))` is a schema
+    /// with metadata. `metadata` is a list as `from_arrow_with_metadata` returns it, with a path, a key and a value for each
+    /// key.
+    ///
+    /// >>> DType.from_arrow_with_metadata(DType("u8").to_arrow([((), b"key", b"value")]))
+    /// (DType('u8'), [((), b'key', b'value')])
+    ///
+    /// Raises `LibraryError` (`ARROW`) if a part of the type can't be written, if a path leads to no field, if a key is one of
+    /// the two keys of extension types, or if a key or a value has more than 2**31 - 1 bytes. The text of the error begins
+    /// with the path.
+    #[pyo3(text_signature = "($self, metadata)")]
+    fn to_arrow(&self, metadata: &PyAny) -> Made<ArrowField> {
+        ArrowField::new(&self.dtype, arrow_field::metadata_of(metadata)?)
     }
 
     /// Returns the type that the message describes. No plugin is registered, so no id of an extension is known. If

@@ -10,6 +10,7 @@
 mod arguments;
 #[allow(unsafe_code)]
 mod arrow;
+mod arrow_field;
 mod dtype;
 mod errors;
 mod field_mask;

@@ -37,6 +37,7 @@ FITTING = {
     "FieldMask": {"kind": "prefix", "path": "a"}, "FieldPath.from_proto": {"parts": ["a"]}, "Message.from_nodes": {"nodes": NODES, "texts": b"id"},
     "DType.disjoint_merge": {"other": DType("{c=i8}")}, "DType.entries": {},
     "DType.from_proto": {"allow_unknown": True}, "DType.from_arrow": {"source": STRUCT},
+    "DType.from_arrow_with_metadata": {"source": STRUCT},
     "DType.from_arrow_address": {"address": ctypes.addressof(SCHEMA)},
 }
 # The object whose methods are called, for each class.
@@ -128,7 +129,7 @@ class Arguments(unittest.TestCase):
         with self.subTest(function=what, parameter=name, value=value):
             if accepts(hint, value):
                 # (What fits its own parameter may not fit the other arguments, as no path for a mask with a path.)
-                expected = (VortexError, ValueError, LookupError, *[TypeError] * (what in ("FieldMask", "DType.from_arrow")))
+                expected = (VortexError, ValueError, LookupError, *[TypeError] * (what in ("FieldMask", "DType.from_arrow", "DType.from_arrow_with_metadata")))
                 with contextlib.suppress(*expected):
                     call(**{**given, name: value})
                 return

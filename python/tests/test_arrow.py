@@ -160,6 +160,29 @@ class Arrow(unittest.TestCase):
                 DType(text).__arrow_c_schema__()
             self.assertIs(caught.exception.kind, ErrorKind.ARROW)
 
+    def test_metadata_is_read_and_written(self):
+        metadata = [((), b"pandas", b"{}"), (("customer", "city"), b"k\0", b""), (("lines",), b"k", b"1"),
+                    (("lines", "item", "price"), b"k", b"2"), (("lines", "item", "price"), b"k", b"3")]
+        field = ORDERS.to_arrow(metadata)
+        # (It can be read more than once.)
+        for _ in range(2):
+            self.assertEqual(DType.from_arrow_with_metadata(field), (ORDERS, metadata))
+        self.assertEqual(DType.from_arrow_with_metadata(field.__arrow_c_schema__()), (ORDERS, metadata))
+        self.assertEqual(DType.from_arrow(field), ORDERS)
+        for dtype in TYPES:
+            self.assertEqual(DType.from_arrow_with_metadata(dtype), (dtype, []))
+            self.assertEqual(DType.from_arrow_with_metadata(dtype.to_arrow([([], b"k", bytearray(b"v"))])), (dtype, [((), b"k", b"v")]))
+        for wrong, text in (
+            ((("none",), b"k", b""), 'column "none": the type has no such field, whose metadata is to be written'),
+            (((), b"ARROW:extension:name", b"x"),
+             "the keys ARROW:extension:name and ARROW:extension:metadata are those of an extension type"),
+        ):
+            with self.assertRaises(LibraryError) as caught:
+                ORDERS.to_arrow([wrong])
+            self.assertEqual((caught.exception.kind, str(caught.exception)), (ErrorKind.ARROW, text))
+        self.assertRaisesRegex(TypeError, r"^metadata\[0\]\[1\] must be bytes", ORDERS.to_arrow, [((), "k", b"")])
+        self.assertRaisesRegex(LibraryError, 'column "item": a variant', DType("list(variant)").to_arrow, [])
+
     def test_errors_of_the_library_name_the_column(self):
         wrong = exported(DType("{a=list({b=decimal(2,1)})}"))
         child = wrong.children[0].contents.children[0].contents.children[0].contents

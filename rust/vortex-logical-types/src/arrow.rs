@@ -46,8 +46,11 @@
 //! | a field with an extension name | an extension over the type of the field | the same |
 //!
 //! So a type that is read from a view, a large type, a dictionary or a run-end encoded type is written as a plain one, and
-//! a dense union as a sparse one. The names of the fields inside lists and maps, and metadata other than that of
-//! extensions, are lost. What is written is read back as the same type.
+//! a dense union as a sparse one. The names of the fields inside lists and maps are lost. What is written is read back as
+//! the same type.
+//!
+//! A type has no metadata. [`DType::from_arrow_with_metadata`] returns the metadata of the fields beside the type, and
+//! [`DType::to_arrow_with_metadata`] writes a type with metadata.
 //!
 //! Other formats can't be read, and neither can decimals whose scale is above their precision. These types can't be
 //! written: `variant`, an extension over an extension (unless the inner one is a date, a time, a timestamp, a duration or an
@@ -56,6 +59,9 @@
 //!
 //! What a format means is proved. The walk through the structs of C, which is in this file, is tested.
 
+pub use crate::arrow_metadata::FieldMetadata;
+
+use crate::arrow_metadata::{Flat, metadata_of, with_metadata};
 use crate::c_arrow::{ArrowFault, ArrowNode, Column, dtype_of, nodes_of};
 use crate::dtype_types::DType;
 use crate::rattle_std::alloc::AllocError;
@@ -467,16 +473,42 @@ impl DType {
     ///   the path of the field, for example `column "m": map key dtype must be non-nullable`.
     /// - `OutOfMemory` (0): an allocation fails.
     pub fn from_arrow(schema: &ArrowSchema) -> Result<Self, Error> {
-        let out_of_memory = |_| Error::from(VortexError::OutOfMemory);
-        let mut walk = Walk::default();
-        if walk.through(schema, 0).map_err(out_of_memory)? == TOO_MANY {
-            let node = ArrowNode {
-                fault: TOO_MANY,
-                ..NO_NODE
-            };
-            return dtype_of(&[node], &[]).map_err(error_of);
-        }
-        dtype_of(&walk.nodes, &walk.texts).map_err(error_of)
+        let (nodes, texts) = flat_of(schema)?;
+        dtype_of(&nodes, &texts).map_err(error_of)
+    }
+
+    /// Returns the type of an Arrow field, as [`DType::from_arrow`] does, and the metadata of the field and of all fields in it,
+    /// in the order of the fields. A type itself has no metadata.
+    ///
+    /// The two keys that make an extension type of a field (`ARROW:extension:name` and `ARROW:extension:metadata`) aren't in
+    /// the list, because they are in the type. Metadata of what is no field of the type isn't read: that of the values of a
+    /// dictionary or of a run-end encoded type, that of run ends, and that of a field of a struct in which an earlier field has
+    /// the same name.
+    ///
+    /// ```
+    /// use vortex_logical_types::{DType, arrow::FieldMetadata};
+    ///
+    /// let orders: DType = "{id=u64, city=utf8?}".parse()?;
+    /// let about_city = FieldMetadata {
+    ///     path: vec!["city".to_owned()],
+    ///     key: b"PARQUET:field_id".to_vec(),
+    ///     value: b"2".to_vec(),
+    /// };
+    /// let schema = orders.to_arrow_with_metadata(&[about_city.clone()])?;
+    /// assert_eq!(DType::from_arrow_with_metadata(&schema)?, (orders, vec![about_city]));
+    /// # Ok::<(), vortex_logical_types::Error>(())
+    /// ```
+    ///
+    /// # Errors
+    ///
+    /// Those of [`DType::from_arrow`], and `Arrow` if the list would take more than 2^31 bytes of memory. (Each key has the whole path of its
+    /// field, so the list may be much larger than the schema.)
+    pub fn from_arrow_with_metadata(
+        schema: &ArrowSchema,
+    ) -> Result<(Self, Vec<FieldMetadata>), Error> {
+        let (nodes, texts) = flat_of(schema)?;
+        let dtype = dtype_of(&nodes, &texts).map_err(error_of)?;
+        Ok((dtype, metadata_of(&nodes, &texts)?))
     }
 
     /// Returns the type as an Arrow field with an empty name. [`DType::from_arrow`] returns the same type for it.
@@ -488,9 +520,41 @@ impl DType {
     /// - `ArrowField`, whose kind is `TooDeep`: the type has more than 128 levels.
     /// - `OutOfMemory` (0): an allocation fails.
     pub fn to_arrow(&self) -> Result<ArrowSchema, Error> {
-        let (nodes, texts) = nodes_of(self).map_err(error_of)?;
-        made(&mut nodes.iter(), &mut &*texts).map_err(|_| VortexError::OutOfMemory.into())
+        schema_of(&nodes_of(self).map_err(error_of)?)
     }
+
+    /// Returns the type as an Arrow field, as [`DType::to_arrow`] does, with metadata. The keys of a field stand in the order of
+    /// the list, behind those of an extension type. [`DType::from_arrow_with_metadata`] returns the same type and the same list,
+    /// if the list has the order of the fields.
+    ///
+    /// # Errors
+    ///
+    /// - Those of [`DType::to_arrow`].
+    /// - `Arrow`: a path leads to no field, a key is one of the two keys of extension types, or a key or a value has more than
+    ///   2^31 - 1 bytes. The text of the error begins with the path.
+    pub fn to_arrow_with_metadata(&self, metadata: &[FieldMetadata]) -> Result<ArrowSchema, Error> {
+        let flat = nodes_of(self).map_err(error_of)?;
+        schema_of(&with_metadata(&flat, metadata)?)
+    }
+}
+
+// Returns the nodes and the texts of a field and of all that is in it.
+fn flat_of(schema: &ArrowSchema) -> Result<Flat, Error> {
+    let mut walk = Walk::default();
+    let fault = walk.through(schema, 0);
+    if fault.map_err(|_| VortexError::OutOfMemory)? == TOO_MANY {
+        let node = ArrowNode {
+            fault: TOO_MANY,
+            ..NO_NODE
+        };
+        return Ok(([node].into(), fallible::Vec::new()));
+    }
+    Ok((walk.nodes, walk.texts))
+}
+
+// Returns the struct of nodes and texts.
+fn schema_of((nodes, texts): &Flat) -> Result<ArrowSchema, Error> {
+    made(&mut nodes.iter(), &mut &**texts).map_err(|_| VortexError::OutOfMemory.into())
 }
 
 /// Returns the type of the field, as `DType::from_arrow` does.

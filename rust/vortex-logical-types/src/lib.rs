@@ -12,6 +12,8 @@ mod arc;
 #[cfg(feature = "arrow")]
 #[allow(unsafe_code)]
 pub mod arrow;
+#[cfg(feature = "arrow")]
+mod arrow_metadata;
 mod habits;
 mod memory;
 #[doc(hidden)]

@@ -9,7 +9,11 @@ mod refusing;
 use refusing::{each_refused, each_refused_on};
 use std::fmt::Debug;
 use std::sync::Arc;
+#[cfg(feature = "arrow")]
+use vortex_logical_types::ErrorKind;
 use vortex_logical_types::Nullability::{NonNullable, Nullable};
+#[cfg(feature = "arrow")]
+use vortex_logical_types::arrow::FieldMetadata;
 use vortex_logical_types::time::{Date, TimeUnit, Timestamp};
 use vortex_logical_types::{
     DType, DTypeSession, Error, FieldNames, FieldPath, FieldPathSet, NativeDType, PType,
@@ -146,4 +150,29 @@ fn arrow() {
     let orders = dtype(ORDERS);
     let schema = refuse(|| orders.to_arrow());
     assert_eq!(refuse(|| DType::from_arrow(&schema)), orders);
+    let about = |name: &str| FieldMetadata {
+        path: vec![name.to_owned()],
+        key: b"key".to_vec(),
+        value: b"value".to_vec(),
+    };
+    let metadata = [about("id"), about("lines")];
+    let schema = refuse(|| orders.to_arrow_with_metadata(&metadata));
+    let (found, read) = refuse(|| DType::from_arrow_with_metadata(&schema));
+    assert_eq!((found, &read[..]), (orders.clone(), &metadata[..]));
+    let wrong = [about("none")];
+    let error = refuse(|| told(orders.to_arrow_with_metadata(&wrong)));
+    assert!(error.to_string().contains("no such field"), "{error}");
+    let deep = (0..130).fold(dtype("i8"), |it, _| DType::list(it, NonNullable));
+    let error = refuse(|| told(deep.to_arrow()));
+    assert_eq!(error.kind(), ErrorKind::TooDeep);
+}
+
+/// The error of a call that has to fail. That there is no memory for it is an error of the call.
+#[cfg(feature = "arrow")]
+fn told<T>(result: Result<T, Error>) -> Result<Error, Error> {
+    match result {
+        Ok(_) => panic!("the call has to fail"),
+        Err(error) if error.kind() == ErrorKind::OutOfMemory => Err(error),
+        Err(error) => Ok(error),
+    }
 }

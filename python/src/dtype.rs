@@ -1003,6 +1003,29 @@ impl DType {
         Ok(self.dtype.try_intersect_nullability(&other.dtype)?.map(Self::from))
     }
 
+    /// Returns whether this type can be read as `other`: whether a reader makes a value of `other` from each value of this
+    /// type by adding nulls for the columns that it lacks, and by putting the columns into the order of `other`. A program
+    /// that has a table tests with it whether a file can be read as this table.
+    ///
+    /// - A struct can be read as a struct that has its fields, in any order, and further ones that are nullable. Each field
+    ///   must be readable, by these rules, as the field of its name.
+    /// - `null` can be read as every nullable type.
+    /// - Lists, fixed-size lists of the same size, maps, and extensions with the same id and the same metadata can be read
+    ///   as each other if their parts can. A map can be read as one that declares sorted keys only if it declares them
+    ///   too, and if the two key types are equal except for nullabilities.
+    /// - A union can be read as a union that has its variants, in any order, and further ones. A variant is found by its
+    ///   tag and its name. A struct in which a name repeats can be read as one with the same names in the same order.
+    /// - All other types can be read as the types of which they are subsets (`eq_with_nullability_subset`).
+    /// - In each place, at every depth, `other` must be nullable if this type is.
+    ///
+    /// >>> file, table = DType("{b=utf8, a=i32}"), DType("{a=i32, b=utf8?, c=u8?}")
+    /// >>> file.reads_as(table), table.reads_as(file)
+    /// (True, False)
+    #[pyo3(text_signature = "($self, other)")]
+    fn reads_as(&self, other: &PyAny) -> Made<bool> {
+        Ok(self.dtype.reads_as(&given::<DType>(other, "other")?.dtype))
+    }
+
     /// Returns the least type as which values of both types can be read, or None if there is no such type. A program
     /// that reads several files as one table needs this type if the files have different columns. `merge_all` merges
     /// more than two types.

@@ -36,7 +36,32 @@ CONFLICTS = (
 )
 
 
+# A type, another as which it can be read, and which can't be read as it.
+READABLE = (
+    ("{b=utf8, a=i32}", "{a=i32, b=utf8?, c=u8?}"), ("{}", "{a=i8?}"), ("i32", "i32?"), ("null", "list(i8)?"), ("{a=null}", "{a=x.y[0x](i8?)}"),
+    ("list({})", "list({a=i8?})"), ("fixed_size_list(null)[2]", "fixed_size_list(i8?)[2]"), ("x.y[0x01]({a=i8})", "x.y[0x01]({a=i8, b=i8?})"),
+    ("map(i8, {}, keys_sorted=true)", "map(i8, {a=i8?}, keys_sorted=true)"), ("map(i8, u8, keys_sorted=true)", "map(i8, u8, keys_sorted=false)"),
+    ("union(x@5={})", "union(y@9=u8, x@5={a=i8?})"), ("{a=i8, a={}}", "{a=i8?, a={b=u8?}}"),
+)
+# Two types of which neither can be read as the other.
+UNREADABLE = (
+    ("i32", "i64"), ("i32?", "u32"), ("{a=i8}", "{b=i8?}"), ("{a=i8?}", "{a=i8, b=i8?}"), ("{}", "{a=i8}"), ("list(i8)", "fixed_size_list(i8)[1]"),
+    ("fixed_size_list(i8)[1]", "fixed_size_list(i8)[2]"), ("x.y[0x](i8)", "x.y[0x00](i8)"), ("x.y[0x](i8)", "x.z[0x](i8)"), ("decimal(5,2)", "decimal(6,2)"),
+    ("map({a=i8}, u8, keys_sorted=true)", "map({a=i8, b=i8?}, u8, keys_sorted=true)"), ("union(x@5=i8)", "union(x@6=i8)"), ("union(x@5=i8)", "union(y@5=i8)"),
+    ("{a=i8, a=u8}", "{a=u8, a=i8}"), ("{a=i8, a=i8}", "{a=i8}"), ("variant", "utf8"), ("null", "i32"),
+)
+
+
 class Merging(unittest.TestCase):
+    def test_a_file_can_be_read_as_a_table(self):
+        for file, table in READABLE:
+            self.assertEqual((DType(file).reads_as(DType(table)), DType(table).reads_as(file), DType(file).reads_as(file)), (True, False, True))
+            self.assertEqual(DType(table).merge_columns(DType(file)), DType(table))
+        for one, other in UNREADABLE:
+            self.assertEqual((DType(one).reads_as(DType(other)), DType(other).reads_as(DType(one))), (False, False))
+        one, other = DType("{a=i32, b={c=i8, d=i8}}"), DType("{b={d=i8, c=i8}, a=i32}")
+        self.assertEqual((one.reads_as(other), other.reads_as(one), one == other), (True, True, False))
+
     def test_columns_are_merged(self):
         for one, other, both in MERGED:
             self.assertEqual(DType(one).merge_columns(DType(other)), DType(both))

@@ -27,6 +27,7 @@ def of_types() -> None:
     parts: tuple[Optional[tuple[int, int]], Optional[bool]] = (orders.decimal_parts, orders.keys_sorted)
     merged: Optional[DType] = orders.merge_nullability(DType(orders))
     columns: tuple[Optional[DType], Optional[DType]] = (orders.merge_columns(orders), DType.merge_all([orders]))
+    readable: bool = orders.reads_as(orders)
     conflict: Optional[MergeConflict] = orders.merge_conflict(orders)
     of_bytes: tuple[Optional[bytes], Optional[bytes]] = (orders.metadata, orders.tags)
     for name, dtype in orders:
@@ -44,7 +45,7 @@ def of_types() -> None:
     orders.project(5)  # type: ignore[arg-type]
     orders["id"] + 1  # type: ignore[operator]
     orders.no_such_method()  # type: ignore[attr-defined]
-    print(kind, names, fields, ptype, sizes, found, parts, merged, columns, conflict, of_bytes, sent)
+    print(kind, names, fields, ptype, sizes, found, parts, merged, columns, readable, conflict, of_bytes, sent)
 
 
 def of_arrow() -> None:

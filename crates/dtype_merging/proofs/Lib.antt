@@ -7,3 +7,4 @@ mod Collecting
 mod Visiting
 mod Ordered
 mod Tagging
+mod Testing

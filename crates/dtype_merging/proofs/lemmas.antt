@@ -15,3 +15,4 @@ pub mod Filling
 pub mod Conflicting
 pub mod AllMerged
 pub mod Paths
+pub mod Deciding

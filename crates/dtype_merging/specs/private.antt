@@ -3,3 +3,4 @@
 
 -- Definitions that only private contracts cite.
 pub mod Collected
+pub mod Readable

@@ -27,7 +27,7 @@ ghost use Rattle.dtype_merging.specs.ReadsAs.{HaveNoReader, IsLeastReader, Reads
 /// of the keys of a map are in the same order if the keys are sorted (`SameOrder`). With this law a caller knows that a
 /// schema that was extended several times still reads the oldest file.
 ///
-/// About [`merge_columns`].
+/// About [`merge_columns`] and [`reads_as`].
 #[tactic(auto, using(crate::proofs::lemmas::Reading::reads_itself, crate::proofs::lemmas::Reading::reads_more, crate::proofs::lemmas::Reading::reads_back, crate::proofs::lemmas::Reading::same_reads))]
 pub fn reading_is_an_order()
     ensures itself { (t : Tree) → ReadsAs t t }
@@ -42,7 +42,7 @@ pub fn reading_is_an_order()
 ///
 /// For example, `{a=i32}` can be read as `{a=i32?}`. So the order by columns contains the order by nullability.
 ///
-/// About [`merge_columns`].
+/// About [`merge_columns`] and [`reads_as`].
 #[tactic(auto, using(crate::proofs::lemmas::Reading::sub_reads, crate::proofs::lemmas::Reading::reads_nullable))]
 pub fn subsets_can_be_read()
     ensures subset { (t u : Tree) → Sub t u → ReadsAs t u }
@@ -57,7 +57,7 @@ pub fn subsets_can_be_read()
 /// For example, merging `null` and `list(i32)` returns `list(i32)?`. So a file in which a column has only nulls, and which
 /// was therefore written with the type `null`, can be read together with files that have other values in that column.
 ///
-/// About [`merge_columns`].
+/// About [`merge_columns`] and [`reads_as`].
 #[tactic(auto, using(crate::proofs::lemmas::MergeLaws::with_nulls))]
 pub fn null_is_read_as_each_nullable_type()
     ensures read { (t : Tree) → ReadsAs null t ↔ IsNullable t }
@@ -70,7 +70,7 @@ pub fn null_is_read_as_each_nullable_type()
 /// `{a=i32?, b=utf8}`. With this law a caller knows that a file which can be read as a table leaves the type of the table
 /// as it is.
 ///
-/// About [`merge_columns`].
+/// About [`merge_columns`] and [`reads_as`].
 #[tactic(auto, using(crate::proofs::lemmas::MergeLaws::changes_nothing, crate::proofs::lemmas::MergeLaws::changes_nothing_turned))]
 pub fn merging_with_what_is_read_changes_nothing()
     ensures after { (t u : Tree) → Valid t → ReadsAs u t → ((c : Tree) × (columns_merged t u ≡ Some c) × SameColumns c t) }
@@ -92,7 +92,7 @@ pub fn keys_that_stay_sorted_stay_the_same()
 /// value `{b="x", a=1}` of `{b=utf8, a=i32}`, read as `{a=i32, b=utf8?, c=u8?}`, is `{a=1, b="x", c=null}`. With this law
 /// a caller knows that a reader can do what the name `ReadsAs` promises.
 ///
-/// About [`merge_columns`].
+/// About [`merge_columns`] and [`reads_as`].
 #[tactic(auto, using(crate::proofs::lemmas::Filling::of_filled))]
 pub fn values_are_filled()
     ensures { (t u : Tree) (v : Value) → ReadsAs t u → Of v t → Of (filled t u v) u }

@@ -18,6 +18,9 @@
 //! If there is no such type, `merge_conflict` returns the first place at which the two types can't be merged, as a path
 //! and the two types there.
 //!
+//! `reads_as` tells whether a type can be read as another, for example a new file as the table that a program has. It is
+//! proved to decide the relation `ReadsAs`.
+//!
 //! The definitions are in `specs/`:
 //! - `ReadsAs`: which type can be read as which, and which types are the same up to the order of columns.
 //! - `MergedColumns`: what is merged of two types, by recursion on the first.
@@ -38,8 +41,10 @@ mod all;
 mod conflict;
 pub mod laws;
 mod merge;
+mod reading;
 mod variants;
 
 pub use all::merge_all;
 pub use conflict::{MergeConflict, merge_conflict};
 pub use merge::merge_columns;
+pub use reading::reads_as;

@@ -149,7 +149,7 @@ fn merge_maps(
 }
 
 // Returns whether the keys of the merged map are sorted.
-fn keys_stay_sorted(a: &MapDType, b: &MapDType) -> bool
+pub(crate) fn keys_stay_sorted(a: &MapDType, b: &MapDType) -> bool
     ensures { result ≡ maps_stay_sorted (map_shown a.now) (map_shown b.now) }
 {
     a.keys_sorted() && b.keys_sorted() && a.key_dtype().eq_ignore_nullability(b.key_dtype())

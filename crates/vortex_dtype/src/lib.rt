@@ -43,7 +43,7 @@ pub use dtype_edits::{
     leaf_paths, push_field, with_field, with_field_at, with_fields_renamed,
     with_fields_renamed_allowing_repeats, with_type_at, without_paths,
 };
-pub use dtype_merging::{MergeConflict, merge_all, merge_columns, merge_conflict};
+pub use dtype_merging::{MergeConflict, merge_all, merge_columns, merge_conflict, reads_as};
 pub use dtype_messages::pb;
 pub use dtype_native::{
     IntegerPType, NativeDType, NativeDecimalType, NativePType, OffsetBuilderPType, PTypeVisitor,

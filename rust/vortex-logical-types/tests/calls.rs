@@ -381,6 +381,58 @@ fn columns_are_merged() {
 }
 
 #[test]
+fn files_can_be_read_as_tables() {
+    for (file, table) in [
+        ("{b=utf8, a=i32}", "{a=i32, b=utf8?, c=u8?}"),
+        ("null", "list(i8)?"),
+        ("{a=null}", "{a=x.y[0x](i8?)}"),
+        ("list({})", "list({a=i8?})"),
+        ("fixed_size_list(i8)[3]", "fixed_size_list(i8?)[3]"),
+        (
+            "map(i8, {}, keys_sorted=true)",
+            "map(i8, {a=i8?}, keys_sorted=true)",
+        ),
+        (
+            "map(i8, u8, keys_sorted=true)",
+            "map(i8, u8, keys_sorted=false)",
+        ),
+        ("x.y[0x01]({a=i8})", "x.y[0x01]({a=i8, b=i8?})"),
+        ("union(x@5={})", "union(y@9=u8, x@5={a=i8?})"),
+        ("{a=i8, a={}}", "{a=i8?, a={b=u8?}}"),
+    ] {
+        let (file, table) = (dtype(file), dtype(table));
+        assert!(file.reads_as(&table) && file.reads_as(&file));
+        assert!(!table.reads_as(&file));
+        assert_eq!(table.merge_columns(&file), Some(table));
+    }
+}
+
+#[test]
+fn files_that_cannot_be_read_as_tables_are_told() {
+    for (one, other) in [
+        ("i32", "i64"),
+        ("null", "i32"),
+        ("{a=i8?}", "{a=i8, b=i8?}"),
+        ("{a=i8}", "{b=i8?}"),
+        ("list(i8)", "fixed_size_list(i8)[1]"),
+        ("fixed_size_list(i8)[1]", "fixed_size_list(i8)[2]"),
+        ("x.y[0x](i8)", "x.y[0x00](i8)"),
+        ("x.y[0x](i8)", "x.z[0x](i8)"),
+        (
+            "map({a=i8}, u8, keys_sorted=true)",
+            "map({a=i8, b=i8?}, u8, keys_sorted=true)",
+        ),
+        ("union(x@5=i8)", "union(x@6=i8)"),
+        ("union(x@5=i8)", "union(y@5=i8)"),
+        ("{a=i8, a=u8}", "{a=u8, a=i8}"),
+        ("{a=i8, a=i8}", "{a=i8}"),
+    ] {
+        let (one, other) = (dtype(one), dtype(other));
+        assert!(!one.reads_as(&other) && !other.reads_as(&one));
+    }
+}
+
+#[test]
 fn columns_that_cannot_be_merged_are_named() {
     for (one, other, path, left, right) in [
         (

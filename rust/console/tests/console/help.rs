@@ -38,7 +38,7 @@ fn help_lists_the_topics_and_their_commands() {
         assert!(answer(&format!("help {topic}")).starts_with(&format!("{topic}: ")), "{topic}");
     }
     // (of these, exit and quit are two names of one)
-    assert_eq!(commands().len(), 245);
+    assert_eq!(commands().len(), 246);
 }
 
 #[test]

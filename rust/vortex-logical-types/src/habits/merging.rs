@@ -48,6 +48,36 @@ impl fmt::Display for MergeConflict {
 impl error::Error for MergeConflict {}
 
 impl DType {
+    /// Returns whether this type can be read as the other: whether a reader makes a value of the other type from each
+    /// value of this one by adding nulls for the columns that it lacks, and by putting the columns into the order of the
+    /// other. A program that has a table tests with it whether a file can be read as this table.
+    ///
+    /// - A struct can be read as a struct that has its fields, in any order, and further ones that are nullable. Each field
+    ///   must be readable, by these rules, as the field of its name.
+    /// - `null` can be read as every nullable type.
+    /// - Lists, fixed-size lists of the same size, maps, and extensions with the same id and the same metadata can be read
+    ///   as each other if their parts can. A map can be read as one that declares sorted keys only if it declares them
+    ///   too, and if the two key types are equal except for nullabilities.
+    /// - A union can be read as a union that has its variants, in any order, and further ones. A variant is found by its
+    ///   tag and its name. A struct in which a name repeats can be read as one with the same names in the same order.
+    /// - All other types can be read as the types of which they are subsets (`eq_with_nullability_subset`).
+    /// - In each place, at every depth, the other type must be nullable if this one is.
+    ///
+    /// The call doesn't allocate.
+    ///
+    /// ```
+    /// use vortex_logical_types::DType;
+    ///
+    /// let (file, table): (DType, DType) = ("{b=utf8, a=i32}".parse()?, "{a=i32, b=utf8?, c=u8?}".parse()?);
+    /// assert!(file.reads_as(&table) && !table.reads_as(&file));
+    /// assert_eq!(table.merge_columns(&file), Some(table));
+    /// # Ok::<(), vortex_logical_types::Error>(())
+    /// ```
+    #[must_use]
+    pub fn reads_as(&self, other: &Self) -> bool {
+        dtype_merging::reads_as(self, other)
+    }
+
     /// Returns the least type as which values of both types can be read, or `None` if there is no such type. A program
     /// that reads several files as one table needs this type if the files have different columns. `merge_all` merges
     /// more than two.

@@ -32,16 +32,21 @@ struct ArrowArrayStream {
 
 /// Returns the type of what an object exports, or of a capsule.
 pub fn dtype_of(source: &PyAny) -> Made<DType> {
-    read(source, DType::from_arrow)
+    read(source, "source", DType::from_arrow)
 }
 
 /// Returns the same, and the metadata of the fields.
 pub fn dtype_and_metadata_of(source: &PyAny) -> Made<(DType, Vec<FieldMetadata>)> {
-    read(source, DType::from_arrow_with_metadata)
+    read(source, "source", DType::from_arrow_with_metadata)
 }
 
-/// Returns what a call reads of the schema that an object exports, or of a capsule.
-fn read<T>(source: &PyAny, call: impl Fn(&ArrowSchema) -> Result<T, Error>) -> Made<T> {
+/// Returns the schema of a type with metadata, in the forms of what an object exports, or of a capsule.
+pub fn schema_like(original: &PyAny, dtype: &DType, metadata: &[FieldMetadata]) -> Made<ArrowSchema> {
+    read(original, "like", |schema| dtype.to_arrow_like(schema, metadata))
+}
+
+/// Returns what a call reads of the schema that an argument with this name exports, or of a capsule.
+fn read<T>(source: &PyAny, argument: &str, call: impl Fn(&ArrowSchema) -> Result<T, Error>) -> Made<T> {
     for (method, name) in
         [("__arrow_c_schema__", SCHEMA), ("__arrow_c_array__", SCHEMA), ("__arrow_c_stream__", STREAM)]
     {
@@ -49,7 +54,7 @@ fn read<T>(source: &PyAny, call: impl Fn(&ArrowSchema) -> Result<T, Error>) -> M
             let capsule = schema_in(source.call_method0(method)?);
             let wanted = || format!("a capsule named {}", name.to_string_lossy());
             let pointer = pointer_in(capsule, name)?;
-            let pointer = pointer.ok_or_else(|| wrong(format_args!("source.{method}()"), &wanted(), capsule))?;
+            let pointer = pointer.ok_or_else(|| wrong(format_args!("{argument}.{method}()"), &wanted(), capsule))?;
             return read_behind(source.py(), pointer, name, call);
         }
     }
@@ -59,7 +64,7 @@ fn read<T>(source: &PyAny, call: impl Fn(&ArrowSchema) -> Result<T, Error>) -> M
         }
     }
     let wanted = "an object with __arrow_c_schema__, __arrow_c_array__ or __arrow_c_stream__, or a capsule of one";
-    Err(wrong("source", wanted, source).into())
+    Err(wrong(argument, wanted, source).into())
 }
 
 /// Returns the capsule with the schema of an array, which is exported as a pair of two capsules, or the object itself.

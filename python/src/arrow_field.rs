@@ -8,22 +8,12 @@ use crate::arrow::capsule_of;
 use crate::errors::Made;
 use pyo3::prelude::*;
 use pyo3::types::{PyBytes, PyList, PyTuple};
-use vortex_logical_types::arrow::FieldMetadata;
-use vortex_logical_types::DType;
+use vortex_logical_types::arrow::{ArrowSchema, FieldMetadata};
 
-/// What `DType.to_arrow` returns: a type with metadata, which other libraries read as a schema or as a field.
+/// What `DType.to_arrow` returns: a type that was written, which other libraries read as a schema or as a field.
 #[pyclass(frozen, module = "vortex_logical_types")]
 pub struct ArrowField {
-    dtype: DType,
-    metadata: Vec<FieldMetadata>,
-}
-
-impl ArrowField {
-    /// Returns the type with metadata, if both can be written.
-    pub fn new(dtype: &DType, metadata: Vec<FieldMetadata>) -> Made<Self> {
-        dtype.to_arrow_with_metadata(&metadata)?;
-        Ok(ArrowField { dtype: dtype.try_clone()?, metadata })
-    }
+    pub schema: ArrowSchema,
 }
 
 #[pymethods]
@@ -31,7 +21,7 @@ impl ArrowField {
     /// Returns the field in a capsule that pyarrow, polars and others read.
     #[pyo3(text_signature = "($self)")]
     fn __arrow_c_schema__<'p>(&self, py: Python<'p>) -> Made<&'p PyAny> {
-        capsule_of(py, self.dtype.to_arrow_with_metadata(&self.metadata)?)
+        capsule_of(py, self.schema.try_clone()?)
     }
 }
 

@@ -1244,12 +1244,26 @@ impl DType {
     /// >>> DType.from_arrow_with_metadata(DType("u8").to_arrow([((), b"key", b"value")]))
     /// (DType('u8'), [((), b'key', b'value')])
     ///
+    /// If `like` is there, which is anything that `from_arrow` takes, the type is written in its forms. A form is what is
+    /// lost when a type is read: large and view types, list views, the width of a decimal, whether a union is dense,
+    /// dictionaries, run ends, whether bytes of one length are a list, and the names of the fields inside lists and maps. A
+    /// part of the type has the form that `like` has at the same path, if it has the same type there, without regard of
+    /// nullabilities and of what is in it. Fields of structs and variants of unions are found by their names. All other
+    /// parts are written as without `like`. For example, `table.cast(pyarrow.schema(dtype.to_arrow(like=table)))` changes
+    /// nothing of the columns in which the types agree. `from_arrow` returns the same type for what is written.
+    ///
     /// Raises `LibraryError` (`ARROW`) if a part of the type can't be written, if a path leads to no field, if a key is one of
     /// the two keys of extension types, or if a key or a value has more than 2**31 - 1 bytes. The text of the error begins
-    /// with the path.
-    #[pyo3(text_signature = "($self, metadata)")]
-    fn to_arrow(&self, metadata: &PyAny) -> Made<ArrowField> {
-        ArrowField::new(&self.dtype, arrow_field::metadata_of(metadata)?)
+    /// with the path. Of `like` the errors of `from_arrow` are raised.
+    #[args(metadata = "LEFT_OUT", like = "LEFT_OUT")]
+    #[pyo3(text_signature = "($self, metadata=(), like=None)")]
+    fn to_arrow(&self, metadata: Optional<'_>, like: Optional<'_>) -> Made<ArrowField> {
+        let metadata = metadata.0.map_or(Ok(Vec::new()), arrow_field::metadata_of)?;
+        let schema = match like.0.filter(|it| !it.is_none()) {
+            Some(original) => arrow::schema_like(original, &self.dtype, &metadata)?,
+            None => self.dtype.to_arrow_with_metadata(&metadata)?,
+        };
+        Ok(ArrowField { schema })
     }
 
     /// Returns the type that the message describes. No plugin is registered, so no id of an extension is known. If

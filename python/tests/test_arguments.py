@@ -37,7 +37,7 @@ FITTING = {
     "FieldMask": {"kind": "prefix", "path": "a"}, "FieldPath.from_proto": {"parts": ["a"]}, "Message.from_nodes": {"nodes": NODES, "texts": b"id"},
     "DType.disjoint_merge": {"other": DType("{c=i8}")}, "DType.entries": {},
     "DType.from_proto": {"allow_unknown": True}, "DType.from_arrow": {"source": STRUCT},
-    "DType.from_arrow_with_metadata": {"source": STRUCT},
+    "DType.from_arrow_with_metadata": {"source": STRUCT}, "DType.to_arrow": {"like": STRUCT},
     "DType.from_arrow_address": {"address": ctypes.addressof(SCHEMA)},
 }
 # The object whose methods are called, for each class.
@@ -47,6 +47,8 @@ OBJECTS = {DType: STRUCT, FieldPath: FieldPath("a.[].b"), FieldPathSet: FieldPat
 OF_UNIONS = ("variant_name", "variant_by_index", "find_variant", "variant_of", "child_index_to_tag", "tag_to_child_index")
 # The methods that `collections.abc.Sequence` has.
 OF_SEQUENCES = ("count", "index")
+# The functions that refuse some objects of a type that they take, because they ask the object for a method or its text.
+TAKES_OBJECTS = ("FieldMask", "DType.from_arrow", "DType.from_arrow_with_metadata", "DType.to_arrow")
 # Classes that aren't called here: Python itself makes their members or checks their arguments.
 MADE_BY_PYTHON = (enum.Enum, Below, FlatMessage, View)
 
@@ -129,7 +131,7 @@ class Arguments(unittest.TestCase):
         with self.subTest(function=what, parameter=name, value=value):
             if accepts(hint, value):
                 # (What fits its own parameter may not fit the other arguments, as no path for a mask with a path.)
-                expected = (VortexError, ValueError, LookupError, *[TypeError] * (what in ("FieldMask", "DType.from_arrow", "DType.from_arrow_with_metadata")))
+                expected = (VortexError, ValueError, LookupError, *[TypeError] * (what in TAKES_OBJECTS))
                 with contextlib.suppress(*expected):
                     call(**{**given, name: value})
                 return

@@ -9,7 +9,7 @@ import subprocess
 import sys
 import unittest
 
-from arrow_structs import ArrowArrayStream, ArrowSchema, exported, pointer_in, release, schema_in
+from arrow_structs import ArrowArrayStream, ArrowSchema, exported, moved_out, pointer_in, release, schema_in
 from vortex_logical_types import DType, ErrorKind, LibraryError
 
 ORDERS = DType("{id=u64, customer={city=utf8?}?, lines=list({sku=utf8, price=decimal(10,2)?}), paid=vortex.date[0x04](i32?)}")
@@ -182,6 +182,39 @@ class Arrow(unittest.TestCase):
             self.assertEqual((caught.exception.kind, str(caught.exception)), (ErrorKind.ARROW, text))
         self.assertRaisesRegex(TypeError, r"^metadata\[0\]\[1\] must be bytes", ORDERS.to_arrow, [((), "k", b"")])
         self.assertRaisesRegex(LibraryError, 'column "item": a variant', DType("list(variant)").to_arrow, [])
+
+    def test_forms_of_another_schema_are_written(self):
+        formats = {b"u": b"U", b"z": b"vz", b"+l": b"+L"}
+
+        def change(schema):
+            # (The texts are never freed.)
+            if schema.format in formats:
+                text = ctypes.create_string_buffer(formats[schema.format])
+                self.kept.append(text)
+                ctypes.c_void_p.from_buffer(schema).value = ctypes.addressof(text)
+            for at in range(schema.n_children):
+                change(schema.children[at].contents)
+
+        def formats_of(schema):
+            return [schema.format, *(formats_of(schema.children[at].contents) for at in range(schema.n_children))]
+
+        self.kept = []
+        original = exported(DType("{city=utf8, notes=list(binary?), id=u64}"))
+        change(original)
+        like = capsule_of(original, b"arrow_schema")
+        for text, forms in (("{id=u64, city=utf8?}", [b"+s", [b"L"], [b"U"]]),
+                            ("{notes=list(utf8), other=utf8}", [b"+s", [b"+L", [b"u"]], [b"u"]]),
+                            ("{notes=list(binary), city=i8}", [b"+s", [b"+L", [b"vz"]], [b"c"]])):
+            field = DType(text).to_arrow([((), b"k", b"v")], like=like)
+            made = moved_out(field.__arrow_c_schema__())
+            self.assertEqual(formats_of(made), forms)
+            release(made)
+            self.assertEqual(DType.from_arrow_with_metadata(field), (DType(text), [((), b"k", b"v")]))
+        self.assertEqual(DType.from_arrow(ORDERS.to_arrow(like=None)), ORDERS)
+        self.assertEqual(DType.from_arrow(ORDERS.to_arrow((), DType("{a=i8}"))), ORDERS)
+        self.assertRaisesRegex(TypeError, "^like must be an object with __arrow_c_schema__", ORDERS.to_arrow, (), 5)
+        release(original)
+        self.assertRaisesRegex(LibraryError, "^the schema was released$", ORDERS.to_arrow, like=like)
 
     def test_errors_of_the_library_name_the_column(self):
         wrong = exported(DType("{a=list({b=decimal(2,1)})}"))

@@ -57,7 +57,7 @@ def of_arrow() -> None:
     times: tuple[DType, DType] = (DType.date(TimeUnit.DAYS), DType.time(TimeUnit.SECONDS, nullable=True))
     parts: tuple[Optional[TimeUnit], Optional[str]] = (paid.time_unit, paid.time_zone)
     with_metadata: tuple[DType, list[tuple[tuple[str, ...], bytes, bytes]]] = DType.from_arrow_with_metadata(dtype)
-    written: object = dtype.to_arrow(with_metadata[1])
+    written: tuple[object, object] = (dtype.to_arrow(with_metadata[1]), dtype.to_arrow(like=capsule))
     dtype.to_arrow([("a", "k", b"v")])  # type: ignore[list-item]
     DType.from_arrow_address("8")  # type: ignore[arg-type]
     DType.timestamp("s")  # type: ignore[arg-type]

@@ -96,5 +96,7 @@ for row in TYPES:
     one(row[0], row[1], row[2] if len(row) > 2 else row[0])
 table = pa.table({"id": pa.array([b"x" * 16], pa.binary(16)), "city": pa.array(["a"]).dictionary_encode(), "n": pa.array([1])})
 check("a table that is cast", table.cast(pa.schema(DType.from_arrow(table))).to_pydict(), table.to_pydict())
+check("its own forms", pa.schema(DType.from_arrow(table).to_arrow(like=table)), table.schema)
+check("a column", pa.schema(DType.from_arrow(table).project_paths(["city"]).to_arrow(like=table)), table.select(["city"]).schema)
 print(f"pyarrow {pa.__version__}: {len(TYPES)} types\n{passed} passed, {failed} failed")
 sys.exit(bool(failed))

@@ -31,11 +31,13 @@
 //! types and the messages that are expected of them.
 #![tactic(auto)]
 
+pub use again::are_read_as;
 pub use fault::{ArrowFault, Column, Problem, Refusal};
 pub use node::ArrowNode;
 pub use reader::dtype_of;
 pub use writer::nodes_of;
 
+mod again;
 mod fault;
 mod format;
 mod formats_written;

@@ -49,6 +49,8 @@
 //! a dense union as a sparse one. The names of the fields inside lists and maps are lost. What is written is read back as
 //! the same type.
 //!
+//! What is lost can be taken from another schema: [`DType::to_arrow_like`] writes a type in the forms of that schema.
+//!
 //! A type has no metadata. [`DType::from_arrow_with_metadata`] returns the metadata of the fields beside the type, and
 //! [`DType::to_arrow_with_metadata`] writes a type with metadata.
 //!
@@ -61,8 +63,9 @@
 
 pub use crate::arrow_metadata::FieldMetadata;
 
+use crate::arrow_forms::formed;
 use crate::arrow_metadata::{Flat, metadata_of, with_metadata};
-use crate::c_arrow::{ArrowFault, ArrowNode, Column, dtype_of, nodes_of};
+use crate::c_arrow::{ArrowFault, ArrowNode, Column, are_read_as, dtype_of, nodes_of};
 use crate::dtype_types::DType;
 use crate::rattle_std::alloc::AllocError;
 use crate::rattle_std::{boxed, string};
@@ -182,6 +185,17 @@ impl ArrowSchema {
     #[must_use]
     pub fn is_released(&self) -> bool {
         self.release.is_none()
+    }
+
+    /// Returns a copy of the struct with all that is in it, which owns what it points to.
+    ///
+    /// # Errors
+    ///
+    /// Those of [`DType::from_arrow`]: only a struct with a type is copied.
+    pub fn try_clone(&self) -> Result<Self, Error> {
+        let flat = flat_of(self)?;
+        dtype_of(&flat.0, &flat.1).map_err(error_of)?;
+        schema_of(&flat)
     }
 
     // Returns the bytes of the format and of the name, and nothing for a pointer that is null. The struct wasn't released.
@@ -338,12 +352,13 @@ fn fault_of(field: &ArrowSchema, around: usize, before: usize) -> u32 {
 }
 
 // What a struct that is made here owns. Its pointers point into this, so nothing here moves until it is released. Its
-// children and their own blocks are released by their `Drop`, unless they were moved out.
+// parts, which are its children and then the values of its dictionary, and their own blocks are released by their `Drop`, unless
+// they were moved out.
 struct Owned {
     format: fallible::Vec<u8>,
     name: fallible::Vec<u8>,
     metadata: fallible::Vec<u8>,
-    children: fallible::Vec<ArrowSchema>,
+    parts: fallible::Vec<ArrowSchema>,
     pointers: fallible::Vec<*mut ArrowSchema>,
 }
 
@@ -357,8 +372,8 @@ unsafe extern "C" fn release(schema: *mut ArrowSchema) {
     drop(owned);
 }
 
-// Makes the struct of the node that is next, with all that is in it, and moves both behind it. (The nodes are those of
-// `nodes_of`, so each counts what follows.)
+// Makes the struct of the node that is next, with all that is in it, and moves both behind it. (Each node counts what
+// follows.)
 fn made(
     nodes: &mut slice::Iter<'_, ArrowNode>,
     texts: &mut &[u8],
@@ -379,20 +394,21 @@ fn made(
     let format = next(node.format_length, true)?;
     let name = next(node.name_length, true)?;
     let metadata = next(node.metadata_length, false)?;
-    let mut children = fallible::Vec::with_capacity(node.child_count)?;
-    for _ in 0..node.child_count {
-        children.push(made(nodes, texts)?)?;
+    let count = node.child_count + usize::from(node.has_dictionary != 0);
+    let mut parts = fallible::Vec::with_capacity(count)?;
+    for _ in 0..count {
+        parts.push(made(nodes, texts)?)?;
     }
     let pointers = fallible::Vec::with_capacity(node.child_count)?;
     let mut owned = boxed::new(Owned {
         format,
         name,
         metadata,
-        children,
+        parts,
         pointers,
     })?;
     for child in 0..node.child_count {
-        let child = &raw mut owned.children[child];
+        let child = &raw mut owned.parts[child];
         owned.pointers.push(child)?;
     }
     Ok(filled(node, owned))
@@ -410,6 +426,10 @@ fn filled(node: &ArrowNode, mut owned: Box<Owned>) -> ArrowSchema {
     } else {
         owned.pointers.as_mut_ptr()
     };
+    let dictionary = match owned.parts.get_mut(node.child_count) {
+        Some(values) => ptr::from_mut(values),
+        None => ptr::null_mut(),
+    };
     ArrowSchema {
         format: owned.format.as_ptr().cast(),
         name: owned.name.as_ptr().cast(),
@@ -417,7 +437,7 @@ fn filled(node: &ArrowNode, mut owned: Box<Owned>) -> ArrowSchema {
         flags: i64::from_ne_bytes(node.flags.to_ne_bytes()),
         n_children: i64::try_from(node.child_count).unwrap_or(i64::MAX),
         children,
-        dictionary: ptr::null_mut(),
+        dictionary,
         release: Some(release),
         private_data: Box::into_raw(owned).cast(),
     }
@@ -535,6 +555,54 @@ impl DType {
     pub fn to_arrow_with_metadata(&self, metadata: &[FieldMetadata]) -> Result<ArrowSchema, Error> {
         let flat = nodes_of(self).map_err(error_of)?;
         schema_of(&with_metadata(&flat, metadata)?)
+    }
+
+    /// Returns the type as an Arrow field with metadata, as [`DType::to_arrow_with_metadata`] does, and in the forms of another
+    /// field. A form is what is lost when a type is read: large and view types, list views, the width of a decimal, whether a
+    /// union is dense, dictionaries, run ends, whether bytes of one length are a list, and the names of the fields inside lists
+    /// and maps.
+    ///
+    /// A part of the type has the form that the original has at the same path, if it has the same type there, without regard of
+    /// nullabilities and of what is in it. Fields of structs and variants of unions are found by their names. All other parts
+    /// have the form in which [`DType::to_arrow`] writes them.
+    ///
+    /// [`DType::from_arrow`] returns the same type for the field, and so it does if the original has another type.
+    ///
+    /// ```
+    /// use vortex_logical_types::{DType, FieldPath, FieldPathSet, arrow::ArrowSchema};
+    ///
+    /// // A program that reads some columns of a table writes their schema in the forms of the table.
+    /// fn projected(table: &ArrowSchema, columns: &[&str]) -> Result<ArrowSchema, Box<dyn std::error::Error>> {
+    ///     let (schema, metadata) = DType::from_arrow_with_metadata(table)?;
+    ///     let wanted: FieldPathSet = columns.iter().map(|it| it.parse::<FieldPath>()).collect::<Result<_, _>>()?;
+    ///     let projected = schema.project_paths(&wanted).ok_or("no such column")?;
+    ///     let kept: Vec<_> = metadata
+    ///         .into_iter()
+    ///         .filter(|it| it.path.first().is_none_or(|name| columns.contains(&name.as_str())))
+    ///         .collect();
+    ///     Ok(projected.to_arrow_like(table, &kept)?)
+    /// }
+    /// # let table = "{id=u64, city=utf8?}".parse::<DType>()?.to_arrow()?;
+    /// # assert_eq!(DType::from_arrow(&projected(&table, &["city"])?)?, "{city=utf8?}".parse()?);
+    /// # Ok::<(), Box<dyn std::error::Error>>(())
+    /// ```
+    ///
+    /// # Errors
+    ///
+    /// Those of [`DType::to_arrow_with_metadata`], and those of [`DType::from_arrow`] for the original.
+    pub fn to_arrow_like(
+        &self,
+        original: &ArrowSchema,
+        metadata: &[FieldMetadata],
+    ) -> Result<ArrowSchema, Error> {
+        let out_of_memory = |_| Error::from(VortexError::OutOfMemory);
+        let plain = with_metadata(&nodes_of(self).map_err(error_of)?, metadata)?;
+        let forms = flat_of(original)?;
+        dtype_of(&forms.0, &forms.1).map_err(error_of)?;
+        let formed = formed(&plain, &forms).map_err(out_of_memory)?;
+        // (It is read as the type unless more than 300 fields would be inside one another.)
+        let is_read = are_read_as(self, &formed.0, &formed.1).map_err(out_of_memory)?;
+        schema_of(if is_read { &formed } else { &plain })
     }
 }
 

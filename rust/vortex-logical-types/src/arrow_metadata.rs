@@ -36,15 +36,15 @@ pub struct FieldMetadata {
     pub value: Vec<u8>,
 }
 
-// The texts of a field.
-struct Texts<'a> {
-    format: &'a [u8],
-    name: &'a [u8],
-    metadata: &'a [u8],
+/// The texts of a field.
+pub struct Texts<'a> {
+    pub format: &'a [u8],
+    pub name: &'a [u8],
+    pub metadata: &'a [u8],
 }
 
-// Takes the texts of a node from the front of those that are left. (There are as many as the nodes say.)
-fn texts_of<'a>(node: &ArrowNode, left: &mut &'a [u8]) -> Texts<'a> {
+/// Takes the texts of a node from the front of those that are left. (There are as many as the nodes say.)
+pub fn texts_of<'a>(node: &ArrowNode, left: &mut &'a [u8]) -> Texts<'a> {
     let mut next = |length| {
         let (text, behind) = left.split_at(length);
         *left = behind;

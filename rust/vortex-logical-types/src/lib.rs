@@ -13,6 +13,8 @@ mod arc;
 #[allow(unsafe_code)]
 pub mod arrow;
 #[cfg(feature = "arrow")]
+mod arrow_forms;
+#[cfg(feature = "arrow")]
 mod arrow_metadata;
 mod habits;
 mod memory;

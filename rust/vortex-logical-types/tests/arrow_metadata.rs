@@ -5,9 +5,10 @@
 #![cfg(feature = "arrow")]
 #![allow(unsafe_code, reason = "a producer of Arrow's structs is C")]
 
-use std::ffi::{CString, c_char, c_void};
-use std::ptr;
-use vortex_logical_types::arrow::{ArrowSchema, FieldMetadata};
+mod arrow_fields;
+
+use arrow_fields::Field;
+use vortex_logical_types::arrow::FieldMetadata;
 use vortex_logical_types::{DType, Error, ErrorKind};
 
 fn dtype(text: &str) -> DType {
@@ -25,81 +26,17 @@ fn about(path: &str, key: &str, value: &str) -> FieldMetadata {
     }
 }
 
-/// A field of another library: its format, its name, its metadata, its children and the values of its dictionary.
-#[derive(Default)]
-struct Field {
-    format: &'static str,
-    name: &'static str,
-    pairs: Vec<(&'static str, &'static str)>,
-    children: Vec<Field>,
-    values: Option<Box<Field>>,
-}
-
-#[repr(C)]
-struct Foreign {
-    format: *const c_char,
-    name: *const c_char,
-    metadata: *const u8,
-    flags: i64,
-    n_children: i64,
-    children: *mut *mut Foreign,
-    dictionary: *mut Foreign,
-    release: Option<unsafe extern "C" fn(*mut Foreign)>,
-    private_data: *mut c_void,
-}
-
-unsafe extern "C" fn release_nothing(it: *mut Foreign) {
-    unsafe { (*it).release = None };
-}
-
-impl Field {
-    /// The struct of the field. (What it points to is never freed.)
-    fn exported(self) -> *mut Foreign {
-        let text = |text: &str| CString::new(text).expect("no zero byte").into_raw();
-        let mut metadata = Vec::new();
-        let mut number = |number: usize, text: &str| {
-            let number = i32::try_from(number).expect("a small number");
-            metadata.extend_from_slice(&number.to_ne_bytes());
-            metadata.extend_from_slice(text.as_bytes());
-        };
-        number(self.pairs.len(), "");
-        for (key, value) in &self.pairs {
-            number(key.len(), key);
-            number(value.len(), value);
-        }
-        let children: Vec<_> = self.children.into_iter().map(Field::exported).collect();
-        Box::into_raw(Box::new(Foreign {
-            format: text(self.format),
-            name: text(self.name),
-            metadata: if self.pairs.is_empty() {
-                ptr::null()
-            } else {
-                metadata.leak().as_ptr()
-            },
-            flags: 0,
-            n_children: i64::try_from(children.len()).expect("few children"),
-            children: children.leak().as_mut_ptr(),
-            dictionary: self.values.map_or(ptr::null_mut(), |it| it.exported()),
-            release: Some(release_nothing),
-            private_data: ptr::null_mut(),
-        }))
-    }
-
-    /// What is read of the field.
-    fn read(self) -> Result<(DType, Vec<FieldMetadata>), Error> {
-        DType::from_arrow_with_metadata(unsafe { &*self.exported().cast::<ArrowSchema>() })
-    }
-}
-
 /// A field with one pair of metadata, whose key is the name of the field.
-fn field(format: &'static str, name: &'static str, children: Vec<Field>) -> Field {
+fn field(format: &str, name: &'static str, children: Vec<Field>) -> Field {
     Field {
-        format,
-        name,
         pairs: vec![(name, "it")],
-        children,
-        values: None,
+        ..arrow_fields::field(format, name, children)
     }
+}
+
+/// What is read of a field.
+fn read(field: Field) -> Result<(DType, Vec<FieldMetadata>), Error> {
+    DType::from_arrow_with_metadata(field.schema())
 }
 
 #[test]
@@ -146,7 +83,7 @@ fn the_metadata_of_each_field_is_read() -> Result<(), Error> {
         pairs: vec![("pandas", "{}")],
         ..field("+s", "", columns)
     };
-    let (found, metadata) = table.read()?;
+    let (found, metadata) = read(table)?;
     let whole = "{tagged=x.tag[0x](utf8), list=list(i32), map=map(utf8, i32, keys_sorted=false), codes={inner=i32}, \
                  runs=utf8, union=union(variant@3=bool), again=i32, again={hidden=i32}, none=bool}";
     assert_eq!(found, dtype(whole));
@@ -276,23 +213,27 @@ fn what_cannot_be_written_is_refused() {
         "column \"a\": a variant has no Arrow type"
     );
     assert_eq!(
-        field("d:2,4", "odd", vec![]).read().unwrap_err().number(),
+        read(field("d:2,4", "odd", vec![])).unwrap_err().number(),
         Some(4)
     );
 }
 
-/// Names that are as long as the list would be too long: each key has the whole path of its field.
+/// Names that are as long that the list would be too long: each key has the whole path of its field.
 #[test]
 fn a_list_that_would_be_too_long_is_refused() {
-    let long: &'static str = "n".repeat(300_000).leak();
-    let mut deepest = field("i", "x", vec![]);
-    for _ in 0..120 {
-        deepest = field("+s", long, vec![deepest]);
-    }
-    let error = field("+s", "", vec![deepest]).read().unwrap_err();
+    let deepest = |keys| {
+        let pairs = vec![("k", ""); keys];
+        let deepest = Field {
+            pairs,
+            ..arrow_fields::field("i", "x", vec![])
+        };
+        let long = "n".repeat(10_000);
+        let whole = (0..100).fold(deepest, |it, _| arrow_fields::field("+s", &long, vec![it]));
+        arrow_fields::field("+s", "", vec![whole])
+    };
+    let error = read(deepest(2200)).unwrap_err();
     assert_eq!(error.kind(), ErrorKind::Arrow);
-    assert!(
-        error.to_string().contains("more than 2147483648 bytes"),
-        "{error}"
-    );
+    let text = "the list of its metadata has more than 2147483648 bytes";
+    assert_eq!(error.to_string(), text);
+    assert_eq!(read(deepest(20)).map(|it| it.1.len()), Ok(20));
 }

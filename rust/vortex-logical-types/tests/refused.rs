@@ -159,6 +159,9 @@ fn arrow() {
     let schema = refuse(|| orders.to_arrow_with_metadata(&metadata));
     let (found, read) = refuse(|| DType::from_arrow_with_metadata(&schema));
     assert_eq!((found, &read[..]), (orders.clone(), &metadata[..]));
+    let like = refuse(|| orders.to_arrow_like(&schema, &metadata));
+    let copied = refuse(|| like.try_clone());
+    assert_eq!(DType::from_arrow(&copied), Ok(dtype(ORDERS)));
     let wrong = [about("none")];
     let error = refuse(|| told(orders.to_arrow_with_metadata(&wrong)));
     assert!(error.to_string().contains("no such field"), "{error}");

@@ -56,7 +56,7 @@ class Planted(unittest.TestCase):
         """The status of a tool, in whose folder it may be, and what it writes."""
         settings |= {"PATH": f"{self.top}/bin:{os.environ['PATH']}", "PYTHONDONTWRITEBYTECODE": "1",
                      "XDG_CACHE_HOME": f"{self.top}/cache"}
-        path = glob(f"{self.top}/tools/*/{tool}")[0]
+        path = [*glob(f"{self.top}/tools/*/{tool}"), f"{self.top}/rust/original/{tool}"][0]
         ran = subprocess.run([path, *arguments], cwd=self.top, env={**os.environ, **settings},
                              stdin=subprocess.DEVNULL, stdout=subprocess.PIPE, stderr=subprocess.STDOUT, text=True,
                              check=False, timeout=300)

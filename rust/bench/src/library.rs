@@ -1,7 +1,7 @@
 // SPDX-License-Identifier: Apache-2.0
 // SPDX-FileCopyrightText: Copyright the Vortex contributors
 
-//! What the cases call, of this crate. `tools/original/src/bench/library.rs` has the same of vortex-array.
+//! What the cases call, of this crate. `rust/original/src/bench/library.rs` has the same of vortex-array.
 
 pub use vortex_logical_types::{
     Arc, DType, DTypeSession as Session, Field, FieldName, FieldNames, FieldPath, FieldPathSet, Nullability, PType,

@@ -10,7 +10,7 @@
 //! It prints a line for each case, such as `find/mixed/wide/1000 54.2 57.0`: the nanoseconds of processor time of one
 //! operation, the least and the median of fifteen rounds. A round is a loop of about 3 ms, in which each result is dropped.
 //!
-//! `cases`, `fixture` and `meter` name vortex-array's calls, which the crate has too. `tools/original` compiles these files
+//! `cases`, `fixture` and `meter` name vortex-array's calls, which the crate has too. `rust/original` compiles these files
 //! a second time over vortex-array itself.
 
 mod cases;

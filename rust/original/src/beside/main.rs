@@ -14,7 +14,7 @@ mod sets;
 mod threads;
 #[allow(dead_code)]
 #[rustfmt::skip]
-#[path = "../../../../rust/vortex-logical-types/examples/vortex_array/translate.rs"]
+#[path = "../../../vortex-logical-types/examples/vortex_array/translate.rs"]
 mod translate;
 
 use std::collections::BTreeMap;

@@ -20,7 +20,7 @@ mod sets;
 mod shape;
 mod texts;
 #[rustfmt::skip]
-#[path = "../../../../rust/vortex-logical-types/examples/vortex_array/translate.rs"]
+#[path = "../../../vortex-logical-types/examples/vortex_array/translate.rs"]
 mod translate;
 mod types;
 

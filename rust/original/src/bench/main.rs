@@ -7,12 +7,12 @@
 //! It leaves out `project_paths` and `project_by_hand`, which the original doesn't have, merges of extensions, which it
 //! has no door for, and the covers of large path sets, which it finds by comparing all paths. It merges by hand.
 
-#[path = "../../../../rust/bench/src/cases.rs"]
+#[path = "../../../bench/src/cases.rs"]
 mod cases;
-#[path = "../../../../rust/bench/src/fixture.rs"]
+#[path = "../../../bench/src/fixture.rs"]
 mod fixture;
 mod library;
-#[path = "../../../../rust/bench/src/meter.rs"]
+#[path = "../../../bench/src/meter.rs"]
 mod meter;
 
 use std::env;

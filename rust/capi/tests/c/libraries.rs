@@ -129,6 +129,16 @@ fn a_program_prints_a_type_as_a_tree() {
 }
 
 #[test]
+fn each_measured_call_is_done() {
+    let program = compiled("measure", &["cc"], &["-std=c99"], &["tests/measure.c"]);
+    let names = succeeds(&mut Command::new(&program));
+    assert_eq!(names.lines().count(), 20);
+    for name in names.lines() {
+        succeeds(Command::new(&program).args([name, "2"]));
+    }
+}
+
+#[test]
 fn programs_are_built_with_pkg_config() {
     if !has("pkg-config", "the file for pkg-config") {
         return;

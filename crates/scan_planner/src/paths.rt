@@ -10,9 +10,10 @@ ghost use Rattle.vortex_dtype.specs.At.{ExistsIn};
 ghost use Rattle.vortex_dtype.specs.Distinct.{Distinct};
 ghost use Rattle.vortex_dtype.specs.PathOrder.{set_of};
 ghost use Rattle.vortex_dtype.specs.Types.Field.{Field};
+ghost use Rattle.vortex_dtype.specs.Types.VortexError.{VortexError};
 ghost use Rattle.vortex_dtype.specs.Types.VortexError.TheVariants.{OutOfMemory};
 ghost use Rattle.vortex_dtype.specs.Unresolved.{unresolved};
-ghost use Rattle.scan_planner.specs.declared.errors.PlanError.TheVariants.{Missing, NoCommonType, NoFiles};
+ghost use Rattle.scan_planner.specs.declared.errors.PlanError.TheVariants.{Library, Missing, NoCommonType, NoFiles};
 
 use crate::errors::PlanError;
 use std::alloc::Global;
@@ -32,6 +33,7 @@ pub fn check_paths(needed: &FieldPathSet, table: &DType) -> Result<(), PlanError
     ensures not_files { IsErrOf result NoFiles → ⊥ }
     ensures not_type { IsErrOf result NoCommonType → ⊥ }
     ensures missing { (p : List Field) → IsErrOf result (Missing p) → ExistsIn (tree table.now) p → ⊥ }
+    ensures library { (e : VortexError) → IsErrOf result (Library e) → e ≡ OutOfMemory }
 {
     match first_missing(needed, table)? {
         Some(path) => Err(PlanError::Missing(path.try_clone()?)),
@@ -46,6 +48,7 @@ fn first_missing<'a>(needed: &'a FieldPathSet, table: &DType) -> VortexResult<Op
         × ¬ (ExistsIn (tree table.now) p.now))) }
     ensures none { IfOk result (λ r. IfNone r ((p : List Field) → IsTrue (set.contains needed.now p)
         → ExistsIn (tree table.now) p)) }
+    ensures errors { IsOkUnless result OutOfMemory }
 {
     let missing = needed.unresolved(table)?;
     match missing.first() {
@@ -67,6 +70,7 @@ pub fn types_at(alloc: Global, paths: &[FieldPath], table: &DType) -> Result<Vec
     ensures not_files { IsErrOf result NoFiles → ⊥ }
     ensures not_type { IsErrOf result NoCommonType → ⊥ }
     ensures missing { (p : List Field) → IsErrOf result (Missing p) → ExistsIn (tree table.now) p → ⊥ }
+    ensures library { (e : VortexError) → IsErrOf result (Library e) → e ≡ OutOfMemory }
 {
     let mut types = Vec::new(alloc);
     for path in paths {

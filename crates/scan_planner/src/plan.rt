@@ -10,11 +10,12 @@ ghost use Rattle.dtype_types.specs.tree.Valid.{Valid};
 ghost use Rattle.vortex_dtype.specs.Along.{along};
 ghost use Rattle.vortex_dtype.specs.At.{ExistsIn};
 ghost use Rattle.vortex_dtype.specs.Types.Field.{Field};
+ghost use Rattle.vortex_dtype.specs.Types.VortexError.{VortexError};
 ghost use Rattle.vortex_dtype.specs.Types.VortexError.TheVariants.{OutOfMemory};
 ghost use Rattle.scan_planner.specs.Needs.{needed};
 ghost use Rattle.scan_planner.specs.Plans.{AllLack, AllOpen, AllRead};
 ghost use Rattle.scan_planner.specs.Tables.{AllLackPath, FillsAll, IsLeast, ReadsAll};
-ghost use Rattle.scan_planner.specs.declared.errors.PlanError.TheVariants.{Missing, NoCommonType, NoFiles};
+ghost use Rattle.scan_planner.specs.declared.errors.PlanError.TheVariants.{Library, Missing, NoCommonType, NoFiles};
 
 use crate::errors::PlanError;
 use crate::files::{FilePlan, plan_file};
@@ -67,6 +68,7 @@ pub fn plan_scan<'a>(
     ensures asked { (p : List Field) → IsErrOf result (Missing p)
         → IsTrue (set.contains (needed select.now filter.now) p) }
     ensures missing { (p : List Field) → IsErrOf result (Missing p) → AllLackPath (map tree files.now) p }
+    ensures library { (e : VortexError) → IsErrOf result (Library e) → e ≡ OutOfMemory }
 {
     let table = table_type(alloc, files)?;
     let needed_set = needed_paths(alloc, select, filter)?;

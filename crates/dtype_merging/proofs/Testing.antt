@@ -28,29 +28,8 @@ use Rattle.dtype_merging.proofs.Tagging.{Left, variants_left}
 use Rattle.dtype_merging.proofs.lemmas.Deciding.{nulls-Decides, subset-Decides}
 use Rattle.dtype_merging.proofs.lemmas.Finding.{Pairs, by_bool}
 use Rattle.dtype_merging.proofs.lemmas.Merging.{pick_false, pick_true}
-use Rattle.dtype_merging.proofs.lemmas.Order.{plain}
 
 -- ---- types whose parts aren't read one by one
-
--- of two kinds
-pub apart_readable : (t u : Tree) → kind t ≢ kind u → readable t u ≡ plain_readable t u
-apart_readable (list t m) (list u n) ne = absurd (ne refl)
-apart_readable (fixed_size_list t j m) (fixed_size_list u k n) ne = absurd (ne refl)
-apart_readable (map_of t v x m) (map_of u w y n) ne = absurd (ne refl)
-apart_readable (struct fs m) (struct gs n) ne = absurd (ne refl)
-apart_readable (union vs m) (union ws n) ne = absurd (ne refl)
-apart_readable (extension i a t) (extension j b u) ne = absurd (ne refl)
-apart_readable t u ne = refl
-
--- without parts
-pub plainly_readable : (t u : Tree) → plain t ≡ true → readable t u ≡ plain_readable t u
-plainly_readable (list t m) u p = absurd (false≢true p)
-plainly_readable (fixed_size_list t j m) u p = absurd (false≢true p)
-plainly_readable (map_of t v x m) u p = absurd (false≢true p)
-plainly_readable (struct fs m) u p = absurd (false≢true p)
-plainly_readable (union vs m) u p = absurd (false≢true p)
-plainly_readable (extension i a t) u p = absurd (false≢true p)
-plainly_readable t u p = refl
 
 -- what a call tells of the nullability of a type
 pub told_nullable : (r : Bool) (t : Tree) → IsTrue r ↔ IsNullable t → r ≡ is_null_allowed (nullability t)

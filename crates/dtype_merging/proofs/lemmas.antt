@@ -16,3 +16,4 @@ pub mod Conflicting
 pub mod AllMerged
 pub mod Paths
 pub mod Deciding
+pub mod MergedColumns

@@ -27,6 +27,8 @@ pub use Rattle.dtype_paths.proofs.lemmas.SetRelations.{set_relations}
 pub use Rattle.dtype_paths.proofs.lemmas.Stepping.{stepped_masks, stepping, types_along}
 pub use Rattle.dtype_paths.proofs.lemmas.Unresolved.{unresolved_paths}
 pub use Rattle.dtype_projection.proofs.lemmas.Projecting.{projecting, projecting_one}
+-- of dtype_merging: which types can be read as which, and what two types are merged to by columns
+pub use Rattle.dtype_merging.proofs.lemmas.MergedColumns.{merging_columns}
 -- of vortex_dtype: sessions; and what callers of the crates below need and their own proofs don't: names that are among
 -- the names of fields, also each of many, fields that a contract names one after another, counts, and values at a path at
 -- which there is no type

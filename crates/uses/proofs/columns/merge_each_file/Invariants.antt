@@ -1,0 +1,11 @@
+-- SPDX-License-Identifier: Apache-2.0
+-- SPDX-FileCopyrightText: Copyright the Vortex contributors
+
+use Rattle.std.proofs.Common.{◌≡◌, drop, map}
+use Rattle.vortex_dtype.specs.AllMerged.{all_columns_merged}
+use Rattle.vortex_dtype.specs.TreeOf.{tree}
+use Rattle.uses.proofs.columns.merge_each_file.Given as goal
+
+-- what is merged so far, merged with those that are left, is what all are merged to
+abbrev pub invariant-loop-other : goal.invariant-loop-other
+invariant-loop-other l = all_columns_merged (tree l.merged) (map tree (drop l.other-index l.others)) ≡ all_columns_merged (tree l.first) (map tree l.others)

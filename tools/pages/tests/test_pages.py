@@ -24,7 +24,9 @@ CHANGES = [
     ("docs/TRUST.md", "", "\n```sh\ntools/gone\n```\n", "docs/TRUST.md: there is no tools/gone"),
     ("docs/TRUST.md", "", "\n`tools/mutations dtype_base`\n", "docs/TRUST.md: tools/mutations is a folder"),
     ("docs/TRUST.md", "", "\n`tools/pages/reference --chek`\n", "docs/TRUST.md: tools/pages/reference has no --chek"),
-    ("Cargo.toml", "[workspace.package]\n", '[workspace.package]\nversion = "0.1.9"\n', "Cargo.toml: its version is 0.1.9, and the newest"),
+    ("Cargo.toml", "[workspace.package]\n", '[workspace.package]\nversion = "0.1.9"\n', "pages: Cargo.toml: its version is 0.1.9, and the newest"),
+    ("python/Cargo.toml", "[package]\n", '[package]\nversion = "0.1.8"\n', "python/Cargo.toml: its version is 0.1.8, and the newest"),
+    ("python/vortex_logical_types/__init__.py", "__version__", '__version__ = "0.1.7"\n__version__', "its version is 0.1.7, and the"),
 ]
 
 

@@ -336,6 +336,12 @@ erased!(
     "/// A plugin.\n///\n/// Each implementation has to obey two laws, which `check_plugin` tries on samples. Others (like this) stay.\npub fn f() {}\n"
 );
 
+erased!(
+    says_in_docs_what_is_not_specified,
+    "//! Here the contract says more.\n\n/// Reads it. For another type, the contract doesn't specify\n/// the result.\n///\n/// If it isn't valid, the contract leaves open which name it has, and the contract doesn't specify which type.\npub fn f() {}\n",
+    "//! Here the contract says more.\n\n/// Reads it. For another type, the result isn't specified.\n///\n/// If it isn't valid, it isn't specified which name it has, and it isn't specified which type.\npub fn f() {}\n"
+);
+
 // ---- Conditions ----
 
 erased!(

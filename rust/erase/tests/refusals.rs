@@ -125,6 +125,13 @@ refused!(
     "struct S;\n\n/// Asks the allocator.\nfn f() {}\n"
 );
 
+refused!(
+    other_sentence_about_the_contract,
+    3,
+    "a doc comment that isn't known",
+    "struct S;\n\n/// Does what the contract says.\nfn f() {}\n"
+);
+
 // A number ends before a method.
 refused!(clone_of_a_field, 2, "means something else", "fn f(x: (u8, u8)) {\n    g(x.0.clone());\n}\n");
 

@@ -2,7 +2,8 @@
 // SPDX-FileCopyrightText: Copyright the Vortex contributors
 
 //! Doc comments. A sentence about what the caller must prove becomes one about a panic, because the condition is checked.
-//! Sentences about the allocator, and about what a value is in contracts, go. All others stay as they are.
+//! What a contract doesn't specify just isn't specified. Sentences about the allocator, and about what a value is in
+//! contracts, go. All others stay as they are.
 
 use super::Context;
 use crate::edits::Edits;
@@ -34,7 +35,7 @@ const MEANING: &str = "In contracts ";
 const CUT: [&str; 3] = [", so it doesn't use `_alloc`", ", so `_alloc` isn't used", " from the allocator of"];
 
 // Words that become others, in this order.
-const WORDS: [(&str, &str); 11] = [
+const WORDS: [(&str, &str); 14] = [
     ("The caller must prove that the iterator ends", "The iterator must end"),
     ("The caller must prove that ", "The call panics unless "),
     ("the caller must prove that ", "the call panics unless "),
@@ -51,6 +52,9 @@ const WORDS: [(&str, &str); 11] = [
     ),
     ("its contract requires that kind", "it panics for a type of another kind"),
     ("`as_struct_fields` requires `Kind::Struct`", "`as_struct_fields` panics unless the kind is `Kind::Struct`"),
+    ("the contract doesn't specify the result", "the result isn't specified"),
+    ("the contract doesn't specify which ", "it isn't specified which "),
+    ("the contract leaves open which ", "it isn't specified which "),
     // (The modules of laws go.)
     (" ([`laws`])", ""),
 ];
@@ -58,8 +62,9 @@ const WORDS: [(&str, &str); 11] = [
 // What stands in parentheses goes if it refers to a law or to a definition.
 const REFERENCES: [&str; 2] = ["`laws::", "`specs/"];
 
-// Words that no doc comment has after that.
+// Words that no doc comment has after that, and those that only the comment of a module may have.
 const LEFT: [&str; 4] = ["_alloc", "(alloc", "the allocator", "must prove"];
+const OF_MODULES: &str = "the contract";
 
 /// Translates the doc comments.
 pub fn apply(context: Context<'_>, edits: &mut Edits) -> Result<()> {
@@ -76,7 +81,10 @@ pub fn apply(context: Context<'_>, edits: &mut Edits) -> Result<()> {
             let old: Vec<&str> = (at..end).map(|line| file.word(line)).collect();
             let column = column(&file.text, file.start(at));
             let new = translated(&old, column);
-            if let Some(line) = new.iter().find(|line| LEFT.iter().any(|left| line.contains(left))) {
+            let is_left = |line: &&String| {
+                LEFT.iter().any(|left| line.contains(left)) || kind == Some(Kind::Doc) && line.contains(OF_MODULES)
+            };
+            if let Some(line) = new.iter().find(is_left) {
                 return Err(file.error(at, format!("a doc comment that isn't known: {line}")));
             }
             if new != old {

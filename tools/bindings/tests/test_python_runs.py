@@ -26,6 +26,10 @@ FILES = {
     "python/vortex_logical_types/py.typed": "",
     "python/example.py": 'print("customer.city = utf8?\\n{customer={city=utf8?}, lines=list({sku=utf8})}")\n',
     "python/example_columns.py": 'print("customer: {city=utf8?}?\\nlines: list({price=decimal(10,2)?}?)?")\n',
+    "python/example_merge_files.py": 'print("merged")\n',
+    "python/example_registry.py": 'print("registered")\n',
+    "rust/vortex-logical-types/examples/merge_files.txt": "merged\n",
+    "rust/vortex-logical-types/examples/registry.txt": "registered\n",
     "python/tests/test_two.py": "import unittest\n\nimport vortex_logical_types\n\n\nclass Two(unittest.TestCase):\n"
                                 "    def test_one(self):\n        self.assertEqual(vortex_logical_types.__version__, '1.2.3')\n\n"
                                 "    def test_other(self):\n        self.assertEqual(2, 2)\n",
@@ -52,9 +56,11 @@ class PythonRuns(Planted):
     def test_tells_what_is_wrong(self):
         self.change("python/tests/test_two.py", "(2, 2)", "(2, 3)")
         self.change("python/example.py", "city = utf8?", "city = utf8")
+        self.change("python/example_registry.py", "registered", "refused")
         self.write("python/README.md", README.replace("print(1)", "print(2)"))
         self.write("Cargo.toml", '[workspace.package]\nversion = "1.2.4"\n')
-        self.assert_told("python_runs", "FAIL: test_other", "example.py: status 0", "a program of python/README.md: status 0",
+        self.assert_told("python_runs", "FAIL: test_other", "example.py: status 0",
+                         "example_registry.py: status 0", "a program of python/README.md: status 0",
                          "__version__: status 0")
 
     def test_tells_a_package_that_cannot_be_installed(self):

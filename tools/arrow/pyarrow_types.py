@@ -1,11 +1,16 @@
 # SPDX-License-Identifier: Apache-2.0
 # SPDX-FileCopyrightText: Copyright the Vortex contributors
 
-"""Reads the type of each type of pyarrow, writes it, has pyarrow import it, and reads that again. tools/arrow/producers runs it.
+"""Reads the type of each type of pyarrow, writes it, has pyarrow import it, and reads that again. It does the same with a data frame
+of pandas, if pandas is there. tools/arrow/producers runs it.
 The last line is `N passed, M failed`."""
 import sys
 
 import pyarrow as pa
+try:
+    import pandas
+except ImportError:
+    pandas = None
 from vortex_logical_types import DType, LibraryError
 
 # Each type of pyarrow, the type that is read of a nullable field of it, and what pyarrow imports of that type: the same type if
@@ -98,5 +103,15 @@ table = pa.table({"id": pa.array([b"x" * 16], pa.binary(16)), "city": pa.array([
 check("a table that is cast", table.cast(pa.schema(DType.from_arrow(table))).to_pydict(), table.to_pydict())
 check("its own forms", pa.schema(DType.from_arrow(table).to_arrow(like=table)), table.schema)
 check("a column", pa.schema(DType.from_arrow(table).project_paths(["city"]).to_arrow(like=table)), table.select(["city"]).schema)
+if pandas:
+    frame = pandas.DataFrame({
+        "id": pandas.array([1, 2], dtype="UInt64"), "city": ["a", None], "kind": pandas.Categorical(["x", "y"]), "part": [1.5, None],
+        "when": pandas.to_datetime(["2020-01-01", "2020-01-02"]).tz_localize("UTC"), "span": pandas.to_timedelta([1, 2], unit="s"),
+    })
+    read = DType.from_arrow(frame)
+    check("a data frame", read, DType("""{id=u64?, city=utf8?, kind=utf8?, part=f64?, when=vortex.timestamp[0x000300555443](i64?),
+        span=arrow.duration[0x74446e](i64?)}"""))
+    check("a data frame in its own forms", pa.schema(read.to_arrow(like=frame)), pa.table(frame).schema)
+    print(f"pandas {pandas.__version__}")
 print(f"pyarrow {pa.__version__}: {len(TYPES)} types\n{passed} passed, {failed} failed")
 sys.exit(bool(failed))

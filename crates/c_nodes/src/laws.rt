@@ -16,8 +16,10 @@ ghost use Rattle.c_nodes.specs.declared.node.Node.{Node};
 /// For example, `read_flat` returns the message of booleans for the node of kind 2 without texts, because that is its only
 /// node. So it returns a fault only if no such message has these nodes and texts.
 pub fn what_is_flat_is_read()
-    ensures read { (nodes : List Node) (texts : List ℕ) (m : Message) → read_flat nodes texts ≡ Ok m → IsFlat nodes texts m }
-    ensures flat { (nodes : List Node) (texts : List ℕ) (m : Message) → IsFlat nodes texts m → read_flat nodes texts ≡ Ok m }
+    ensures read { (nodes : List Node) (texts : List ℕ) (m : Message) → read_flat nodes texts ≡ Ok m
+        → IsFlat nodes texts m }
+    ensures flat { (nodes : List Node) (texts : List ℕ) (m : Message) → IsFlat nodes texts m
+        → read_flat nodes texts ≡ Ok m }
 {}
 
 /// If nodes and texts are those of a message `m` and of a message `n`, then `m` and `n` are the same message.
@@ -25,7 +27,8 @@ pub fn what_is_flat_is_read()
 /// For example, no other message has the nodes of a struct with one field than this struct. So a program that passes a
 /// message as nodes and texts loses nothing.
 pub fn nodes_and_texts_are_of_one_message()
-    ensures { (nodes : List Node) (texts : List ℕ) (m n : Message) → IsFlat nodes texts m → IsFlat nodes texts n → m ≡ n }
+    ensures { (nodes : List Node) (texts : List ℕ) (m n : Message) → IsFlat nodes texts m
+        → IsFlat nodes texts n → m ≡ n }
 {}
 
 /// Nodes are too deep only if more than 128 of them are of kinds that may have parts.
@@ -33,5 +36,6 @@ pub fn nodes_and_texts_are_of_one_message()
 /// For example, 128 lists, each of which is the element type of the one before it, are never too deep, whatever follows
 /// them.
 pub fn only_many_nodes_are_too_deep()
-    ensures { (nodes : List Node) (texts : List ℕ) → read_flat nodes texts ≡ Err TooDeep → 128 < holders nodes }
+    ensures { (nodes : List Node) (texts : List ℕ) → read_flat nodes texts ≡ Err TooDeep
+        → 128 < holders nodes }
 {}

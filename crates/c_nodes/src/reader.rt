@@ -45,7 +45,8 @@ pub fn message_of(alloc: Global, nodes: &[Node], texts: &[u8]) -> Result<pb::DTy
     // The nodes and the texts are those of the message.
     ensures flat { IfOk result (λ m. IsFlat nodes.now texts.now (message m)) }
     // What is flat is read, unless memory runs out.
-    ensures only { (m : Message) → IsFlat nodes.now texts.now m → MatchResult result (λ d. message d ≡ m) (λ e. e ≡ OutOfMemory) }
+    ensures only { (m : Message) → IsFlat nodes.now texts.now m
+        → MatchResult result (λ d. message d ≡ m) (λ e. e ≡ OutOfMemory) }
     // Each level needs a node that may have parts.
     ensures too_deep { IfErr result (λ e. e ≡ TooDeep → 128 < holders nodes.now) }
 {
@@ -136,7 +137,8 @@ impl<'a> Rest<'a> {
 
     // Takes this many names with their nodes.
     fn names(&mut self, alloc: Global, wanted: u32) -> Result<Vec<String>, NodeFault>
-        ensures { Reads (λ v. map string_bytes v.items) result (left self.new) (times wanted name_at (left self.old)) }
+        ensures { Reads (λ v. map string_bytes v.items) result (left self.new)
+            (times wanted name_at (left self.old)) }
     {
         let mut names = Vec::with_capacity(alloc, self.at_most(wanted))?;
         for _at in 0..wanted {
@@ -173,7 +175,8 @@ impl<'a> Rest<'a> {
     // Takes this many tags.
     #[tactic(auto, using(crate::proofs::Reading::times_more))]
     fn tags(&mut self, alloc: Global, wanted: u32) -> Result<Vec<i32>, NodeFault>
-        ensures { Reads (λ v. v.items) result (left self.new) (times wanted tag_at (left self.old)) }
+        ensures { Reads (λ v. v.items) result (left self.new)
+            (times wanted tag_at (left self.old)) }
     {
         let mut tags = Vec::with_capacity(alloc, self.at_most(wanted))?;
         for _at in 0..wanted {
@@ -221,7 +224,8 @@ fn read_kind(
     rest: &mut Rest<'_>,
     levels: u32,
 ) -> Result<pb::DType, NodeFault>
-    ensures { Reads message result (left rest.new) (after_kind (part_at levels) kind (left rest.old)) }
+    ensures { Reads message result (left rest.new)
+        (after_kind (part_at levels) kind (left rest.old)) }
 {
     let read = match kind {
         NodeKind::Missing => return Ok(pb::DType { dtype_type: None }),
@@ -296,7 +300,8 @@ fn read_list(
     nullable: bool,
     levels: u32,
 ) -> Result<pb::DtypeType, NodeFault>
-    ensures { Reads kind_message result (left rest.new) (list_by (part_at levels) has_element nullable (left rest.old)) }
+    ensures { Reads kind_message result (left rest.new)
+        (list_by (part_at levels) has_element nullable (left rest.old)) }
 {
     let element_type = read_child(alloc, rest, has_element, levels)?;
     let list = pb::List {
@@ -317,7 +322,8 @@ fn read_fixed(
     nullable: bool,
     levels: u32,
 ) -> Result<pb::DtypeType, NodeFault>
-    ensures { Reads kind_message result (left rest.new) (fixed_by (part_at levels) has_element size nullable (left rest.old)) }
+    ensures { Reads kind_message result (left rest.new)
+        (fixed_by (part_at levels) has_element size nullable (left rest.old)) }
 {
     let element_type = read_child(alloc, rest, has_element, levels)?;
     let list = pb::FixedSizeList {
@@ -339,7 +345,8 @@ fn read_map(
     nullable: bool,
     levels: u32,
 ) -> Result<pb::DtypeType, NodeFault>
-    ensures { Reads kind_message result (left rest.new) (map_by (part_at levels) has.0 has.1 keys_sorted nullable (left rest.old)) }
+    ensures { Reads kind_message result (left rest.new)
+        (map_by (part_at levels) has.0 has.1 keys_sorted nullable (left rest.old)) }
 {
     let (has_key, has_value) = has;
     let key_type = read_child(alloc, rest, has_key, levels)?;
@@ -364,7 +371,8 @@ fn read_struct(
     nullable: bool,
     levels: u32,
 ) -> Result<pb::DtypeType, NodeFault>
-    ensures { Reads kind_message result (left rest.new) (struct_by (part_at levels) names types nullable (left rest.old)) }
+    ensures { Reads kind_message result (left rest.new)
+        (struct_by (part_at levels) names types nullable (left rest.old)) }
 {
     let names = rest.names(alloc, names)?;
     let dtypes = read_all(alloc, rest, types, levels)?;
@@ -385,7 +393,8 @@ fn read_union(
     nullable: bool,
     levels: u32,
 ) -> Result<pb::DtypeType, NodeFault>
-    ensures { Reads kind_message result (left rest.new) (union_by (part_at levels) counts.0 counts.1 counts.2 nullable (left rest.old)) }
+    ensures { Reads kind_message result (left rest.new)
+        (union_by (part_at levels) counts.0 counts.1 counts.2 nullable (left rest.old)) }
 {
     let (names, tags, types) = counts;
     let names = rest.names(alloc, names)?;
@@ -409,7 +418,8 @@ fn read_extension(
     has_metadata: bool,
     levels: u32,
 ) -> Result<pb::DtypeType, NodeFault>
-    ensures { Reads kind_message result (left rest.new) (extension_by (part_at levels) has_storage has_metadata (left rest.old)) }
+    ensures { Reads kind_message result (left rest.new)
+        (extension_by (part_at levels) has_storage has_metadata (left rest.old)) }
 {
     let id = rest.name(alloc)?;
     let metadata = rest.metadata(alloc, has_metadata)?;
@@ -455,7 +465,8 @@ fn read_child(
     is_there: bool,
     levels: u32,
 ) -> Result<Option<Box<pb::DType>>, NodeFault>
-    ensures { Reads child_message result (left rest.new) (child_by (part_at levels) is_there (left rest.old)) }
+    ensures { Reads child_message result (left rest.new)
+        (child_by (part_at levels) is_there (left rest.old)) }
 {
     if !is_there {
         return Ok(None);
@@ -472,7 +483,8 @@ fn read_all(
     wanted: u32,
     levels: u32,
 ) -> Result<Vec<pb::DType>, NodeFault>
-    ensures { Reads (λ v. map message v.items) result (left rest.new) (times wanted (part_at levels) (left rest.old)) }
+    ensures { Reads (λ v. map message v.items) result (left rest.new)
+        (times wanted (part_at levels) (left rest.old)) }
 {
     let mut protos = Vec::with_capacity(alloc, rest.at_most(wanted))?;
     for _at in 0..wanted {

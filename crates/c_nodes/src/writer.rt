@@ -56,7 +56,8 @@ pub fn nodes_of(alloc: Global, proto: &pb::DType) -> Result<(Vec<Node>, Vec<u8>)
 impl Flat {
     // Adds a node.
     fn node(&mut self, node: Node) -> Result<(), WriteFault>
-        ensures nodes { IfOk result (λ _. GrowsBy (node ∷ []) self.old.nodes.items self.new.nodes.items) }
+        ensures nodes { IfOk result
+            (λ _. GrowsBy (node ∷ []) self.old.nodes.items self.new.nodes.items) }
         ensures texts { self.new.texts.items ≡ self.old.texts.items }
         ensures errors { IfErr result (λ e. e ≢ TooDeep) }
         ensures too_great { IfErr result (λ e. e ≢ OutOfRange) }
@@ -67,8 +68,10 @@ impl Flat {
 
     // Adds a text with its node.
     fn text(&mut self, text: &[u8]) -> Result<(), WriteFault>
-        ensures nodes { IfOk result (λ _. GrowsBy (text_node text.now ∷ []) self.old.nodes.items self.new.nodes.items) }
-        ensures texts { IfOk result (λ _. GrowsBy text.now self.old.texts.items self.new.texts.items) }
+        ensures nodes { IfOk result
+            (λ _. GrowsBy (text_node text.now ∷ []) self.old.nodes.items self.new.nodes.items) }
+        ensures texts { IfOk result
+            (λ _. GrowsBy text.now self.old.texts.items self.new.texts.items) }
         ensures fits { IfOk result (λ _. length text.now ≤ most_in_node) }
         ensures errors { IfErr result (λ e. e ≢ TooDeep) }
         ensures too_great { IfErr result (λ e. e ≡ OutOfRange → most_in_node < length text.now) }
@@ -81,11 +84,14 @@ impl Flat {
     // Adds names with their nodes.
     #[tactic(auto, using(std::proofs::lemmas::Grind::common_steps, crate::proofs::Lists::longest_push))]
     fn names(&mut self, names: &[String]) -> Result<(), WriteFault>
-        ensures nodes { IfOk result (λ _. GrowsBy (map text_node (map string_bytes names.now)) self.old.nodes.items self.new.nodes.items) }
-        ensures texts { IfOk result (λ _. GrowsBy (flat_map (λ n. n) (map string_bytes names.now)) self.old.texts.items self.new.texts.items) }
+        ensures nodes { IfOk result (λ _. GrowsBy (map text_node (map string_bytes names.now))
+            self.old.nodes.items self.new.nodes.items) }
+        ensures texts { IfOk result (λ _. GrowsBy (flat_map (λ n. n) (map string_bytes names.now))
+            self.old.texts.items self.new.texts.items) }
         ensures fits { IfOk result (λ _. longest (map string_bytes names.now) ≤ most_in_node) }
         ensures errors { IfErr result (λ e. e ≢ TooDeep) }
-        ensures too_great { IfErr result (λ e. e ≡ OutOfRange → most_in_node < longest (map string_bytes names.now)) }
+        ensures too_great { IfErr result (λ e. e ≡ OutOfRange
+            → most_in_node < longest (map string_bytes names.now)) }
     {
         for name in names {
             self.text(name.as_bytes())?;
@@ -95,7 +101,8 @@ impl Flat {
 
     // Adds tags.
     fn tags(&mut self, tags: &[i32]) -> Result<(), WriteFault>
-        ensures nodes { IfOk result (λ _. GrowsBy (map tag_node tags.now) self.old.nodes.items self.new.nodes.items) }
+        ensures nodes { IfOk result
+            (λ _. GrowsBy (map tag_node tags.now) self.old.nodes.items self.new.nodes.items) }
         ensures texts { IfOk result (λ _. self.new.texts.items ≡ self.old.texts.items) }
         ensures errors { IfErr result (λ e. e ≢ TooDeep) }
         ensures too_great { IfErr result (λ e. e ≢ OutOfRange) }
@@ -108,11 +115,14 @@ impl Flat {
 
     // Adds the metadata of an extension, if there is any.
     fn metadata(&mut self, metadata: &Option<Vec<u8>>) -> Result<(), WriteFault>
-        ensures nodes { IfOk result (λ _. GrowsBy (bytes_nodes (bytes_of metadata.now)) self.old.nodes.items self.new.nodes.items) }
-        ensures texts { IfOk result (λ _. GrowsBy (bytes_texts (bytes_of metadata.now)) self.old.texts.items self.new.texts.items) }
+        ensures nodes { IfOk result (λ _. GrowsBy (bytes_nodes (bytes_of metadata.now))
+            self.old.nodes.items self.new.nodes.items) }
+        ensures texts { IfOk result (λ _. GrowsBy (bytes_texts (bytes_of metadata.now))
+            self.old.texts.items self.new.texts.items) }
         ensures fits { IfOk result (λ _. bytes_count (bytes_of metadata.now) ≤ most_in_node) }
         ensures errors { IfErr result (λ e. e ≢ TooDeep) }
-        ensures too_great { IfErr result (λ e. e ≡ OutOfRange → most_in_node < bytes_count (bytes_of metadata.now)) }
+        ensures too_great { IfErr result (λ e. e ≡ OutOfRange
+            → most_in_node < bytes_count (bytes_of metadata.now)) }
     {
         match metadata {
             Some(bytes) => self.text(bytes),
@@ -123,12 +133,15 @@ impl Flat {
     // Adds a message, with at most so many levels below it.
     #[cycle(writing)]
     fn message(&mut self, proto: &pb::DType, levels: u32) -> Result<(), WriteFault>
-        ensures nodes { WritesNodes result (message proto.now) self.old.nodes.items self.new.nodes.items }
-        ensures texts { WritesTexts result (message proto.now) self.old.texts.items self.new.texts.items }
+        ensures nodes { WritesNodes result
+            (message proto.now) self.old.nodes.items self.new.nodes.items }
+        ensures texts { WritesTexts result
+            (message proto.now) self.old.texts.items self.new.texts.items }
         ensures depth { IfOk result (λ _. depth (message proto.now) ≤ levels) }
         ensures too_deep { IfErr result (λ e. e ≡ TooDeep → levels < depth (message proto.now)) }
         ensures fits { IfOk result (λ _. greatest (message proto.now) ≤ most_in_node) }
-        ensures too_great { IfErr result (λ e. e ≡ OutOfRange → most_in_node < greatest (message proto.now)) }
+        ensures too_great { IfErr result (λ e. e ≡ OutOfRange
+            → most_in_node < greatest (message proto.now)) }
     {
         match &proto.dtype_type {
             Some(kind) => self.kind(kind, levels),
@@ -139,12 +152,16 @@ impl Flat {
     // Adds the message of a kind.
     #[cycle(writing)]
     fn kind(&mut self, kind: &pb::DtypeType, levels: u32) -> Result<(), WriteFault>
-        ensures nodes { WritesNodes result (kind_message kind.now) self.old.nodes.items self.new.nodes.items }
-        ensures texts { WritesTexts result (kind_message kind.now) self.old.texts.items self.new.texts.items }
+        ensures nodes { WritesNodes result
+            (kind_message kind.now) self.old.nodes.items self.new.nodes.items }
+        ensures texts { WritesTexts result
+            (kind_message kind.now) self.old.texts.items self.new.texts.items }
         ensures depth { IfOk result (λ _. depth (kind_message kind.now) ≤ levels) }
-        ensures too_deep { IfErr result (λ e. e ≡ TooDeep → levels < depth (kind_message kind.now)) }
+        ensures too_deep { IfErr result (λ e. e ≡ TooDeep
+            → levels < depth (kind_message kind.now)) }
         ensures fits { IfOk result (λ _. greatest (kind_message kind.now) ≤ most_in_node) }
-        ensures too_great { IfErr result (λ e. e ≡ OutOfRange → most_in_node < greatest (kind_message kind.now)) }
+        ensures too_great { IfErr result (λ e. e ≡ OutOfRange
+            → most_in_node < greatest (kind_message kind.now)) }
     {
         match kind {
             pb::DtypeType::Null(_) => self.node(node::plain(1)),
@@ -203,12 +220,18 @@ impl Flat {
         nullable: bool,
         levels: u32,
     ) -> Result<(), WriteFault>
-        ensures nodes { WritesNodes result (map_with key.now value.now keys_sorted nullable) self.old.nodes.items self.new.nodes.items }
-        ensures texts { WritesTexts result (map_with key.now value.now keys_sorted nullable) self.old.texts.items self.new.texts.items }
-        ensures depth { IfOk result (λ _. depth (map_with key.now value.now keys_sorted nullable) ≤ levels) }
-        ensures too_deep { IfErr result (λ e. e ≡ TooDeep → levels < depth (map_with key.now value.now keys_sorted nullable)) }
-        ensures fits { IfOk result (λ _. greatest (map_with key.now value.now keys_sorted nullable) ≤ most_in_node) }
-        ensures too_great { IfErr result (λ e. e ≡ OutOfRange → most_in_node < greatest (map_with key.now value.now keys_sorted nullable)) }
+        ensures nodes { WritesNodes result (map_with key.now value.now keys_sorted nullable)
+            self.old.nodes.items self.new.nodes.items }
+        ensures texts { WritesTexts result (map_with key.now value.now keys_sorted nullable)
+            self.old.texts.items self.new.texts.items }
+        ensures depth { IfOk result
+            (λ _. depth (map_with key.now value.now keys_sorted nullable) ≤ levels) }
+        ensures too_deep { IfErr result (λ e. e ≡ TooDeep
+            → levels < depth (map_with key.now value.now keys_sorted nullable)) }
+        ensures fits { IfOk result
+            (λ _. greatest (map_with key.now value.now keys_sorted nullable) ≤ most_in_node) }
+        ensures too_great { IfErr result (λ e. e ≡ OutOfRange
+            → most_in_node < greatest (map_with key.now value.now keys_sorted nullable)) }
     {
         let (has_key, has_value) = (key.is_some(), value.is_some());
         self.node(node::map_node(has_key, has_value, keys_sorted, nullable))?;
@@ -227,12 +250,18 @@ impl Flat {
         nullable: bool,
         levels: u32,
     ) -> Result<(), WriteFault>
-        ensures nodes { WritesNodes result (struct_of names.now dtypes.now nullable) self.old.nodes.items self.new.nodes.items }
-        ensures texts { WritesTexts result (struct_of names.now dtypes.now nullable) self.old.texts.items self.new.texts.items }
-        ensures depth { IfOk result (λ _. depth (struct_of names.now dtypes.now nullable) ≤ levels) }
-        ensures too_deep { IfErr result (λ e. e ≡ TooDeep → levels < depth (struct_of names.now dtypes.now nullable)) }
-        ensures fits { IfOk result (λ _. greatest (struct_of names.now dtypes.now nullable) ≤ most_in_node) }
-        ensures too_great { IfErr result (λ e. e ≡ OutOfRange → most_in_node < greatest (struct_of names.now dtypes.now nullable)) }
+        ensures nodes { WritesNodes result
+            (struct_of names.now dtypes.now nullable) self.old.nodes.items self.new.nodes.items }
+        ensures texts { WritesTexts result
+            (struct_of names.now dtypes.now nullable) self.old.texts.items self.new.texts.items }
+        ensures depth { IfOk result
+            (λ _. depth (struct_of names.now dtypes.now nullable) ≤ levels) }
+        ensures too_deep { IfErr result (λ e. e ≡ TooDeep
+            → levels < depth (struct_of names.now dtypes.now nullable)) }
+        ensures fits { IfOk result
+            (λ _. greatest (struct_of names.now dtypes.now nullable) ≤ most_in_node) }
+        ensures too_great { IfErr result (λ e. e ≡ OutOfRange
+            → most_in_node < greatest (struct_of names.now dtypes.now nullable)) }
     {
         let (name_count, types) = (number_of(names.len())?, number_of(dtypes.len())?);
         self.node(node::fields_node(10, name_count, 0, types, nullable))?;
@@ -252,12 +281,18 @@ impl Flat {
         nullable: bool,
         levels: u32,
     ) -> Result<(), WriteFault>
-        ensures nodes { WritesNodes result (union_of names.now type_ids.now dtypes.now nullable) self.old.nodes.items self.new.nodes.items }
-        ensures texts { WritesTexts result (union_of names.now type_ids.now dtypes.now nullable) self.old.texts.items self.new.texts.items }
-        ensures depth { IfOk result (λ _. depth (union_of names.now type_ids.now dtypes.now nullable) ≤ levels) }
-        ensures too_deep { IfErr result (λ e. e ≡ TooDeep → levels < depth (union_of names.now type_ids.now dtypes.now nullable)) }
-        ensures fits { IfOk result (λ _. greatest (union_of names.now type_ids.now dtypes.now nullable) ≤ most_in_node) }
-        ensures too_great { IfErr result (λ e. e ≡ OutOfRange → most_in_node < greatest (union_of names.now type_ids.now dtypes.now nullable)) }
+        ensures nodes { WritesNodes result (union_of names.now type_ids.now dtypes.now nullable)
+            self.old.nodes.items self.new.nodes.items }
+        ensures texts { WritesTexts result (union_of names.now type_ids.now dtypes.now nullable)
+            self.old.texts.items self.new.texts.items }
+        ensures depth { IfOk result
+            (λ _. depth (union_of names.now type_ids.now dtypes.now nullable) ≤ levels) }
+        ensures too_deep { IfErr result (λ e. e ≡ TooDeep
+            → levels < depth (union_of names.now type_ids.now dtypes.now nullable)) }
+        ensures fits { IfOk result
+            (λ _. greatest (union_of names.now type_ids.now dtypes.now nullable) ≤ most_in_node) }
+        ensures too_great { IfErr result (λ e. e ≡ OutOfRange
+            → most_in_node < greatest (union_of names.now type_ids.now dtypes.now nullable)) }
     {
         let (name_count, types) = (number_of(names.len())?, number_of(dtypes.len())?);
         let tags = number_of(type_ids.len())?;
@@ -278,12 +313,18 @@ impl Flat {
         storage: &Option<Box<pb::DType>>,
         levels: u32,
     ) -> Result<(), WriteFault>
-        ensures nodes { WritesNodes result (extension_of id.now metadata.now storage.now) self.old.nodes.items self.new.nodes.items }
-        ensures texts { WritesTexts result (extension_of id.now metadata.now storage.now) self.old.texts.items self.new.texts.items }
-        ensures depth { IfOk result (λ _. depth (extension_of id.now metadata.now storage.now) ≤ levels) }
-        ensures too_deep { IfErr result (λ e. e ≡ TooDeep → levels < depth (extension_of id.now metadata.now storage.now)) }
-        ensures fits { IfOk result (λ _. greatest (extension_of id.now metadata.now storage.now) ≤ most_in_node) }
-        ensures too_great { IfErr result (λ e. e ≡ OutOfRange → most_in_node < greatest (extension_of id.now metadata.now storage.now)) }
+        ensures nodes { WritesNodes result (extension_of id.now metadata.now storage.now)
+            self.old.nodes.items self.new.nodes.items }
+        ensures texts { WritesTexts result (extension_of id.now metadata.now storage.now)
+            self.old.texts.items self.new.texts.items }
+        ensures depth { IfOk result
+            (λ _. depth (extension_of id.now metadata.now storage.now) ≤ levels) }
+        ensures too_deep { IfErr result (λ e. e ≡ TooDeep
+            → levels < depth (extension_of id.now metadata.now storage.now)) }
+        ensures fits { IfOk result
+            (λ _. greatest (extension_of id.now metadata.now storage.now) ≤ most_in_node) }
+        ensures too_great { IfErr result (λ e. e ≡ OutOfRange
+            → most_in_node < greatest (extension_of id.now metadata.now storage.now)) }
     {
         let (has_storage, has_metadata) = (storage.is_some(), metadata.is_some());
         self.node(node::extension_node(has_storage, has_metadata))?;
@@ -296,12 +337,15 @@ impl Flat {
     // Adds a part, a level deeper.
     #[cycle(writing)]
     fn part(&mut self, proto: &pb::DType, levels: u32) -> Result<(), WriteFault>
-        ensures nodes { WritesNodes result (message proto.now) self.old.nodes.items self.new.nodes.items }
-        ensures texts { WritesTexts result (message proto.now) self.old.texts.items self.new.texts.items }
+        ensures nodes { WritesNodes result
+            (message proto.now) self.old.nodes.items self.new.nodes.items }
+        ensures texts { WritesTexts result
+            (message proto.now) self.old.texts.items self.new.texts.items }
         ensures depth { IfOk result (λ _. depth (message proto.now) < levels) }
         ensures too_deep { IfErr result (λ e. e ≡ TooDeep → levels ≤ depth (message proto.now)) }
         ensures fits { IfOk result (λ _. greatest (message proto.now) ≤ most_in_node) }
-        ensures too_great { IfErr result (λ e. e ≡ OutOfRange → most_in_node < greatest (message proto.now)) }
+        ensures too_great { IfErr result (λ e. e ≡ OutOfRange
+            → most_in_node < greatest (message proto.now)) }
     {
         match levels.checked_sub(1) {
             Some(levels) => self.message(proto, levels),
@@ -312,12 +356,16 @@ impl Flat {
     // Adds a part, if there is one, a level deeper.
     #[cycle(writing)]
     fn child(&mut self, child: &Option<Box<pb::DType>>, levels: u32) -> Result<(), WriteFault>
-        ensures nodes { IfOk result (λ _. GrowsBy (part_nodes (child_message child.now)) self.old.nodes.items self.new.nodes.items) }
-        ensures texts { IfOk result (λ _. GrowsBy (part_texts (child_message child.now)) self.old.texts.items self.new.texts.items) }
+        ensures nodes { IfOk result (λ _. GrowsBy (part_nodes (child_message child.now))
+            self.old.nodes.items self.new.nodes.items) }
+        ensures texts { IfOk result (λ _. GrowsBy (part_texts (child_message child.now))
+            self.old.texts.items self.new.texts.items) }
         ensures depth { IfOk result (λ _. depth_child (child_message child.now) ≤ levels) }
-        ensures too_deep { IfErr result (λ e. e ≡ TooDeep → levels < depth_child (child_message child.now)) }
+        ensures too_deep { IfErr result (λ e. e ≡ TooDeep
+            → levels < depth_child (child_message child.now)) }
         ensures fits { IfOk result (λ _. greatest_child (child_message child.now) ≤ most_in_node) }
-        ensures too_great { IfErr result (λ e. e ≡ OutOfRange → most_in_node < greatest_child (child_message child.now)) }
+        ensures too_great { IfErr result (λ e. e ≡ OutOfRange
+            → most_in_node < greatest_child (child_message child.now)) }
     {
         match child {
             Some(proto) => self.part(proto, levels),
@@ -329,12 +377,17 @@ impl Flat {
     #[cycle(writing)]
     #[tactic(auto, using(std::proofs::lemmas::Grind::common_steps, crate::proofs::Lists::parts_of_lists))]
     fn all(&mut self, protos: &[pb::DType], levels: u32) -> Result<(), WriteFault>
-        ensures nodes { IfOk result (λ _. GrowsBy (all_nodes (messages (map message protos.now))) self.old.nodes.items self.new.nodes.items) }
-        ensures texts { IfOk result (λ _. GrowsBy (all_texts (messages (map message protos.now))) self.old.texts.items self.new.texts.items) }
+        ensures nodes { IfOk result (λ _. GrowsBy (all_nodes (messages (map message protos.now)))
+            self.old.nodes.items self.new.nodes.items) }
+        ensures texts { IfOk result (λ _. GrowsBy (all_texts (messages (map message protos.now)))
+            self.old.texts.items self.new.texts.items) }
         ensures depth { IfOk result (λ _. depth_all (messages (map message protos.now)) ≤ levels) }
-        ensures too_deep { IfErr result (λ e. e ≡ TooDeep → levels < depth_all (messages (map message protos.now))) }
-        ensures fits { IfOk result (λ _. greatest_all (messages (map message protos.now)) ≤ most_in_node) }
-        ensures too_great { IfErr result (λ e. e ≡ OutOfRange → most_in_node < greatest_all (messages (map message protos.now))) }
+        ensures too_deep { IfErr result (λ e. e ≡ TooDeep
+            → levels < depth_all (messages (map message protos.now))) }
+        ensures fits { IfOk result
+            (λ _. greatest_all (messages (map message protos.now)) ≤ most_in_node) }
+        ensures too_great { IfErr result (λ e. e ≡ OutOfRange
+            → most_in_node < greatest_all (messages (map message protos.now))) }
     {
         for proto in protos {
             self.part(proto, levels)?;

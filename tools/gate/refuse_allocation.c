@@ -5,10 +5,9 @@
 //
 // Loaded before the C library (LD_PRELOAD), it looks at the stretches of the program between the lines `begin` and
 // `end` on standard error, or, where WHOLE is set, at the program from its start to its end. REFUSED=N makes the Nth
-// allocation of each stretch fail, or, where STRETCH=M is set, of the Mth stretch alone, and, where ONWARD is set, all
-// after it. When the program has ended, the file that COUNTS names has a line for each stretch: how many allocations
-// were asked for in it, how many of them failed, and how many of the blocks allocated in it were never freed. The last
-// line is that of the rest of the program, where no allocation fails.
+// allocation of each stretch fail, and, where ONWARD is set, all after it. When the program has ended, the file that COUNTS
+// names has a line for each stretch: how many allocations were asked for in it, how many of them failed, and how many of
+// the blocks allocated in it were never freed. The last line is that of the rest of the program, where no allocation fails.
 #include <fcntl.h>
 #include <stdio.h>
 #include <stdlib.h>
@@ -34,11 +33,11 @@ static struct block {
 } blocks[MOST_BLOCKS];
 static int block_count;
 
-static long first_refused, stretch_refused, is_onward;
+static long first_refused, is_onward;
 
 static int refuses(void) {
     now->requests++;
-    if (now == &rest || first_refused <= 0 || (stretch_refused > 0 && now != &stretches[stretch_refused - 1]))
+    if (now == &rest || first_refused <= 0)
         return 0;
     int refused = is_onward ? now->requests >= first_refused : now->requests == first_refused;
     now->refused += refused;
@@ -106,7 +105,6 @@ static long setting(const char *name) {
 
 __attribute__((constructor)) static void load(void) {
     first_refused = setting("REFUSED");
-    stretch_refused = setting("STRETCH");
     is_onward = setting("ONWARD");
     if (setting("WHOLE"))
         begin();

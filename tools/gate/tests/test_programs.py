@@ -38,6 +38,15 @@ RUNS = [
 ]
 
 
+def hash_of(name):
+    """The hash of a name of 16 bytes, as `hash_of` in crates/dtype_base/src/name_key.rt computes it."""
+    number = len(name)
+    for half in (name[:8], name[8:]):
+        high, low = divmod((number + int.from_bytes(half, "big")) % 2**64 * 0x9E3779B97F4A7C15, 2**64)
+        number = (high + low) % 2**64
+    return number
+
+
 class Runs(Planted):
     def test_tells_each(self):
         self.write("crates/dtype_demo/stdout", "right\n")
@@ -75,9 +84,11 @@ class Runs(Planted):
                          "an input of 7 bytes: status 0", "no allocation fails: it made none", "names, on a stack of ",
                          "equal ends, in 2 seconds: status 0", "memory of 4194304 KB: status 0")
 
-    def test_has_names_of_one_hash_in_order(self):
-        names = self.read("tools/gate/names_of_one_hash").split()
+    def test_makes_names_of_one_hash_in_order(self):
+        subprocess.run(["cc", "-O2", "-o", "names", "tools/gate/names_of_one_hash.c"], cwd=self.top, check=True)
+        names = subprocess.run([f"{self.top}/names"], stdout=subprocess.PIPE, check=True).stdout.split()
         self.assertEqual((len(names), names), (4096, sorted(set(names))))
+        self.assertEqual(({len(it) for it in names}, len(set(map(hash_of, names)))), ({16}, 1))
 
     def test_tells_pages_that_do_not_compile(self):
         """Over an `rt` that looks for a function in each of the page's crates."""

@@ -5,6 +5,9 @@
 /usr/share/cargo/registry, as Debian's packages `librust-NAME-dev` fill it, the dependencies come from there and nothing is
 downloaded. Otherwise they come from Cargo's own registry."""
 import os
+import re
+
+from repository import text_of
 
 REGISTRY = "/usr/share/cargo/registry"
 FROM_REGISTRY = ["--offline", "--config", 'source.crates-io.replace-with="debian"',
@@ -16,3 +19,8 @@ CRATE = "rust/vortex-logical-types"
 def command(name, *words):
     """The command of Cargo of this name with these words."""
     return ["cargo", name, *(FROM_REGISTRY if os.path.isdir(REGISTRY) and name != "fmt" else []), *words]
+
+
+def version():
+    """The version of the workspace."""
+    return re.search(r'(?m)^version = "(.*)"$', text_of("Cargo.toml"))[1]

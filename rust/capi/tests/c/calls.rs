@@ -99,6 +99,16 @@ fn changed_schemas_of_arrow_are_refused() {
 }
 
 #[test]
+fn schemas_of_arrow_are_walked_and_made_again() {
+    // (functions of the test stand for those of the library, so nothing of the library is linked)
+    let files = [&["tests/arrow_walk.c", "arrow.c"], &ARROW[1..]].concat();
+    let options = [&["-std=c99", "-pthread"], &SANITIZERS[..]].concat();
+    let program = compiled("arrow_walk", &["cc"], &options, &files);
+    let count = if cfg!(debug_assertions) { 2000 } else { 10_000 };
+    counts(Command::new(program).arg(count.to_string()), 5 * count);
+}
+
+#[test]
 fn threads_hand_objects_to_one_another() {
     let files = ["tests/threads.c", "tests/heap.c"];
     let options = ["-std=c11", "-O1", "-g", "-pthread"];

@@ -23,7 +23,8 @@ pub(crate) fn entered_fields<'a>(
     fields: &StructFields,
     cursor: &FieldPathCursor<'a>,
 ) -> VortexResult<Vec<(usize, FieldPathCursor<'a>)>>
-    ensures { Makes result (λ m. AreEntered (contains_below cursor.now) (field_names (children fields.now)) m.items) }
+    ensures { Makes result
+        (λ m. AreEntered (contains_below cursor.now) (field_names (children fields.now)) m.items) }
 {
     let mut entered = looked_up(alloc, fields, cursor)?;
     entered.sort_unstable_by_key(|entry| entry.0);
@@ -36,7 +37,8 @@ fn looked_up<'a>(
     fields: &StructFields,
     cursor: &FieldPathCursor<'a>,
 ) -> VortexResult<Vec<(usize, FieldPathCursor<'a>)>>
-    ensures { Makes result (λ m. AreLookedUp (contains_below cursor.now) (field_names (children fields.now)) [] m.items) }
+    ensures { Makes result (λ m. AreLookedUp (contains_below cursor.now)
+        (field_names (children fields.now)) [] m.items) }
 {
     let names = cursor.names();
     let mut entered = Vec::with_capacity(alloc, names.len().min(fields.nfields()))?;

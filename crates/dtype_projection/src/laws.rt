@@ -40,7 +40,8 @@ pub fn a_type_is_kept_exactly_where_a_path_exists()
 ///
 /// About [`project_paths`].
 pub fn wanted_paths_resolve_as_before()
-    ensures { (t u : Tree) (w : PathPredicate) (p q : List Field) → projected t w ≡ Some u → IsTrue (w p)
+    ensures { (t u : Tree) (w : PathPredicate) (p q : List Field) → projected t w ≡ Some u
+        → IsTrue (w p)
         → Beginning p q → along u q ≡ along t q }
 {}
 
@@ -103,7 +104,8 @@ pub fn paths_lead_to_parts()
 /// About [`project_paths`].
 #[tactic(auto, using(crate::proofs::lemmas::Parts::kept_nullability))]
 pub fn projections_keep_the_nullability()
-    ensures { (t u : Tree) (w : PathPredicate) → projected t w ≡ Some u → nullability u ≡ nullability t }
+    ensures { (t u : Tree) (w : PathPredicate) → projected t w ≡ Some u
+        → nullability u ≡ nullability t }
 {}
 
 /// For each type `t` and all sets `r` and `s` of paths, the projection of `t` to `s` depends only on which paths `s`
@@ -192,11 +194,15 @@ pub fn projections_are_valid()
 /// About [`project_paths`].
 #[tactic(auto, using(crate::proofs::lemmas::Restrictions::of_restricted, crate::proofs::lemmas::Restrictions::onto, crate::proofs::lemmas::Restrictions::lost_through_extensions))]
 pub fn values_are_restricted()
-    ensures of { (t u : Tree) (w : PathPredicate) (v : Value) → projected t w ≡ Some u → Of v t → Of (restricted t w v) u }
-    ensures onto { (t u : Tree) (w : PathPredicate) (x : Value) → Valid t → projected t w ≡ Some u → Of x u
+    ensures of { (t u : Tree) (w : PathPredicate) (v : Value) → projected t w ≡ Some u → Of v t
+        → Of (restricted t w v) u }
+    ensures onto { (t u : Tree) (w : PathPredicate) (x : Value) → Valid t → projected t w ≡ Some u
+        → Of x u
         → ((v : Value) × Of v t × (restricted t w v ≡ x)) }
-    ensures found { (t : Tree) (w : PathPredicate) (p q : List Field) (v x : Value) → IsTrue (w p) → ExistsIn t p
+    ensures found { (t : Tree) (w : PathPredicate) (p q : List Field) (v x : Value) → IsTrue (w p)
+        → ExistsIn t p
         → Beginning p q → Of v t → (Found v q x ↔ Found (restricted t w v) q x) }
-    ensures beyond { (t u : Tree) × (w : PathPredicate) × (p : List Field) × (v x : Value) × (projected t w ≡ Some u)
+    ensures beyond { (t u : Tree) × (w : PathPredicate) × (p : List Field) × (v x : Value)
+        × (projected t w ≡ Some u)
         × IsTrue (w p) × Of v t × Found v p x × ¬ (Found (restricted t w v) p x) }
 {}

@@ -68,15 +68,18 @@ pub fn project_paths(
     dtype: &DType,
     paths: &FieldPathSet,
 ) -> VortexResult<Option<DType>>
-    ensures ok { Makes result (λ r. option_map tree r ≡ projected (tree dtype.now) (set.contains paths.now)) }
-    ensures some { IfOk result (λ r. IsSome r ↔ ((p : List Field) × IsTrue (set.contains paths.now p)
+    ensures ok { Makes result
+        (λ r. option_map tree r ≡ projected (tree dtype.now) (set.contains paths.now)) }
+    ensures some { IfOk result (λ r. IsSome r
+        ↔ ((p : List Field) × IsTrue (set.contains paths.now p)
         × ExistsIn (tree dtype.now) p)) }
     ensures kept { IfOk result (λ r. IfSome r (λ u. (q : List Field) → IsTrue (covers paths.now q)
         → along (tree u) q ≡ along (tree dtype.now) q)) }
     ensures only { IfOk result (λ r. IfSome r (λ u. (q : List Field) → (ExistsIn (tree u) q
         ↔ (ExistsIn (tree dtype.now) q × ((p : List Field) × IsTrue (set.contains paths.now p)
         × ExistsIn (tree dtype.now) p × Overlaps p q))))) }
-    ensures nullability { IfOk result (λ r. IfSome r (λ u. nullability (tree u) ≡ nullability (tree dtype.now))) }
+    ensures nullability { IfOk result
+        (λ r. IfSome r (λ u. nullability (tree u) ≡ nullability (tree dtype.now))) }
     ensures valid { Valid (tree dtype.now) → IfOk result (λ r. IfSome r (λ u. Valid (tree u))) }
     ensures values { IfOk result (λ r. IfSome r (λ u. (v : Value) → Of v (tree dtype.now)
         → Of (restricted (tree dtype.now) (set.contains paths.now) v) (tree u))) }
@@ -93,7 +96,8 @@ fn project(
     dtype: &DType,
     cursor: &FieldPathCursor<'_>,
 ) -> VortexResult<Option<DType>>
-    ensures { Makes result (λ r. option_map tree r ≡ projected (tree dtype.now) (contains_below cursor.now)) }
+    ensures { Makes result
+        (λ r. option_map tree r ≡ projected (tree dtype.now) (contains_below cursor.now)) }
 {
     if cursor.is_end() {
         return Ok(Some(dtype.try_clone(alloc)?));
@@ -110,7 +114,8 @@ fn project_parts(
     cursor: &FieldPathCursor<'_>,
 ) -> VortexResult<Option<DType>>
     requires { contains_below cursor.now [] ≡ false }
-    ensures { Makes result (λ r. option_map tree r ≡ projected (tree dtype.now) (contains_below cursor.now)) }
+    ensures { Makes result
+        (λ r. option_map tree r ≡ projected (tree dtype.now) (contains_below cursor.now)) }
 {
     match dtype {
         DType::List(element, n) => match project_element(alloc, element, cursor)? {
@@ -143,7 +148,8 @@ fn project_element(
     element: &DType,
     cursor: &FieldPathCursor<'_>,
 ) -> VortexResult<Option<DType>>
-    ensures { Makes result (λ r. option_map tree r ≡ projected (tree element.now) (after_step ElementType (contains_below cursor.now))) }
+    ensures { Makes result (λ r. option_map tree r
+        ≡ projected (tree element.now) (after_step ElementType (contains_below cursor.now))) }
 {
     match cursor.element() {
         Some(below) => project(alloc, element, &below),
@@ -160,7 +166,8 @@ fn project_struct(
     n: Nullability,
     cursor: &FieldPathCursor<'_>,
 ) -> VortexResult<Option<DType>>
-    ensures { Makes result (λ r. option_map tree r ≡ struct_with n (projected_fields (fields_of fields.now) (contains_below cursor.now))) }
+    ensures { Makes result (λ r. option_map tree r
+        ≡ struct_with n (projected_fields (fields_of fields.now) (contains_below cursor.now))) }
 {
     let entered = entered_fields(alloc, fields, cursor)?;
     if are_all_whole(&entered, fields.nfields()) {
@@ -185,7 +192,8 @@ fn struct_of(
     n: Nullability,
 ) -> VortexResult<Option<DType>>
     requires { vec_len names ≡ vec_len dtypes }
-    ensures { Makes result (λ r. option_map tree r ≡ struct_with n (fields (zip names.items (map tree dtypes.items)))) }
+    ensures { Makes result (λ r. option_map tree r
+        ≡ struct_with n (fields (zip names.items (map tree dtypes.items)))) }
 {
     if names.is_empty() {
         return Ok(None);
@@ -203,7 +211,8 @@ fn project_field(
     position: usize,
     cursor: &FieldPathCursor<'_>,
 ) -> VortexResult<Option<(FieldName, DType)>>
-    ensures { Makes result (λ r. option_map (λ f. (f.0, tree f.1)) r ≡ kept_field (children fields.now) position (contains_below cursor.now)) }
+    ensures { Makes result (λ r. option_map (λ f. (f.0, tree f.1)) r
+        ≡ kept_field (children fields.now) position (contains_below cursor.now)) }
 {
     let (Some(name), Some(dtype)) = (fields.field_name(position), fields.field_by_index(position))
     else {

@@ -2,9 +2,10 @@
 -- SPDX-FileCopyrightText: Copyright the Vortex contributors
 
 -- What the type of a table promises for its files, whose types are `ts`.
-use Rattle.std.specs.Prelude.{List, [], ◌∷◌, Option, None}
-use Rattle.std.specs.List.{AllByRecursion}
+use Rattle.std.specs.Prelude.{ℕ, List, [], ◌∷◌, Option, None, IsSomeAnd, take}
+use Rattle.std.specs.List.{AllByRecursion, slice_get}
 use Rattle.vortex_dtype.specs.At.{ExistsIn}
+use Rattle.vortex_dtype.specs.Conflicts.{ConflictsAt}
 use Rattle.vortex_dtype.specs.AllMerged.{FilledIn, all_columns_merged}
 use Rattle.vortex_dtype.specs.ReadsAs.{ReadsAs}
 use Rattle.vortex_dtype.specs.Tree.{Tree}
@@ -23,6 +24,12 @@ ReadsAll ts t = AllByRecursion (λ u. ReadsAs u t) ts
 -- `t` can be read as each valid type as which all of the files can be read
 abbrev pub IsLeast : List Tree → Tree → Type 0
 IsLeast ts t = (d : Tree) → Valid d → ReadsAll ts d → ReadsAs t d
+
+-- The file at the position n, counted from 0, is the first that can't be merged with those before it: these are merged to a
+-- type, and the path p leads in it to `x`, and in the file to `y`, and `x` and `y` can't be merged. This is no
+-- abbreviation, so that a caller's search takes it as one word.
+unfoldable pub ConflictsFirst : List Tree → ℕ → List Field → Tree → Tree → Type 0
+ConflictsFirst ts n p x y = IsSomeAnd (table_of (take n ts)) (λ t. IsSomeAnd (slice_get ts n) (λ u. ConflictsAt t u p x y))
 
 -- Each of the types lacks the path. This is no abbreviation, so that a caller's search takes it as one word.
 unfoldable pub AllLackPath : List Tree → List Field → Type 0

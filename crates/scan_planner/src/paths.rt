@@ -13,6 +13,7 @@ ghost use Rattle.vortex_dtype.specs.Types.Field.{Field};
 ghost use Rattle.vortex_dtype.specs.Types.VortexError.{VortexError};
 ghost use Rattle.vortex_dtype.specs.Types.VortexError.TheVariants.{OutOfMemory};
 ghost use Rattle.vortex_dtype.specs.Unresolved.{unresolved};
+ghost use Rattle.scan_planner.specs.declared.errors.FileConflict.{FileConflict};
 ghost use Rattle.scan_planner.specs.declared.errors.PlanError.TheVariants.{Library, Missing, NoCommonType, NoFiles};
 
 use crate::errors::PlanError;
@@ -31,7 +32,7 @@ pub fn check_paths(needed: &FieldPathSet, table: &DType) -> Result<(), PlanError
         → ExistsIn (tree table.now) p) }
     ensures asked { (p : List Field) → IsErrOf result (Missing p) → IsTrue (set.contains needed.now p) }
     ensures not_files { IsErrOf result NoFiles → ⊥ }
-    ensures not_type { IsErrOf result NoCommonType → ⊥ }
+    ensures not_type { (c : FileConflict) → IsErrOf result (NoCommonType c) → ⊥ }
     ensures missing { (p : List Field) → IsErrOf result (Missing p) → ExistsIn (tree table.now) p → ⊥ }
     ensures library { (e : VortexError) → IsErrOf result (Library e) → e ≡ OutOfMemory }
 {
@@ -68,7 +69,7 @@ pub fn types_at(alloc: Global, paths: &[FieldPath], table: &DType) -> Result<Vec
         ≡ map (along (tree table.now)) paths.now) }
     ensures asked { (p : List Field) → IsErrOf result (Missing p) → Contains paths.now p }
     ensures not_files { IsErrOf result NoFiles → ⊥ }
-    ensures not_type { IsErrOf result NoCommonType → ⊥ }
+    ensures not_type { (c : FileConflict) → IsErrOf result (NoCommonType c) → ⊥ }
     ensures missing { (p : List Field) → IsErrOf result (Missing p) → ExistsIn (tree table.now) p → ⊥ }
     ensures library { (e : VortexError) → IsErrOf result (Library e) → e ≡ OutOfMemory }
 {

@@ -14,7 +14,8 @@ ghost use Rattle.vortex_dtype.specs.Types.VortexError.{VortexError};
 ghost use Rattle.vortex_dtype.specs.Types.VortexError.TheVariants.{OutOfMemory};
 ghost use Rattle.scan_planner.specs.Needs.{needed};
 ghost use Rattle.scan_planner.specs.Plans.{AllLack, AllOpen, AllRead};
-ghost use Rattle.scan_planner.specs.Tables.{AllLackPath, FillsAll, IsLeast, ReadsAll};
+ghost use Rattle.scan_planner.specs.Tables.{AllLackPath, ConflictsFirst, FillsAll, IsLeast, ReadsAll};
+ghost use Rattle.scan_planner.specs.declared.errors.FileConflict.{FileConflict};
 ghost use Rattle.scan_planner.specs.declared.errors.PlanError.TheVariants.{Library, Missing, NoCommonType, NoFiles};
 
 use crate::errors::PlanError;
@@ -42,7 +43,8 @@ pub struct ScanPlan<'a> {
 /// # Errors
 ///
 /// - `NoFiles`: there is no file.
-/// - `NoCommonType`: there is no valid type as which all files can be read.
+/// - `NoCommonType`: there is no valid type as which all files can be read. The error contains the first file that
+///   doesn't fit the files before it, and where it doesn't.
 /// - `Missing`: no file has a path of the select list or of the filter. The error contains one such path.
 /// - `Library(OutOfMemory)`: an allocation fails.
 pub fn plan_scan<'a>(
@@ -63,8 +65,10 @@ pub fn plan_scan<'a>(
     ensures projections { IfOk result (λ s. AllRead (needed select.now filter.now) s.files.items) }
     ensures lacks { IfOk result (λ s. AllLack (needed select.now filter.now) s.files.items) }
     ensures no_files { IsErrOf result NoFiles → files.now ≡ [] }
-    ensures no_type { IsErrOf result NoCommonType
+    ensures no_type { (c : FileConflict) → IsErrOf result (NoCommonType c)
         → (d : Tree) → Valid d → ReadsAll (map tree files.now) d → ⊥ }
+    ensures conflict { (c : FileConflict) → IsErrOf result (NoCommonType c)
+        → ConflictsFirst (map tree files.now) c.file c.path (tree c.table) (tree c.here) }
     ensures asked { (p : List Field) → IsErrOf result (Missing p)
         → IsTrue (set.contains (needed select.now filter.now) p) }
     ensures missing { (p : List Field) → IsErrOf result (Missing p) → AllLackPath (map tree files.now) p }

@@ -2,28 +2,35 @@
 // SPDX-FileCopyrightText: Copyright the Vortex contributors
 
 //! The type of the table that several files are.
-ghost use Rattle.std.specs.Prelude.{◌≡◌, ◌⊎◌, ◌∷◌, [], IfErr, IfNone, IfOk, IfSome, IsErrOf, IsOkUnless, List, None, Some, map};
+ghost use Rattle.std.specs.Prelude.{◌≡◌, ◌∷◌, [], IfNone, IfOk, IfSome, IsErrOf, IsOkUnless, List, None, Some, map};
 ghost use Rattle.std.specs.Option.{option_map};
 ghost use Rattle.dtype_types.specs.tree.Tree.{Tree};
 ghost use Rattle.dtype_types.specs.tree.TreeOf.{tree};
 ghost use Rattle.dtype_types.specs.tree.Valid.{Valid};
 ghost use Rattle.vortex_dtype.specs.AllMerged.{AllFilledIn, HaveNoReaderOfAll, IsLeastReaderOfAll, all_columns_merged};
 ghost use Rattle.vortex_dtype.specs.At.{ExistsIn};
+ghost use Rattle.vortex_dtype.specs.Conflicts.{ConflictsAt};
+ghost use Rattle.vortex_dtype.specs.MergedColumns.{columns_merged};
 ghost use Rattle.vortex_dtype.specs.Types.Field.{Field};
+ghost use Rattle.vortex_dtype.specs.Types.VortexError.{VortexError};
 ghost use Rattle.vortex_dtype.specs.Types.VortexError.TheVariants.{OutOfMemory};
-ghost use Rattle.scan_planner.specs.Tables.{AllLackPath, FillsAll, IsLeast, ReadsAll, table_of};
-ghost use Rattle.scan_planner.specs.declared.errors.PlanError.TheVariants.{Library, NoCommonType, NoFiles};
+ghost use Rattle.scan_planner.specs.Tables.{AllLackPath, ConflictsFirst, FillsAll, IsLeast, ReadsAll, table_of};
+ghost use Rattle.scan_planner.specs.declared.errors.FileConflict.{FileConflict};
+ghost use Rattle.scan_planner.specs.declared.errors.PlanError.TheVariants.{Library, Missing, NoCommonType, NoFiles};
 
-use crate::errors::PlanError;
+use crate::errors::{FileConflict, PlanError};
 use std::alloc::Global;
-use vortex_dtype::{DType, VortexResult, merge_all};
+use vortex_dtype::{
+    DType, Field, VortexError, VortexResult, merge_all, merge_columns, merge_conflict,
+};
 
 /// Returns the type of the table that the files are: the least type as which each of them can be read.
 ///
 /// # Errors
 ///
 /// - `NoFiles`: there is no file.
-/// - `NoCommonType`: there is no valid type as which all files can be read.
+/// - `NoCommonType`: there is no valid type as which all files can be read. The error contains the first file that
+///   doesn't fit the files before it, and where it doesn't.
 /// - `Library(OutOfMemory)`: an allocation fails.
 pub fn table_type(alloc: Global, files: &[DType]) -> Result<DType, PlanError>
     ensures merged { IfOk result (λ t. table_of (map tree files.now) ≡ Some (tree t)) }
@@ -32,15 +39,22 @@ pub fn table_type(alloc: Global, files: &[DType]) -> Result<DType, PlanError>
     ensures values { IfOk result (λ t. FillsAll (map tree files.now) (tree t)) }
     ensures lacks { IfOk result (λ t. (p : List Field) → (ExistsIn (tree t) p → ⊥) → AllLackPath (map tree files.now) p) }
     ensures no_files { IsErrOf result NoFiles → files.now ≡ [] }
-    ensures no_type { IsErrOf result NoCommonType
+    ensures no_type { (c : FileConflict) → IsErrOf result (NoCommonType c)
         → (d : Tree) → Valid d → ReadsAll (map tree files.now) d → ⊥ }
-    ensures unmerged { IsErrOf result NoCommonType → table_of (map tree files.now) ≡ None }
-    ensures errors { IfErr result (λ e. (e ≡ NoFiles) ⊎ (e ≡ NoCommonType) ⊎ (e ≡ Library OutOfMemory)) }
+    ensures conflict { (c : FileConflict) → IsErrOf result (NoCommonType c)
+        → ConflictsFirst (map tree files.now) c.file c.path (tree c.table) (tree c.here) }
+    ensures unmerged { (c : FileConflict) → IsErrOf result (NoCommonType c) → table_of (map tree files.now) ≡ None }
+    ensures not_missing { (p : List Field) → IsErrOf result (Missing p) → ⊥ }
+    ensures library { (e : VortexError) → IsErrOf result (Library e) → e ≡ OutOfMemory }
 {
     let Some((first, others)) = files.split_first() else {
         return Err(PlanError::NoFiles);
     };
-    merged_files(alloc, first, others)?.ok_or(PlanError::NoCommonType)
+    if let Some(table) = merged_files(alloc, first, others)? {
+        return Ok(table);
+    }
+    let conflict = first_conflict(alloc, first, others)?;
+    Err(PlanError::NoCommonType(conflict))
 }
 
 // Returns what the files are merged to, as `merge_all` does, and says which paths exist in it.
@@ -55,4 +69,50 @@ fn merged_files(alloc: Global, first: &DType, others: &[DType]) -> VortexResult<
     ensures errors { IsOkUnless result OutOfMemory }
 {
     Ok(merge_all(alloc, first, others)?)
+}
+
+// Returns the first file that can't be merged with those before it. The caller proves that there is one.
+#[tactic(auto, using(vortex_dtype::proofs::rulesets::merged_so_far), unfolding(crate::specs::Tables::ConflictsFirst))]
+fn first_conflict(alloc: Global, first: &DType, others: &[DType]) -> VortexResult<FileConflict>
+    requires { all_columns_merged (tree first.now) (map tree others.now) ≡ None }
+    ensures first { IfOk result (λ c. ConflictsFirst (tree first.now ∷ map tree others.now)
+        c.file c.path (tree c.table) (tree c.here)) }
+    ensures errors { IsOkUnless result OutOfMemory }
+{
+    let mut table = first.try_clone(alloc)?;
+    for (i, file) in others.iter().enumerate() {
+        match merge_columns(alloc, &table, file)? {
+            Some(both) => table = both,
+            None => return Ok(conflict_with(alloc, &table, file, i + 1)?),
+        }
+    }
+    unreachable!()
+}
+
+// Returns where a file, which has the position `position`, can't be merged with the table that the files before it are. The
+// caller proves that it can't be.
+fn conflict_with(
+    alloc: Global,
+    table: &DType,
+    here: &DType,
+    position: usize,
+) -> VortexResult<FileConflict>
+    requires { columns_merged (tree table.now) (tree here.now) ≡ None }
+    ensures at { IfOk result (λ c. ConflictsAt (tree table.now) (tree here.now) c.path (tree c.table) (tree c.here)) }
+    ensures position { IfOk result (λ c. c.file ≡ position) }
+    ensures errors { IsOkUnless result OutOfMemory }
+{
+    match merge_conflict(alloc, table, here)? {
+        Some(conflict) => {
+            let table = conflict.left.try_clone(alloc)?;
+            let here = conflict.right.try_clone(alloc)?;
+            Ok(FileConflict {
+                file: position,
+                path: conflict.path,
+                table,
+                here,
+            })
+        }
+        None => unreachable!(),
+    }
 }

@@ -16,6 +16,7 @@ pub mod ColumnPaths
 pub mod EachAmong
 pub mod EachRegistered
 pub mod MergedAll
+pub mod MergedSoFar
 pub mod AddedColumns
 pub mod Widened
 pub mod Intersected

@@ -54,8 +54,10 @@ pub use Rattle.vortex_dtype.proofs.lemmas.Collected.{collected}
 pub use Rattle.vortex_dtype.proofs.lemmas.Smaller.{smaller_parts}
 -- the ids of a session, each of many
 pub use Rattle.vortex_dtype.proofs.lemmas.EachRegistered.{each_registered}
--- several types that a loop merges by columns, and which paths exist in the merged type
+-- several types that a loop merges by columns, what they are merged to up to a position, and which paths exist in the merged
+-- type
 pub use Rattle.dtype_merging.proofs.lemmas.AllMerged.{all_merged}
+pub use Rattle.vortex_dtype.proofs.lemmas.MergedSoFar.{merged_so_far}
 pub use Rattle.dtype_merging.proofs.lemmas.Paths.{merged_paths}
 -- several types that a loop merges by nullability
 pub use Rattle.vortex_dtype.proofs.lemmas.MergedAll.{merging_all}

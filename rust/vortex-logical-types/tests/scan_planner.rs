@@ -66,10 +66,30 @@ fn refusals_are_told() -> Result<(), Box<dyn Error>> {
         planned("file {a=i32}\nselect a\nfilter b\n")?,
         "no file has b\n"
     );
+    assert!(planned("open a\n").is_err());
+    Ok(())
+}
+
+#[test]
+fn the_first_file_that_does_not_fit_is_told() -> Result<(), Box<dyn Error>> {
+    // The type in the table is that of all files before it, so the column that one of them lacks is nullable.
+    assert_eq!(
+        planned(
+            "file {id=u64}\nfile {id=u64, note={by=utf8}}\nfile {note={by=binary}}\nfile {id=utf8}\n"
+        )?,
+        "file 3 can't be read together with the files before it: note.by is utf8 in them and binary in it\n"
+    );
+    assert_eq!(
+        planned("file {a=i32}\nfile {b=list(u8)}\nfile {b=utf8}\n")?,
+        "file 3 can't be read together with the files before it: b is list(u8)? in them and utf8 in it\n"
+    );
     assert_eq!(
         planned("file {a=i32}\nfile {a=utf8}\n")?,
-        "the files can't be read as one table\n"
+        "file 2 can't be read together with the files before it: a is i32 in them and utf8 in it\n"
     );
-    assert!(planned("open a\n").is_err());
+    assert_eq!(
+        planned("file {a=i32}\nfile i32\n")?,
+        "file 2 can't be read together with the files before it: the whole row is {a=i32} in them and i32 in it\n"
+    );
     Ok(())
 }

@@ -3,7 +3,7 @@
 
 //! The plan of a scan as text.
 
-use crate::scan_planner::errors::PlanError;
+use crate::scan_planner::errors::{FileConflict, PlanError};
 use crate::scan_planner::plan::{ScanPlan, plan_scan};
 use std::error::Error;
 use std::fmt::{self, Write as _};
@@ -29,7 +29,7 @@ pub fn planned(text: &str) -> Result<String, Box<dyn Error>> {
     match plan_scan(&scan.files, &scan.select, &scan.filter) {
         Ok(plan) => Ok(written(&scan, &plan)?),
         Err(PlanError::NoFiles) => Ok("there is no file\n".to_owned()),
-        Err(PlanError::NoCommonType) => Ok("the files can't be read as one table\n".to_owned()),
+        Err(PlanError::NoCommonType(conflict)) => Ok(told(&conflict)),
         Err(PlanError::Missing(path)) => Ok(format!("no file has {}\n", path.to_source())),
         Err(PlanError::Library(error)) => Err(error.into()),
     }
@@ -49,6 +49,20 @@ fn read(text: &str) -> Result<Scan, Box<dyn Error>> {
         }
     }
     Ok(scan)
+}
+
+fn told(conflict: &FileConflict) -> String {
+    let place = if conflict.path.is_root() {
+        "the whole row".to_owned()
+    } else {
+        conflict.path.to_source()
+    };
+    format!(
+        "file {} can't be read together with the files before it: {place} is {} in them and {} in it\n",
+        conflict.file + 1,
+        conflict.table,
+        conflict.here
+    )
 }
 
 fn written(scan: &Scan, plan: &ScanPlan<'_>) -> Result<String, fmt::Error> {

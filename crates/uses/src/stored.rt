@@ -4,17 +4,20 @@
 //! Schemas stored and read back.
 #![tactic(auto, using(vortex_dtype::proofs::rulesets::messages, vortex_dtype::proofs::rulesets::sessions, vortex_dtype::proofs::rulesets::equality))]
 
-ghost use Rattle.std.specs.Prelude.{◌≡◌, IfOk, IsOkUnless};
+ghost use Rattle.std.specs.Prelude.{◌≡◌, ◌≢◌, IfErr, IfOk, IsOkUnless};
 ghost use Rattle.std.specs.Option.{option_map};
 ghost use Rattle.vortex_dtype.specs.Lookups.{first_named};
-ghost use Rattle.vortex_dtype.specs.Types.VortexError.TheVariants.{OutOfMemory};
+ghost use Rattle.vortex_dtype.specs.Types.MessageFault.TheVariants.{ExtensionUnregistered};
+ghost use Rattle.vortex_dtype.specs.Types.VortexError.TheVariants.{Message, OutOfMemory};
 ghost use Rattle.vortex_dtype.specs.Valid.{Valid, ValidItems};
 ghost use Rattle.vortex_dtype.specs.TreeOf.{tree, fields_of, children};
 ghost use Rattle.vortex_dtype.specs.Meaning.{Admits, AdmitsItems};
 ghost use Rattle.vortex_dtype.specs.Session.{meaning};
 
 use std::alloc::Global;
-use vortex_dtype::{DType, DTypeProto, DTypeSession, ExtDTypePlugin, StructFields, VortexResult};
+use vortex_dtype::{
+    DType, DTypeProto, DTypeSession, ExtDTypePlugin, StructFields, VortexResult, pb,
+};
 
 /// A type stored as a message and read back: the same type, where the session admits it. Refuses
 /// 0 (OutOfMemory) alone there.
@@ -51,4 +54,13 @@ pub fn column_through_message(
     let sent = dtype.to_proto(alloc)?;
     let received = DType::from_proto(alloc, &sent, session)?;
     Ok(Some(received))
+}
+
+/// The type of a stored message, read by a session without plugins that keeps unknown ids: no id is refused as unknown.
+pub fn read_keeping_unknown_ids(alloc: Global, stored: &pb::DType) -> VortexResult<DType>
+    ensures { IfErr result (λ e. e ≢ Message ExtensionUnregistered) }
+{
+    let mut session = DTypeSession::new(alloc);
+    session.allow_unknown();
+    DType::from_proto(alloc, stored, &session)
 }

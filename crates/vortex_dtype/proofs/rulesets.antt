@@ -102,7 +102,7 @@ use Rattle.vortex_dtype.proofs.lemmas.NamesAmong.{among_before, among_behind, di
 use Rattle.vortex_dtype.proofs.lemmas.PathMessages.{missing_part, no_path, path_root, path_steps, same_path_names, steps_by_names}
 use Rattle.vortex_dtype.proofs.lemmas.Prefixes.{begins_first, first_begins}
 use Rattle.vortex_dtype.proofs.lemmas.Reading.{reading}
-use Rattle.vortex_dtype.proofs.lemmas.Reads.{copy_accepted, fault_none, fault_refused, normal_again, other_nullability, read_alike, reads_accepted, refused_faulty, same_normal, unread_refused, written_accepted, written_normal, written_read}
+use Rattle.vortex_dtype.proofs.lemmas.Reads.{copy_accepted, fault_none, fault_refused, known_ids, normal_again, other_nullability, read_alike, reads_accepted, refused_faulty, same_normal, unread_refused, written_accepted, written_normal, written_read}
 use Rattle.vortex_dtype.proofs.lemmas.Registered.{keeps_nothing, keeps_other, keeps_registered, keeps_unknown, keeps_unless_unknown}
 use Rattle.vortex_dtype.proofs.lemmas.Sessions.{admits-set_null, admits_allow_unknown_in, admits_extension, admits_field, admits_fields_appended, admits_more, admits_one_more, flag_allow_unknown_in, flag_register_in, kept_allow_unknown_in, keeps_again, keeps_outer, others_register_in, registered_allow_unknown_in, registered_before, registered_empty_meaning, registered_register_in, unknown_empty_meaning, unknown_kept_after_allowing, unknown_register_in, unrefused, unregistered_allow_unknown_in}
 use Rattle.vortex_dtype.proofs.lemmas.Widened.{merged_nullable}
@@ -148,7 +148,7 @@ pub ruleset equality = (type_equality, message_equality, differences)
 -- reads what it writes
 pub ruleset messages = (reading, numbers, names)
 
-pub ruleset read_messages = (read_reads, reads_read, refused_faulty, fault_refused, unread_refused, fault_none, reads_once, reads_accepted, read_alike, copy_accepted)
+pub ruleset read_messages = (read_reads, reads_read, refused_faulty, fault_refused, unread_refused, fault_none, known_ids, reads_once, reads_accepted, read_alike, copy_accepted)
 
 pub ruleset written_messages = (written_read, written_accepted, written_normal, written_is, same_normal, normal_again, other_nullability, dtype_Decides)
 

@@ -4,11 +4,13 @@
 //! Laws of sessions, of reading messages and of writing messages. They are theorems about the definitions. Each law is
 //! the contract of a function whose body is empty. The modules `types`, `paths` and so on contain the laws of the
 //! libraries below.
-ghost use Rattle.std.specs.Prelude.{◌≡◌, ◌≢◌, ◌↔◌, ◌++◌, ◌∷◌, ℕ, List, Some, None, Ok, Err, true};
+ghost use Rattle.std.specs.Prelude.{◌≡◌, ◌≢◌, ◌↔◌, ◌++◌, ◌∷◌, ℕ, List, Some, None, Ok, Err, true, false};
 ghost use Rattle.std.specs.Bool.{Decides};
 ghost use Rattle.std.specs.List.{list_any};
 ghost use Rattle.dtype_base.specs.declared.nullability.Nullability.{Nullability};
+ghost use Rattle.dtype_base.specs.declared.vortex_error.MessageFault.TheVariants.{ExtensionUnregistered};
 ghost use Rattle.dtype_base.specs.declared.vortex_error.VortexError.{VortexError};
+ghost use Rattle.dtype_base.specs.declared.vortex_error.VortexError.TheVariants.{Message as Faulty};
 ghost use Rattle.dtype_base.specs.Bytes.{Bytes};
 ghost use Rattle.dtype_types.specs.nullability.Nullable.{SetNull};
 ghost use Rattle.dtype_types.specs.tree.Tree.{Tree};
@@ -173,6 +175,17 @@ pub fn read_is_what_reads()
     ensures given { (s : Meaning) (m : Message) (t : Tree) → (read s m ≡ Ok t) ↔ Reads s m t }
     ensures refused { (s : Meaning) (m : Message) (e : VortexError)
         → read s m ≡ Err e → Fault s m e × ReadsAsNothing s m }
+{}
+
+/// Only a session that doesn't keep unknown ids refuses a message because of an unknown id: for each session `s` and each
+/// message `m`, if `ExtensionUnregistered` is a fault of `m`, then `s` doesn't keep unknown ids. For example, after
+/// `allow_unknown` a message of the extension type `x.tag` isn't refused with this error, whatever else is wrong with it.
+/// With this law a caller that called `allow_unknown` needs no case for this error.
+///
+/// About [`DTypeProto::from_proto`] and [`DTypeSession::allow_unknown`].
+#[tactic(auto, using(crate::proofs::lemmas::Reading::reading))]
+pub fn ids_are_unknown_only_where_they_are_not_kept()
+    ensures { (s : Meaning) (m : Message) → Fault s m (Faulty ExtensionUnregistered) → s.unknown ≡ false }
 {}
 
 /// The following is true of reading and writing messages, for every session. A message reads as a type if `Reads`

@@ -2,7 +2,7 @@
 -- SPDX-FileCopyrightText: Copyright the Vortex contributors
 
 -- Laws of reading, over message trees and types alone.
-use Rattle.std.proofs.Common.{◌≡◌, ◌↔◌, ⊎_elim, ℕ, suc, ◌<◌, ℤ, pos, List, [], ◌∷◌, length, map, Some, Ok, Err, IsErr, Bool, true, false, refl, sym, ap, ◌∙◌, subst, arith}
+use Rattle.std.proofs.Common.{◌≡◌, ◌≢◌, ◌↔◌, ⊎_elim, ℕ, suc, ◌<◌, ℤ, pos, List, [], ◌∷◌, length, map, Option, Some, None, Ok, Err, IsErr, Bool, true, false, refl, sym, ap, ◌∙◌, subst, arith}
 use Rattle.std.specs.List.{AllByRecursion, zip}
 use Rattle.std.proofs.lemmas.Bool.Decides.{nat_tests}
 use Rattle.std.proofs.lemmas.Int.{ints}
@@ -11,8 +11,9 @@ use Rattle.std.proofs.lemmas.Option.{none-some, same_Some}
 use Rattle.dtype_base.specs.Nullability.{nullability_of}
 use Rattle.dtype_base.specs.declared.nullability.Nullability.{Nullability}
 use Rattle.dtype_base.specs.declared.vortex_error.VortexError.{VortexError}
+use Rattle.dtype_base.specs.declared.vortex_error.VortexError.TheVariants.{Message as Faulty}
 use Rattle.dtype_base.specs.declared.vortex_error.MessageFault.{MessageFault}
-use Rattle.dtype_base.specs.declared.vortex_error.MessageFault.TheVariants.{ListElementMissing, FixedElementMissing, MapKeyMissing, MapValueMissing, StorageMissing}
+use Rattle.dtype_base.specs.declared.vortex_error.MessageFault.TheVariants.{ListElementMissing, FixedElementMissing, MapKeyMissing, MapValueMissing, StorageMissing, ExtensionUnregistered}
 use Rattle.dtype_types.specs.nullability.Nullable.{set_null}
 use Rattle.dtype_types.specs.parts.Lookups.{variant_tags}
 use Rattle.dtype_types.specs.tree.Tree as of
@@ -20,9 +21,9 @@ use Rattle.dtype_types.specs.tree.Tree.{Tree, Fields, no_items, field, fields, V
 use Rattle.dtype_types.specs.tree.Valid.{Valid, ValidItems}
 use Rattle.dtype_types.proofs.lemmas.ValidLists.{variants_are, zipped_variants}
 use Rattle.dtype_messages.specs.Message.{Message, Child, Messages, messages, missing, null, primitive, decimal, list, fixed_size_list, map_of, struct, union, extension, absent, present, no_message, more}
-use Rattle.vortex_dtype.specs.Meaning.{Meaning, LawfulSession, Admits, AdmitsItems, keeps}
+use Rattle.vortex_dtype.specs.Meaning.{Meaning, Rewrites, LawfulSession, Admits, AdmitsItems, keeps, kept, unkept_error_of}
 use Rattle.vortex_dtype.specs.ReadInOrder.{or_empty, read}
-use Rattle.vortex_dtype.specs.Reads.{Reads, ReadsChild, ReadsAll, AreBytes, Fault, ChildFault, SomeFault, SomeTagFault}
+use Rattle.vortex_dtype.specs.Reads.{Reads, ReadsChild, ReadsAll, AreBytes, Fault, ChildFault, DecimalFault, SomeFault, SomeTagFault, UnionFault, message_count}
 use Rattle.vortex_dtype.specs.Accepts.{Accepts}
 use Rattle.vortex_dtype.specs.Written.{is_nullable, written, written_names, written_items, written_variant_names, written_tags, Normal, NormalChild, NormalAll}
 use Rattle.vortex_dtype.specs.IsMessage.{IsMessage, IsChild, AreMessages}
@@ -75,6 +76,46 @@ unread_refused s m none = grind (arith, none, reading s m)
 
 pub fault_refused : (s : Meaning) (m : Message) (e : VortexError) → Fault s m e → IsErr (read s m)
 fault_refused s m e f = unread_refused s m (λ t h. fault_none s m e t f h)
+
+-- ---- only a session that doesn't keep unknown ids refuses an id as unknown
+
+unregistered_kept : (o : Option Rewrites) (unknown : Bool) (b : List ℕ) (t : Tree) → Faulty ExtensionUnregistered ≡ unkept_error_of o → kept o unknown b t ≡ None → unknown ≡ false
+unregistered_kept None true b t e none = cc
+unregistered_kept None false b t e none = refl
+unregistered_kept (Some r) unknown b t e none = cc
+
+unregistered_decimal : (p : ℕ) (k : ℤ) → DecimalFault p k (Faulty ExtensionUnregistered) → ⊥
+unregistered_decimal p k f = ⊎_elim (λ a. let e = a.0 in cc) (λ r. ⊎_elim (λ a. let e = a.0 in cc) (λ x. x) r) f
+
+unregistered_union : (ns : List (List ℕ)) (types : ℕ) (gs : List ℤ) → UnionFault ns types gs (Faulty ExtensionUnregistered) → ⊥
+unregistered_union ns types gs f = ⊎_elim (λ a. let e = a.0 in cc) (λ b. b.2) f
+
+mutual
+  pub unregistered_fault : (s : Meaning) (m : Message) → Fault s m (Faulty ExtensionUnregistered) → s.unknown ≡ false
+  unregistered_fault s missing f = cc
+  unregistered_fault s (primitive n x) f = let e = f.0 in cc
+  unregistered_fault s (decimal p k x) f = absurd (unregistered_decimal p k f)
+  unregistered_fault s (list c x) f = unregistered_child s ListElementMissing c (λ e. cc) f
+  unregistered_fault s (fixed_size_list c n x) f = unregistered_child s FixedElementMissing c (λ e. cc) f
+  unregistered_fault s (map_of c v o x) f =
+      ⊎_elim (unregistered_child s MapKeyMissing c (λ e. cc)) (λ r. ⊎_elim (unregistered_child s MapValueMissing v (λ e. cc)) (λ a. let e = a.0 in cc) r) f
+  unregistered_fault s (struct ns ms x) f = ⊎_elim (unregistered_part s ms) (λ a. let e = a.0 in cc) f
+  unregistered_fault s (union ns ms gs x) f = ⊎_elim (unregistered_part s ms) (λ a. absurd (unregistered_union ns (message_count ms) gs a)) f
+  unregistered_fault s (extension id c b) f =
+      ⊎_elim (unregistered_child s StorageMissing c (λ e. cc)) (λ a. unregistered_kept (s.registered id) s.unknown (or_empty b) a.1 a.0 a.3) f
+  unregistered_fault s _ f = absurd f
+
+  unregistered_child : (s : Meaning) (j : MessageFault) (c : Child) → j ≢ ExtensionUnregistered → ChildFault s j c (Faulty ExtensionUnregistered) → s.unknown ≡ false
+  unregistered_child s j absent other f = absurd (other cc)
+  unregistered_child s j (present m) other f = unregistered_fault s m f
+
+  unregistered_part : (s : Meaning) (ms : Messages) → SomeFault s ms (Faulty ExtensionUnregistered) → s.unknown ≡ false
+  unregistered_part s no_message f = absurd f
+  unregistered_part s (more m ms) f = ⊎_elim (unregistered_fault s m) (unregistered_part s ms) f
+
+-- a session that keeps unknown ids refuses none as unknown
+pub known_ids : (s : Meaning) (m : Message) (e : VortexError) → s.unknown ≡ true → Fault s m e → e ≢ Faulty ExtensionUnregistered
+known_ids s m e allowed f is = let none = unregistered_fault s m (subst (λ x. Fault s m x) is f) in cc
 
 -- ---- what reads has one normal form: its message
 

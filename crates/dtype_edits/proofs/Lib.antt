@@ -5,3 +5,5 @@ pub mod lemmas
 mod PlacedFields
 mod LeftFields
 mod LeafSteps
+mod DifferenceSteps
+mod DifferenceTests

@@ -7,3 +7,5 @@ pub mod Leaving
 pub mod Leaves
 pub mod LeafProjection
 pub mod EditingFields
+pub mod Differing
+pub mod Unlisted

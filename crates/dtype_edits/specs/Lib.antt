@@ -5,3 +5,7 @@ pub mod Replaced
 pub mod Without
 pub mod Leaves
 pub mod EditedFields
+pub mod Differences
+pub mod ShownDifferences
+pub mod Alike
+pub mod private

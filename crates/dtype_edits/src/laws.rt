@@ -2,11 +2,12 @@
 // SPDX-FileCopyrightText: Copyright the Vortex contributors
 
 // Theorems about the definitions. Each function's contract is the theorem, and its body is empty.
-ghost use Rattle.std.specs.Prelude.{◌≡◌, ◌↔◌, ◌++◌, ℕ, false, true, IsSome, IsTrue, List, None, Some, map, option_and_then, slice_get};
+ghost use Rattle.std.specs.Prelude.{◌≡◌, ◌≢◌, ◌↔◌, ◌++◌, [], ℕ, false, true, IsSome, IsTrue, List, None, Option, Some, map, option_and_then, slice_get};
 ghost use Rattle.std.specs.FinSet as set;
-ghost use Rattle.std.specs.List.{Contains};
+ghost use Rattle.std.specs.List.{AllPairs, Contains};
 ghost use Rattle.dtype_base.specs.FieldNames.{FirstAt, IsAbsent};
 ghost use Rattle.dtype_types.specs.parts.Lookups.{field_names, field_types, first_named};
+ghost use Rattle.dtype_types.specs.tree.Erase.{erase};
 ghost use Rattle.dtype_types.specs.tree.Tree.{Tree};
 ghost use Rattle.dtype_types.specs.tree.Valid.{Valid};
 ghost use Rattle.dtype_paths.specs.Along.{along};
@@ -17,10 +18,13 @@ ghost use Rattle.dtype_paths.specs.PathOrder.{set_of};
 ghost use Rattle.dtype_paths.specs.PathPredicates.{PathPredicate, after_steps, contains_above, no_path};
 ghost use Rattle.dtype_paths.specs.declared.field.Field.{Field};
 ghost use Rattle.dtype_projection.specs.Projected.{projected};
+ghost use Rattle.dtype_edits.specs.Alike.{AlikeThere};
+ghost use Rattle.dtype_edits.specs.Differences.{Difference, differences, nothing_ignored, nullability_ignored};
 ghost use Rattle.dtype_edits.specs.EditedFields.{new_name, renamed, with_named};
 ghost use Rattle.dtype_edits.specs.Leaves.{IsLeaf, NamesDiffer, leaves};
 ghost use Rattle.dtype_edits.specs.Replaced.{replaced};
 ghost use Rattle.dtype_edits.specs.Without.{elements, without};
+ghost use Rattle.dtype_edits.specs.declared.difference.Ignoring.{Ignoring};
 
 /// For all types `t` and `u` and each path `p`, the part of `t` at `p` can be replaced by `u` exactly if there is a part
 /// at `p`. (It can be replaced if `replaced t p u` isn't `None`.) For example, `{a=i32}` has no part at `b`, so replacing
@@ -192,4 +196,59 @@ pub fn only_names_in_the_table_change()
     ensures there { (rs : List (List ℕ × List ℕ)) (n : List ℕ) (i : ℕ) (r : List ℕ × List ℕ) → FirstAt (map (λ q. q.0) rs) n i
         → slice_get rs i ≡ Some r → new_name rs n ≡ r.1 }
     ensures others { (rs : List (List ℕ × List ℕ)) (n : List ℕ) → IsAbsent (map (λ q. q.0) rs) n → new_name rs n ≡ n }
+{}
+
+/// For all types `t` and `u`, the following is true of their differences:
+/// - `equal`: there is none exactly if `t` and `u` are equal, if nothing is ignored.
+/// - `erased`: there is none exactly if `t` and `u` are equal except for nullabilities, if nullabilities are ignored.
+///
+/// For example, `{a=i32, b=u8}` and `{b=u8, a=i32}` have a difference, because their fields are in another order. So a
+/// program that finds no difference may use one type for the other.
+///
+/// About [`differences`] and [`differences_ignoring`].
+pub fn there_is_no_difference_exactly_between_equal_types()
+    ensures equal { (t u : Tree) → (differences nothing_ignored t u ≡ []) ↔ (t ≡ u) }
+    ensures erased { (t u : Tree) → (differences nullability_ignored t u ≡ []) ↔ (erase t ≡ erase u) }
+{}
+
+/// For all types `t` and `u`, if the path `p` with the types `x` and `y` is one of their differences, whatever is ignored,
+/// the following is true. (`x` and `y` are `None` if the part is added or removed.)
+/// - `before`: the path leads to `x` in `t`.
+/// - `after`: the path leads to `y` in `u`.
+/// - `differ`: `x` and `y` are different.
+///
+/// For example, from `{a=i32}` to `{a=u8, b=utf8}` the path `b` leads to no type in the first, and to `utf8` in the second.
+/// So the list tells all that a program needs to report a difference.
+///
+/// About [`differences`] and [`differences_ignoring`].
+pub fn the_paths_of_differences_lead_to_their_types()
+    ensures before { (i : Ignoring) (t u : Tree) (p : List Field) (x y : Option Tree)
+        → Contains (differences i t u) (p, (x, y)) → along t p ≡ x }
+    ensures after { (i : Ignoring) (t u : Tree) (p : List Field) (x y : Option Tree)
+        → Contains (differences i t u) (p, (x, y)) → along u p ≡ y }
+    ensures differ { (i : Ignoring) (t u : Tree) (p : List Field) (x y : Option Tree)
+        → Contains (differences i t u) (p, (x, y)) → x ≢ y }
+{}
+
+/// For all types `t` and `u`, no path of their differences overlaps that of a later one, whatever is ignored. Two paths
+/// overlap if one of them is a prefix of the other. For example, if `a` changes from a list to a struct, the difference at
+/// `a` is listed, and none at `a.[]`. So each part is listed once, and a program can apply the differences in any order.
+///
+/// About [`differences`] and [`differences_ignoring`].
+pub fn no_two_differences_overlap()
+    ensures { (i : Ignoring) (t u : Tree)
+        → AllPairs (λ d e. ¬ (Overlaps d.0 e.0)) (differences i t u) }
+{}
+
+/// For all types `t` and `u` and each path `p`, if no difference is at a prefix of `p`, then `p` leads to types that are
+/// alike (`AreAlike`), or to no type in both. For example, from `{a={b=i32, c=u8}}` to `{a={b=i64, c=u8}}` the only
+/// difference is at `a.b`, so `a` leads to two structs of the same nullability, and `a.c` to the same type. With the law
+/// about the types to which the listed paths lead, this says of each path what is at it in `u`, by `t` and the list. So `t`
+/// with the listed parts changed, removed and added is `u`, but for the order of fields.
+///
+/// About [`differences`].
+pub fn what_is_not_listed_is_alike()
+    ensures { (t u : Tree) (p : List Field)
+        → ((d : Difference) → Contains (differences nothing_ignored t u) d → ¬ (Beginning d.0 p))
+        → AlikeThere (along t p) (along u p) }
 {}

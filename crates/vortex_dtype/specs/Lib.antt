@@ -73,6 +73,9 @@ pub use Rattle.dtype_edits.specs.Replaced
 pub use Rattle.dtype_edits.specs.Without
 pub use Rattle.dtype_edits.specs.Leaves
 pub use Rattle.dtype_edits.specs.EditedFields
+pub use Rattle.dtype_edits.specs.Differences
+pub use Rattle.dtype_edits.specs.ShownDifferences
+pub use Rattle.dtype_edits.specs.Alike
 pub use Rattle.dtype_merging.specs.AllMerged
 pub use Rattle.dtype_merging.specs.Conflicts
 pub use Rattle.dtype_merging.specs.Filled

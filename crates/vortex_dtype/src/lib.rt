@@ -40,8 +40,9 @@ pub use dtype_base::{
     RESERVED_VALIDITY_FIELD_NAME, VortexError, VortexResult, check_precision_and_scale,
 };
 pub use dtype_edits::{
-    leaf_paths, push_field, with_field, with_field_at, with_fields_renamed,
-    with_fields_renamed_allowing_repeats, with_type_at, without_paths,
+    Difference, Ignoring, differences, differences_ignoring, leaf_paths, push_field, with_field,
+    with_field_at, with_fields_renamed, with_fields_renamed_allowing_repeats, with_type_at,
+    without_paths,
 };
 pub use dtype_merging::{MergeConflict, merge_all, merge_columns, merge_conflict, reads_as};
 pub use dtype_messages::pb;

@@ -31,6 +31,8 @@ pub use dtype_base::{
     RESERVED_VALIDITY_FIELD_NAME, VortexError, VortexResult,
 };
 #[doc(inline)]
+pub use dtype_edits::{Difference, Ignoring};
+#[doc(inline)]
 pub use dtype_native::{
     IntegerPType, NativeDType, NativeDecimalType, NativePType, OffsetBuilderPType, PTypeVisitor,
     PhysicalPType, PrecisionScale, ToBytes, TryFromBytes, UnsignedPType, match_each_float_ptype,

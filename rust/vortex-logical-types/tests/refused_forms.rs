@@ -16,7 +16,7 @@ use vortex_logical_types::Nullability::{NonNullable, Nullable};
 use vortex_logical_types::time::{Date, TimeUnit, Timestamp, TimestampOptions};
 use vortex_logical_types::{
     DType, DTypeSession, DecimalDType, ExtDType, ExtDTypeRef, ExtId, Field, FieldDType, FieldMask,
-    FieldName, FieldNames, FieldPath, FieldPathSet, ForeignExtDType, ForeignExtMetadata,
+    FieldName, FieldNames, FieldPath, FieldPathSet, ForeignExtDType, ForeignExtMetadata, Ignoring,
     IndexedNames, MapDType, PType, PluginOf, PrecisionScale, StructFields, UnionVariants,
     VortexError, VortexResult, dtype_edits, dtype_merging, dtype_projection, dtype_text,
     dtype_types, fallible, pb,
@@ -164,6 +164,18 @@ fn of_types() -> Vec<Tried> {
         tried("try_merge_conflict", {
             let (a, b) = (type_of(), dtype("{a={b=utf8}}"));
             move || dtype_merging::try_merge_conflict(&a, &b).map(drop)
+        }),
+        tried("try_differences", {
+            let (a, b) = (type_of(), dtype("{a={b=utf8}, c=i8}"));
+            move || dtype_edits::try_differences(&a, &b).map(drop)
+        }),
+        tried("try_differences_ignoring", {
+            let (a, b) = (dtype("{a=i8, b={c=u8}}"), dtype("{b={c=u8?, d=i8}, a=i16}"));
+            let ignoring = Ignoring {
+                nullability: true,
+                order: true,
+            };
+            move || dtype_edits::try_differences_ignoring(&a, &b, ignoring).map(drop)
         }),
         tried("try_leaf_paths", {
             let all = type_of();

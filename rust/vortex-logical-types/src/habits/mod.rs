@@ -4,6 +4,7 @@
 //! What a Rust program expects of the types of a crate, beside what the proved sources have: conversions, collections,
 //! comparisons with references and texts, errors of one type. Each file has one subject.
 
+mod differences;
 mod dtype;
 mod errors;
 mod extensions;

@@ -10,7 +10,7 @@ use crate::arrow_field::{self, ArrowField};
 use crate::errors::{Failure, Made};
 use crate::field_path::FieldPath;
 use crate::field_path_set::FieldPathSet;
-use crate::imported::{KINDS, MERGE_CONFLICT, PTYPE, PTYPES, TIME_UNIT, TIME_UNITS, VIEW};
+use crate::imported::{DIFFERENCE, KINDS, MERGE_CONFLICT, PTYPE, PTYPES, TIME_UNIT, TIME_UNITS, VIEW};
 use crate::message::{session, Message};
 use pyo3::basic::CompareOp;
 use pyo3::exceptions::{PyKeyError, PyTypeError};
@@ -20,7 +20,7 @@ use pyo3::types::{PyBytes, PyIterator, PyList, PyMapping, PyString, PyTuple};
 use pyo3::PyTypeInfo;
 use std::hash::{DefaultHasher, Hash, Hasher};
 use vortex_logical_types::time::{Date, Time, TimeUnit, Timestamp};
-use vortex_logical_types::{self as library, DecimalDType, ExtDTypeRef, ExtId, FieldName, Kind, MAX_LEVELS};
+use vortex_logical_types::{self as library, DecimalDType, ExtDTypeRef, ExtId, FieldName, Ignoring, Kind, MAX_LEVELS};
 use vortex_logical_types::{
     MergeConflict, Nullability, PType, RepeatedName, StructFields, UnionVariants, VortexError, VortexResult,
 };
@@ -1143,6 +1143,50 @@ impl DType {
     #[pyo3(text_signature = "($self)")]
     fn leaf_paths(&self) -> Made<FieldPathSet> {
         Ok(self.dtype.try_leaf_paths()?.into())
+    }
+
+    /// Returns the list of what differs between this type and a later one: the parts that are changed, removed and added,
+    /// each with its path and its types before and after. There is no difference exactly if the two types are equal.
+    ///
+    /// >>> old, new = DType("{a=i32, b={x=u8}}"), DType("{b={x=i8, y=u8}}")
+    /// >>> for path, before, after in old.differences(new):
+    /// ...     print(path.to_source(), before, after)
+    /// a i32 None
+    /// b.x u8 i8
+    /// b.y None u8
+    ///
+    /// A part below a listed part isn't listed. The list is in the order of the fields before, and in each struct those that
+    /// are added come last. Maps, unions and extensions are changed as a whole, because no path leads into them. So are two
+    /// structs if a name repeats in one of them, or if the fields that both have are in another order.
+    ///
+    /// With `ignore_nullability=True` types are compared without their nullabilities, and with `ignore_order=True` the order
+    /// of the fields of a struct isn't compared, if no name repeats in it.
+    ///
+    /// >>> [it.path for it in DType("{a=i32, b=u8}").differences("{b=u16, a=i32?}", ignore_nullability=True, ignore_order=True)]
+    /// [FieldPath('b')]
+    #[args("*", ignore_nullability = "LEFT_OUT", ignore_order = "LEFT_OUT")]
+    #[pyo3(text_signature = "($self, other, *, ignore_nullability=False, ignore_order=False)")]
+    fn differences<'p>(
+        &self,
+        py: Python<'p>,
+        other: &PyAny,
+        ignore_nullability: Optional<'_>,
+        ignore_order: Optional<'_>,
+    ) -> Made<&'p PyList> {
+        let other = given::<DType>(other, "other")?;
+        let ignoring = Ignoring {
+            nullability: flag(ignore_nullability, "ignore_nullability")?,
+            order: flag(ignore_order, "ignore_order")?,
+        };
+        let object = |dtype: Option<&library::DType>| -> Made<PyObject> {
+            Ok(dtype.map(|it| it.try_clone().map(Self::from)).transpose()?.into_py(py))
+        };
+        let found = self.dtype.try_differences_ignoring(&other.dtype, ignoring)?.into_iter();
+        let one = |it: library::Difference<'_>| -> Made<&'p PyAny> {
+            let path = FieldPath::from(it.path).into_py(py);
+            Ok(DIFFERENCE.get(py)?.call1((path, object(it.before)?, object(it.after)?))?)
+        };
+        Ok(PyList::new(py, found.map(one).collect::<Made<Vec<_>>>()?))
     }
 
     /// Returns the parts of the type, which are the types to which paths lead, each as a pair of its path and itself. The

@@ -57,6 +57,7 @@ pub static MERGE_CONFLICT: Imported = Imported::new(ERRORS, "MergeConflict");
 pub static OUT_OF_MEMORY: Imported = Imported::new(ERRORS, "OutOfMemory");
 pub static UNREADABLE: Imported = Imported::new(ERRORS, "Unreadable");
 pub static BELOW: Imported = Imported::new(PARTS, "Below");
+pub static DIFFERENCE: Imported = Imported::new(PARTS, "Difference");
 pub static FLAT_MESSAGE: Imported = Imported::new(PARTS, "FlatMessage");
 pub static NODE: Imported = Imported::new(PARTS, "Node");
 pub static NODES_OF: Imported = Imported::new(PARTS, "nodes_of");

@@ -15,7 +15,7 @@ import unittest
 import stub
 import vortex_logical_types
 from arrow_structs import exported
-from vortex_logical_types import (ELEMENT, Below, DType, Element, ErrorKind, FieldMask, FieldPath, FieldPathSet, FlatMessage,
+from vortex_logical_types import (ELEMENT, Below, Difference, DType, Element, ErrorKind, FieldMask, FieldPath, FieldPathSet, FlatMessage,
                                   Message, Node, PType, TimeUnit, VortexError, View)
 
 STRUCT, UNION, MAP = DType("{a=i32, b=utf8?}"), DType("union(a@5=i32, b@9=utf8)"), DType("map(utf8, i32?, keys_sorted=false)")
@@ -50,7 +50,7 @@ OF_SEQUENCES = ("count", "index")
 # The functions that refuse some objects of a type that they take, because they ask the object for a method or its text.
 TAKES_OBJECTS = ("FieldMask", "DType.from_arrow", "DType.from_arrow_with_metadata", "DType.to_arrow")
 # Classes that aren't called here: Python itself makes their members or checks their arguments.
-MADE_BY_PYTHON = (enum.Enum, Below, FlatMessage, View)
+MADE_BY_PYTHON = (enum.Enum, Below, Difference, FlatMessage, View)
 
 
 class Other:

@@ -11,7 +11,7 @@ import pickletools
 import unittest
 
 import vortex_logical_types
-from vortex_logical_types import (ELEMENT, Below, DType, ErrorKind, FieldMask, FieldNotFound, FieldPath, FieldPathSet,
+from vortex_logical_types import (ELEMENT, Below, Difference, DType, ErrorKind, FieldMask, FieldNotFound, FieldPath, FieldPathSet,
                                   FlatMessage, IndexOutOfBounds, Kind, LibraryError, Message, Node, OutOfMemory, PType,
                                   Unreadable, VortexError, View)
 
@@ -25,6 +25,7 @@ MAKERS = {
     Node: lambda: Node(kind=3, value=-1),
     FlatMessage: lambda: FlatMessage(b"\0" * 4, b"id"),
     Below: lambda: Below(True, False, 2),
+    Difference: lambda: Difference(FieldPath("a.[]"), DType("i8"), None),
     Kind: lambda: Kind.LIST,
     PType: lambda: PType.U8,
     ErrorKind: lambda: ErrorKind.TOO_DEEP,

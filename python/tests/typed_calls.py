@@ -9,7 +9,7 @@ import copy
 import pickle
 from typing import MutableSet, Optional, Sequence, Union
 
-from vortex_logical_types import (ELEMENT, Below, DType, Element, ErrorKind, FieldMask, FieldNotFound, FieldPath, FieldPathSet,
+from vortex_logical_types import (ELEMENT, Below, Difference, DType, Element, ErrorKind, FieldMask, FieldNotFound, FieldPath, FieldPathSet,
                                   FlatMessage, Kind, MergeConflict, Message, Node, PType, TimeUnit, Unreadable, View, VortexError)
 
 Step = Union[str, Element]
@@ -29,6 +29,8 @@ def of_types() -> None:
     columns: tuple[Optional[DType], Optional[DType]] = (orders.merge_columns(orders), DType.merge_all([orders]))
     readable: bool = orders.reads_as(orders)
     conflict: Optional[MergeConflict] = orders.merge_conflict(orders)
+    differences: list[Difference] = orders.differences("i8", ignore_nullability=True, ignore_order=False)
+    removed: list[FieldPath] = [it.path for it in differences if it.after is None]
     of_bytes: tuple[Optional[bytes], Optional[bytes]] = (orders.metadata, orders.tags)
     for name, dtype in orders:
         length: int = len(name) + dtype.hash_ignore_nullability()
@@ -45,7 +47,7 @@ def of_types() -> None:
     orders.project(5)  # type: ignore[arg-type]
     orders["id"] + 1  # type: ignore[operator]
     orders.no_such_method()  # type: ignore[attr-defined]
-    print(kind, names, fields, ptype, sizes, found, parts, merged, columns, readable, conflict, of_bytes, sent)
+    print(kind, names, fields, ptype, sizes, found, parts, merged, columns, readable, conflict, removed, of_bytes, sent)
 
 
 def of_arrow() -> None:

@@ -72,7 +72,7 @@ from ._errors import (
     FieldNotFound, IndexOutOfBounds, LibraryError, MergeConflict, OutOfMemory, Unreadable, VortexError,
 )
 from ._native import DType, FieldMask, FieldPath, FieldPathSet, Message
-from ._parts import AnyView, Below, FlatMessage, Node, View
+from ._parts import AnyView, Below, Difference, FlatMessage, Node, View
 from . import _objects as _objects
 
 __version__ = "0.3.0"
@@ -80,6 +80,7 @@ __version__ = "0.3.0"
 __all__ = [
     "AnyView",
     "DType",
+    "Difference",
     "ELEMENT",
     "Element",
     "ErrorKind",

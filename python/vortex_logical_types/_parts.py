@@ -1,8 +1,8 @@
 # SPDX-License-Identifier: Apache-2.0
 # SPDX-FileCopyrightText: Copyright the Vortex contributors
 
-"""What calls return and take that is plain data: views of types for `match`, flat messages with their nodes, and how the
-paths of a set continue."""
+"""What calls return and take that is plain data: views of types for `match`, flat messages with their nodes, how the
+paths of a set continue, and the parts in which two types differ."""
 
 from __future__ import annotations
 
@@ -10,10 +10,10 @@ import dataclasses
 import operator
 import struct
 from dataclasses import dataclass
-from typing import NamedTuple, Union
+from typing import NamedTuple, Optional, Union
 
 from ._enums import PType
-from ._native import DType
+from ._native import DType, FieldPath
 
 
 class View:
@@ -132,6 +132,31 @@ class Below(NamedTuple):
     """Whether a path of the set continues with the step into an element."""
     name_count: int
     """The number of names with which paths of the set continue."""
+
+
+class Difference(NamedTuple):
+    """A part in which two types differ. `DType.differences` returns a list of them. `str` tells the difference in words.
+
+    >>> found = DType("{a=i32}").differences("{a=i32, b=utf8}")
+    >>> found
+    [Difference(path=FieldPath('b'), before=None, after=DType('utf8'))]
+    >>> print(found[0])
+    b is added as utf8
+    """
+
+    path: FieldPath
+    """The path to the part."""
+    before: Optional[DType]
+    """The type at the path before, or None if the part is added."""
+    after: Optional[DType]
+    """The type at the path after, or None if the part is removed."""
+
+    def __str__(self) -> str:
+        path = self.path.to_source()
+        before, after = (None if it is None else it.to_source() for it in (self.before, self.after))
+        if before is None:
+            return f"{path} is added as {after}"
+        return f"{path} was {before} and is {after or 'removed'}"
 
 
 class FlatMessage(NamedTuple):

@@ -17,6 +17,11 @@ macro_rules! inner {
     };
 }
 
+/// Returns the differences, each as its path and the types before and after.
+fn listed(found: Vec<Difference<'_>>) -> Joined<impl Iterator<Item = (FieldPath, Option<&DType>, Option<&DType>)>> {
+    Joined("; ", found.into_iter().map(|it| (it.path, it.before, it.after)))
+}
+
 pub const TYPES: &[Row] = rows! {
     ["type", "T", r#"{a=list({b=u32})?, "x y"=x.tag[0x6162](utf8?)}"#, "the type itself, as the console writes it"] (dtype: DType => dtype)
     ["copy", "T", "map(utf8, i32?, keys_sorted=true)", "a copy of the type"] (dtype: DType => dtype.try_clone()?)
@@ -34,6 +39,8 @@ pub const TYPES: &[Row] = rows! {
     ["merge_columns", "T T", "{a=i32, b=utf8} {c=u8, a=i32?}", "the least type as which both can be read, or none if there is none. A field that one of the two lacks is nullable."] (a: DType, b: DType => a.try_merge_columns(&b)?)
     ["merge_all", "T T..", "{id=u64} {note=utf8, id=u64} {id=null}", "the least type as which all can be read, or none if there is none"] (first: DType, others: Vec<DType> => vortex_logical_types::dtype_merging::try_merge_all(&first, &others)?)
     ["merge_conflict", "T T", "{a=list(u64), b=i8} {b=i8, a=list(utf8)}", "three values: the path to the first place at which the two can't be merged by columns, and the type there in each of the two; or none if they can be merged"] (a: DType, b: DType => a.try_merge_conflict(&b)?.map(|it| (it.path, it.left, it.right)))
+    ["differences", "T T", "{a=i32, b={x=u8}} {b={x=i8, y=u8}}", "what differs between the two types: for each part that is changed, removed or added three values, which are its path, the type before and the type after, or none in place of a type; behind each but the last is a semicolon"] (a: DType, b: DType => listed(a.try_differences(&b)?))
+    ["differences_ignoring", "BOOL BOOL T T", "true true {a=i32, b=u8} {b=u16, a=i32?}", "what differences answers, if nullabilities are ignored (the first BOOL), and the order of fields (the second BOOL)"] (nullability: bool, order: bool, a: DType, b: DType => listed(a.try_differences_ignoring(&b, Ignoring { nullability, order })?))
     ["nullability_or", "N N", "NonNullable Nullable", "Nullable if one of the two is, otherwise NonNullable"] (n: Nullability, other: Nullability => (n | other).long_text())
     ["nullability_text", "N", "Nullable", "the text of a nullability within a type: ? or nothing"] (n: Nullability => Shown(&n))
     ["nullability_long_text", "N", "Nullable", "the word for a nullability"] (n: Nullability => n.long_text())

@@ -2,8 +2,9 @@
 -- SPDX-FileCopyrightText: Copyright the Vortex contributors
 
 -- Steps with different keys are different, and short names with equal keys are equal.
-use Rattle.std.proofs.Common.{◌≡◌, ◌≢◌, ◌≤◌, ◌<◌, ◌+◌, ◌-◌, ◌*◌, ℕ, zero, suc, false, List, [], ◌∷◌, length, length-drop, get_or, drop, take, refl, sym, ap, arith}
-use Rattle.std.proofs.lemmas.List.{get_or-drop, take_all}
+use Rattle.std.proofs.Common.{◌≡◌, ◌≢◌, ◌≤◌, ◌<◌, ◌+◌, ◌-◌, ◌*◌, ◌∙◌, ℕ, zero, suc, false, List, [], ◌∷◌, length, get_or, drop, min, refl, sym, ap, arith}
+use Rattle.std.specs.Int.{w64, from_be_bytes}
+use Rattle.std.proofs.lemmas.List.{drop_all, drop_more}
 use Rattle.std.proofs.lemmas.List.Elements.{All-tail}
 use Rattle.dtype_base.specs.Bytes.{Bytes}
 use Rattle.dtype_paths.specs.Equality.{same_field}
@@ -12,32 +13,75 @@ use Rattle.dtype_paths.specs.private.StepKeys.{name_step_key, step_key, with_byt
 use Rattle.dtype_paths.specs.declared.field.Field.{Field}
 use Rattle.dtype_paths.proofs.lemmas.Cases.{by_bool}
 
--- ---- the bytes of a number that is made byte by byte
+-- ---- how a key is read
 
--- numbers of so many bytes are less than this
-abbrev pub room : ℕ → ℕ
-room zero = 1
-room (suc i) = room i * 256
+-- k bytes of a name, from position s on
+abbrev bytes_from : ℕ → ℕ → List ℕ → List ℕ
+bytes_from zero s n = []
+bytes_from (suc k) s n = get_or n s 0 ∷ bytes_from k (suc s) n
 
-pub room-more : (k b i : ℕ) → k < room i → b < 256 → k * 256 + b < room (i + 1)
-room-more k b i h l = let one : i + 1 ≡ suc i = omega arith in rw one (omega (arith, h, l))
+last-bytes : (k s : ℕ) (n : List ℕ) → length n ≡ s + k → drop s n ≡ bytes_from k s n
+last-bytes zero s n e = drop_all s n (omega (arith, e))
+last-bytes (suc k) s n e =
+    let next : s + 1 ≡ suc s = omega arith in
+    drop_more n s 0 (omega (arith, e)) ∙ ap (λ (r : List ℕ). get_or n s 0 ∷ r) (ap (λ (j : ℕ). drop j n) next ∙ last-bytes k (suc s) n (omega (arith, e)))
 
-room-up : (i j : ℕ) → i ≤ j → room i ≤ room j
-room-up zero zero h = omega arith
-room-up zero (suc j) h = omega (arith, room-up zero j (omega arith))
-room-up (suc i) zero h = absurd (omega (arith, h))
-room-up (suc i) (suc j) h = omega (arith, room-up i j (omega (arith, h)))
+-- a key of so many last bytes, from position s on
+key-from : (k s l : ℕ) (n : List ℕ) → length n ≡ s + k → s ≡ length n - 7 → l ≡ min (length n) 8 → with_bytes 0 (bytes_from k s n) * 256 + l ≡ name_step_key n
+unfolding name_step_key
+key-from k s l n e at len =
+    ap (λ (r : List ℕ). with_bytes 0 r * 256 + l) (sym (last-bytes k s n e))
+    ∙ ap (λ (j : ℕ). with_bytes 0 (drop j n) * 256 + l) at
+    ∙ ap (λ (m : ℕ). with_bytes 0 (drop (length n - 7) n) * 256 + m) len
 
-module _ (n : List ℕ) (s : ℕ) (e : s ≡ length n - 7) where
-  -- the last seven bytes, or all
-  last-bytes : (take (length n - s) (drop s n) ≡ drop s n) × (length (take (length n - s) (drop s n)) ≤ 7)
-  last-bytes = grind (arith, take_all, length-drop)
+-- eight bytes that are read at once
+read-at-once : (a b c d e f g l : ℕ) → from_be_bytes w64 (a ∷ b ∷ c ∷ d ∷ e ∷ f ∷ g ∷ l ∷ []) ≡ with_bytes 0 (a ∷ b ∷ c ∷ d ∷ e ∷ f ∷ g ∷ []) * 256 + l
+read-at-once a b c d e f g l = omega arith
 
-  pub seven_bytes : (i k : ℕ) → i ≤ length (take (length n - s) (drop s n)) → k < room i → k < 72057594037927936
-  seven_bytes i k few small = grind (arith, room-up, last-bytes)
+module _ (n : List ℕ) where
+  short : (k : ℕ) → length n ≡ k → k ≤ 7 → with_bytes 0 (bytes_from k 0 n) * 256 + k ≡ name_step_key n
+  short k e few = key-from k 0 k n (omega (arith, e)) (omega (arith, e, few)) (omega (arith, e, few))
 
-  pub last_byte : (i b : ℕ) → b ≡ get_or (take (length n - s) (drop s n)) i 0 → ((k : ℕ) → get_or n k 0 < 256) → b < 256
-  last_byte i b is bytes = rw (is, last-bytes.0, get_or-drop s n i 0) (bytes (s + i))
+  pub key_of_none : length n ≡ 0 → 0 ≡ name_step_key n
+  key_of_none e = short 0 e (omega arith)
+
+  pub key_of_1 : length n ≡ 1 → from_be_bytes w64 (0 ∷ 0 ∷ 0 ∷ 0 ∷ 0 ∷ 0 ∷ get_or n 0 0 ∷ 1 ∷ []) ≡ name_step_key n
+  key_of_1 e = read-at-once 0 0 0 0 0 0 (get_or n 0 0) 1 ∙ short 1 e (omega arith)
+
+  pub key_of_2 : length n ≡ 2 → from_be_bytes w64 (0 ∷ 0 ∷ 0 ∷ 0 ∷ 0 ∷ get_or n 0 0 ∷ get_or n 1 0 ∷ 2 ∷ []) ≡ name_step_key n
+  key_of_2 e = read-at-once 0 0 0 0 0 (get_or n 0 0) (get_or n 1 0) 2 ∙ short 2 e (omega arith)
+
+  pub key_of_3 : length n ≡ 3 → from_be_bytes w64 (0 ∷ 0 ∷ 0 ∷ 0 ∷ get_or n 0 0 ∷ get_or n 1 0 ∷ get_or n 2 0 ∷ 3 ∷ []) ≡ name_step_key n
+  key_of_3 e = read-at-once 0 0 0 0 (get_or n 0 0) (get_or n 1 0) (get_or n 2 0) 3 ∙ short 3 e (omega arith)
+
+  pub key_of_4 : length n ≡ 4 → from_be_bytes w64 (0 ∷ 0 ∷ 0 ∷ get_or n 0 0 ∷ get_or n 1 0 ∷ get_or n 2 0 ∷ get_or n 3 0 ∷ 4 ∷ []) ≡ name_step_key n
+  key_of_4 e = read-at-once 0 0 0 (get_or n 0 0) (get_or n 1 0) (get_or n 2 0) (get_or n 3 0) 4 ∙ short 4 e (omega arith)
+
+  pub key_of_5 : length n ≡ 5 → from_be_bytes w64 (0 ∷ 0 ∷ get_or n 0 0 ∷ get_or n 1 0 ∷ get_or n 2 0 ∷ get_or n 3 0 ∷ get_or n 4 0 ∷ 5 ∷ []) ≡ name_step_key n
+  key_of_5 e = read-at-once 0 0 (get_or n 0 0) (get_or n 1 0) (get_or n 2 0) (get_or n 3 0) (get_or n 4 0) 5 ∙ short 5 e (omega arith)
+
+  pub key_of_6 : length n ≡ 6 → from_be_bytes w64 (0 ∷ get_or n 0 0 ∷ get_or n 1 0 ∷ get_or n 2 0 ∷ get_or n 3 0 ∷ get_or n 4 0 ∷ get_or n 5 0 ∷ 6 ∷ []) ≡ name_step_key n
+  key_of_6 e = read-at-once 0 (get_or n 0 0) (get_or n 1 0) (get_or n 2 0) (get_or n 3 0) (get_or n 4 0) (get_or n 5 0) 6 ∙ short 6 e (omega arith)
+
+  pub key_of_7 : length n ≡ 7 → from_be_bytes w64 (get_or n 0 0 ∷ get_or n 1 0 ∷ get_or n 2 0 ∷ get_or n 3 0 ∷ get_or n 4 0 ∷ get_or n 5 0 ∷ get_or n 6 0 ∷ 7 ∷ []) ≡ name_step_key n
+  key_of_7 e = read-at-once (get_or n 0 0) (get_or n 1 0) (get_or n 2 0) (get_or n 3 0) (get_or n 4 0) (get_or n 5 0) (get_or n 6 0) 7 ∙ short 7 e (omega arith)
+
+  pub key_of_more : 8 ≤ length n → from_be_bytes w64 (get_or n (length n - 7) 0 ∷ get_or n (length n - 6) 0 ∷ get_or n (length n - 5) 0 ∷ get_or n (length n - 4) 0
+      ∷ get_or n (length n - 3) 0 ∷ get_or n (length n - 2) 0 ∷ get_or n (length n - 1) 0 ∷ 8 ∷ []) ≡ name_step_key n
+  key_of_more long =
+      let s = length n - 7 in
+      let b : length n - 6 ≡ suc s = omega (arith, long) in
+      let c : length n - 5 ≡ suc (suc s) = omega (arith, long) in
+      let d : length n - 4 ≡ suc (suc (suc s)) = omega (arith, long) in
+      let e : length n - 3 ≡ suc (suc (suc (suc s))) = omega (arith, long) in
+      let f : length n - 2 ≡ suc (suc (suc (suc (suc s)))) = omega (arith, long) in
+      let g : length n - 1 ≡ suc (suc (suc (suc (suc (suc s))))) = omega (arith, long) in
+      (λ i. from_be_bytes w64 (get_or n s 0 ∷ get_or n (b i) 0 ∷ get_or n (c i) 0 ∷ get_or n (d i) 0 ∷ get_or n (e i) 0 ∷ get_or n (f i) 0 ∷ get_or n (g i) 0 ∷ 8 ∷ []))
+      ∙ read-at-once (get_or n s 0) (get_or n (suc s) 0) (get_or n (suc (suc s)) 0) (get_or n (suc (suc (suc s))) 0) (get_or n (suc (suc (suc (suc s)))) 0)
+      (get_or n (suc (suc (suc (suc (suc s))))) 0) (get_or n (suc (suc (suc (suc (suc (suc s)))))) 0) 8
+      ∙ key-from 7 s 8 n (omega (arith, long)) refl (omega (arith, long))
+
+pub ruleset name_keys = (key_of_none, key_of_1, key_of_2, key_of_3, key_of_4, key_of_5, key_of_6, key_of_7, key_of_more)
 
 -- as many bytes that make the same number are the same
 same_bytes : (k j : ℕ) (m n : List ℕ) → length m ≡ length n → Bytes m → Bytes n → with_bytes k m ≡ with_bytes j n → (k ≡ j) × (m ≡ n)

@@ -227,16 +227,12 @@ impl Nodes {
         mem::replace(self.at_mut(node_index), Node::empty()).open(visits)
     }
 
-    // References to the paths that end in nodes.
+    // References to the paths that end in nodes. The list has room for one at each node, because counting the paths
+    // first would read every node twice.
     pub(crate) fn gather<'a>(&'a self, alloc: Global) -> VortexResult<Vec<&'a FieldPath>>
         ensures { Makes result (λ v. map (λ x. x.now) v.items ≡ terminals self.now) }
     {
-        let count = self
-            .rest
-            .iter()
-            .filter(|node| node.terminal().is_some())
-            .count();
-        let mut found = Vec::with_capacity(alloc, count.saturating_add(1))?;
+        let mut found = Vec::with_capacity(alloc, self.len())?;
         if let Some(path) = self.root.terminal() {
             found.push(path)?;
         }

@@ -167,6 +167,13 @@ static inline vlt_result with_argument(
 
 /* begin of what tools/bindings writes */
 #pragma GCC visibility push(hidden)
+uint32_t vlt_core_struct_push_field(
+        vlt_slot *dtype, const uint8_t *name, size_t name_len, vlt_slot *part, vlt_slot *out);
+uint32_t vlt_core_struct_with_field(
+        vlt_slot *dtype, const uint8_t *name, size_t name_len, vlt_slot *part, vlt_slot *out);
+uint32_t vlt_core_struct_with_field_at(
+        vlt_slot *dtype, size_t index, const uint8_t *name, size_t name_len, vlt_slot *part, vlt_slot *out,
+        vlt_slot *error);
 uint32_t vlt_core_struct_names(
         vlt_slot *dtype, uint8_t *buffer, size_t buffer_len, size_t *length, size_t *name_lengths,
         size_t name_lengths_len, size_t *count);
@@ -777,6 +784,70 @@ vlt_result vlt_dtype_extension(
             id ? id : (const uint8_t *)no_items, id_len, metadata ? metadata : (const uint8_t *)no_items, metadata_len,
             (vlt_slot *)&storage->slot, &out->slot);
     return with_argument(result, ARGUMENTS({"storage", &storage->slot, 1, VLT_OBJECT_DTYPE}), "id", "storage");
+}
+
+vlt_result vlt_struct_push_field(
+        const vlt_dtype *dtype, const uint8_t *name, size_t name_len, const vlt_dtype *part, vlt_dtype *out) {
+    if (!name && name_len)
+        return vlt_is_wrong("name", VLT_RANGE);
+    if (are_same(&dtype->slot, &out->slot) || are_same(&part->slot, &out->slot))
+        return vlt_is_wrong("out", VLT_SAME_SLOT);
+    vlt_slot copy = {0};
+    const vlt_slot *apart = &part->slot;
+    vlt_result result = copied_if_same(&dtype->slot, &apart, vlt_core_dtype_copy, &copy);
+    if (result == VLT_DONE)
+        result = (vlt_result)vlt_core_struct_push_field(
+                (vlt_slot *)&dtype->slot, name ? name : (const uint8_t *)no_items, name_len, (vlt_slot *)apart,
+                &out->slot);
+    empty(&copy);
+    return with_argument(
+            result, ARGUMENTS({"dtype", &dtype->slot, 1, VLT_OBJECT_DTYPE}, {"part", &part->slot, 1, VLT_OBJECT_DTYPE}),
+            "name", "dtype");
+}
+
+vlt_result vlt_struct_with_field(
+        const vlt_dtype *dtype, const uint8_t *name, size_t name_len, const vlt_dtype *part, vlt_dtype *out) {
+    if (!name && name_len)
+        return vlt_is_wrong("name", VLT_RANGE);
+    if (are_same(&dtype->slot, &out->slot) || are_same(&part->slot, &out->slot))
+        return vlt_is_wrong("out", VLT_SAME_SLOT);
+    vlt_slot copy = {0};
+    const vlt_slot *apart = &part->slot;
+    vlt_result result = copied_if_same(&dtype->slot, &apart, vlt_core_dtype_copy, &copy);
+    if (result == VLT_DONE)
+        result = (vlt_result)vlt_core_struct_with_field(
+                (vlt_slot *)&dtype->slot, name ? name : (const uint8_t *)no_items, name_len, (vlt_slot *)apart,
+                &out->slot);
+    empty(&copy);
+    return with_argument(
+            result, ARGUMENTS({"dtype", &dtype->slot, 1, VLT_OBJECT_DTYPE}, {"part", &part->slot, 1, VLT_OBJECT_DTYPE}),
+            "name", "dtype");
+}
+
+vlt_result vlt_struct_with_field_at(
+        const vlt_dtype *dtype, size_t index, const uint8_t *name, size_t name_len, const vlt_dtype *part,
+        vlt_dtype *out, vlt_error *error) {
+    vlt_slot unwanted = {0};
+    vlt_slot *told = error ? &error->slot : &unwanted;
+    if (are_same(&dtype->slot, told) || are_same(&part->slot, told) || are_same(&out->slot, told))
+        return vlt_is_wrong("error", VLT_SAME_SLOT);
+    empty(told);
+    if (!name && name_len)
+        return vlt_is_wrong("name", VLT_RANGE);
+    if (are_same(&dtype->slot, &out->slot) || are_same(&part->slot, &out->slot))
+        return vlt_is_wrong("out", VLT_SAME_SLOT);
+    vlt_slot copy = {0};
+    const vlt_slot *apart = &part->slot;
+    vlt_result result = copied_if_same(&dtype->slot, &apart, vlt_core_dtype_copy, &copy);
+    if (result == VLT_DONE)
+        result = (vlt_result)vlt_core_struct_with_field_at(
+                (vlt_slot *)&dtype->slot, index, name ? name : (const uint8_t *)no_items, name_len, (vlt_slot *)apart,
+                &out->slot, told);
+    empty(&copy);
+    empty(&unwanted);
+    return with_argument(
+            result, ARGUMENTS({"dtype", &dtype->slot, 1, VLT_OBJECT_DTYPE}, {"part", &part->slot, 1, VLT_OBJECT_DTYPE}),
+            "name", "dtype");
 }
 
 vlt_result vlt_struct_names(

@@ -733,6 +733,38 @@ VLT_MUST_USE vlt_result vlt_dtype_extension(
 
 /* == Structs (of another type the calls return VLT_CONDITION) == */
 
+/* Stores in `out` the struct with one more field at the end, which has this name and the type in `part`. It is
+ * nullable if the struct in `dtype` is. A field of this name that is there already stays, so the name may repeat. For
+ * example, it is `{a=i32, b=utf8}` for `{a=i32}`, the name `b` and `utf8`. Returns VLT_UTF8 if the name isn't UTF-8,
+ * VLT_CONDITION if the type in `dtype` isn't a struct, and VLT_DEEP if the type in `part` has 128 levels.
+ *
+ * Results: VLT_DONE, VLT_KIND, VLT_UTF8, VLT_CONDITION, VLT_DEEP, VLT_SAME_SLOT, VLT_RANGE or VLT_LIBRARY. */
+VLT_MUST_USE vlt_result vlt_struct_push_field(
+        const vlt_dtype *dtype, const uint8_t *name, size_t name_len, const vlt_dtype *part, vlt_dtype *out);
+
+/* Stores in `out` the struct with a field that has this name and the type in `part`. If a field has the name, the type
+ * of the first such field is replaced, and the field stays where it is. Otherwise the new field is the last. The
+ * struct is nullable if the struct in `dtype` is. For example, for `{a=i32}` and `utf8` it is `{a=utf8}` with the name
+ * `a`, and `{a=i32, b=utf8}` with the name `b`. Returns VLT_UTF8 if the name isn't UTF-8, VLT_CONDITION if the type in
+ * `dtype` isn't a struct, and VLT_DEEP if the type in `part` has 128 levels.
+ *
+ * Results: VLT_DONE, VLT_KIND, VLT_UTF8, VLT_CONDITION, VLT_DEEP, VLT_SAME_SLOT, VLT_RANGE or VLT_LIBRARY. */
+VLT_MUST_USE vlt_result vlt_struct_with_field(
+        const vlt_dtype *dtype, const uint8_t *name, size_t name_len, const vlt_dtype *part, vlt_dtype *out);
+
+/* Stores in `out` the struct with one more field at this index, which is counted from 0. The field has this name and
+ * the type in `part`. The fields from that index on come after it, and if the index is the number of fields, it is the
+ * last. A field of this name that is there already stays, so the name may repeat. The struct is nullable if the struct
+ * in `dtype` is. Returns VLT_UTF8 if the name isn't UTF-8, VLT_CONDITION if the type in `dtype` isn't a struct,
+ * VLT_DEEP if the type in `part` has 128 levels, and VLT_ERROR_INDEX_OUT_OF_BOUNDS if the index is above the number of
+ * fields. Then `error` contains the error with the index and the number of fields.
+ *
+ * Results: VLT_DONE, VLT_KIND, VLT_UTF8, VLT_CONDITION, VLT_DEEP, VLT_SAME_SLOT, VLT_RANGE, VLT_LIBRARY or
+ * VLT_ERROR_INDEX_OUT_OF_BOUNDS. */
+VLT_MUST_USE vlt_result vlt_struct_with_field_at(
+        const vlt_dtype *dtype, size_t index, const uint8_t *name, size_t name_len, const vlt_dtype *part,
+        vlt_dtype *out, vlt_error *error);
+
 /* Writes the names of all fields of the struct. The bytes of the names go to the front of `buffer`, one name directly
  * after the other, and the number of bytes of each name goes to the front of `name_lengths`. The numbers of both go to
  * `length` and `count`. For example, for `{id=u64, city=utf8}` the call writes `idcity` and 6, and the lengths 2 and 4

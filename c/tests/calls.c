@@ -154,6 +154,11 @@ static void levels(void) {
     HOLDS(out.slot.at == NULL);
     DONE(vlt_with_type_at(&s[0].dtype, &f.path, &s[1].dtype, &out.dtype));
     HAS(&out, "list(list(i8))");
+    type_of(&f, "{a=i8}");
+    IS(VLT_DEEP, vlt_struct_push_field(&f.dtype, TEXT("b"), &s[0].dtype, &s[1].dtype));
+    IS(VLT_DEEP, vlt_struct_with_field(&f.dtype, TEXT("a"), &s[0].dtype, &s[1].dtype));
+    IS(VLT_DEEP, vlt_struct_with_field_at(&f.dtype, 9, TEXT("b"), &s[0].dtype, &s[1].dtype, NULL));
+    HAS(&s[1], "list(i8)");
     free_all(s, 2);
     free_all(&f, 1);
     free_all(&out, 1);
@@ -993,6 +998,39 @@ static void errors(void) {
     free_all(&why, 1);
 }
 
+/* A field more, and another type of a field. */
+static void added_fields(void) {
+    any s[3] = {VLT_EMPTY, VLT_EMPTY, VLT_EMPTY}, why = VLT_EMPTY;
+    type_of(&s[0], "{a=i32, b=utf8?, a=f64}?");
+    type_of(&s[1], "u8?");
+    DONE(vlt_struct_push_field(&s[0].dtype, TEXT("a"), &s[1].dtype, &s[2].dtype));
+    HAS(&s[2], "{a=i32, b=utf8?, a=f64, a=u8?}?");
+    DONE(vlt_struct_with_field(&s[0].dtype, TEXT("a"), &s[1].dtype, &s[2].dtype));
+    HAS(&s[2], "{a=u8?, b=utf8?, a=f64}?");
+    DONE(vlt_struct_with_field(&s[0].dtype, NULL, 0, &s[1].dtype, &s[2].dtype));
+    HAS(&s[2], "{a=i32, b=utf8?, a=f64, \"\"=u8?}?");
+    DONE(vlt_struct_with_field_at(&s[0].dtype, 0, TEXT("c"), &s[1].dtype, &s[2].dtype, NULL));
+    HAS(&s[2], "{c=u8?, a=i32, b=utf8?, a=f64}?");
+    DONE(vlt_struct_with_field_at(&s[0].dtype, 3, TEXT("c"), &s[1].dtype, &s[2].dtype, &why.error));
+    HAS(&s[2], "{a=i32, b=utf8?, a=f64, c=u8?}?");
+    IS(117, vlt_struct_with_field_at(&s[0].dtype, 4, TEXT("c"), &s[1].dtype, &s[2].dtype, &why.error));
+    IS_ERROR(&why, 17, 0, "index 4 out of bounds for struct with 3 fields");
+    IS(VLT_UTF8, vlt_struct_with_field_at(&s[0].dtype, SIZE_MAX, TEXT("\xff"), &s[1].dtype, &s[2].dtype, &why.error));
+    HOLDS(why.slot.at == NULL);
+    IS(VLT_UTF8, vlt_struct_push_field(&s[0].dtype, TEXT("\xff"), &s[1].dtype, &s[2].dtype));
+    IS(VLT_UTF8, vlt_struct_with_field(&s[0].dtype, TEXT("\xff"), &s[1].dtype, &s[2].dtype));
+    IS(VLT_CONDITION, vlt_struct_push_field(&s[1].dtype, TEXT("a"), &s[0].dtype, &s[2].dtype));
+    IS(VLT_CONDITION, vlt_struct_with_field(&s[1].dtype, TEXT("a"), &s[0].dtype, &s[2].dtype));
+    IS(VLT_CONDITION, vlt_struct_with_field_at(&s[1].dtype, 0, TEXT("a"), &s[0].dtype, &s[2].dtype, NULL));
+    IS(VLT_KIND, vlt_struct_push_field(&s[0].dtype, TEXT("a"), &why.dtype, &s[2].dtype));
+    IS(VLT_SAME_SLOT, vlt_struct_with_field(&s[0].dtype, TEXT("a"), &s[1].dtype, &s[0].dtype));
+    HAS(&s[2], "{a=i32, b=utf8?, a=f64, c=u8?}?");
+    DONE(vlt_struct_with_field(&s[0].dtype, TEXT("b"), &s[0].dtype, &s[2].dtype));
+    HAS(&s[2], "{a=i32, b={a=i32, b=utf8?, a=f64}?, a=f64}?");
+    free_all(s, 3);
+    free_all(&why, 1);
+}
+
 /* The message of the type of a text. */
 static void message_of(any *slot, const char *text) {
     any dtype = VLT_EMPTY;
@@ -1307,6 +1345,7 @@ static void all(void) {
     set_relations();
     edits();
     errors();
+    added_fields();
     passed_twice();
     messages();
     nodes();

@@ -2,9 +2,9 @@
 -- SPDX-FileCopyrightText: Copyright the Vortex contributors
 
 -- What single calls for types do: outcomes, and what they find in a type.
-use Rattle.std.specs.Prelude.{◌≡◌, ◌⊎◌, ◌++◌, ◌<◌, ◌≤◌, ◌==◌, if◌then◌else◌, ℕ, ℤ, Bool, List, Option, Some, None, Result, Ok, Err, fold, length, remove}
+use Rattle.std.specs.Prelude.{◌≡◌, ◌⊎◌, ◌++◌, ◌∷◌, ◌<◌, ◌≤◌, ◌==◌, if◌then◌else◌, ℕ, ℤ, Bool, List, [], Option, Some, None, Result, Ok, Err, fold, length, remove}
 use Rattle.std.specs.Hash.DefaultHasher as sip
-use Rattle.std.specs.List.{range_with_len, zip}
+use Rattle.std.specs.List.{insert, range_with_len, zip}
 use Rattle.dtype_base.specs.Decimals.{Decimal, DecimalError, IsDecimalWithin, greatest_precision}
 use Rattle.dtype_base.specs.Distinct.{Distinct}
 use Rattle.dtype_base.specs.FieldNames.{SelectionError}
@@ -80,6 +80,18 @@ abbrev pub removes_field : List (List ℕ × Tree) → Nullability → ℕ → O
 removes_field fs n index No Why Yes =
     ((index < length fs) × gives (struct (fields (remove fs index)) n) No Why Yes)
     ⊎ ((length fs ≤ index) × fails_with (IndexOutOfBounds index (length fs)) No Why Yes)
+
+-- the fields, and one more behind them
+unfoldable pub with_last : List (List ℕ × Tree) → List ℕ × Tree → List (List ℕ × Tree)
+with_last fs f = fs ++ (f ∷ [])
+
+-- The struct with one more field at a position. If the position is above the number of fields, `IndexOutOfBounds` with the
+-- position and the number of fields. For example, the field `c` of type `u8` at 1 in `{a=i32, b=utf8}` makes
+-- `{a=i32, c=u8, b=utf8}`.
+abbrev pub inserts_field : List (List ℕ × Tree) → Nullability → ℕ → List ℕ × Tree → Outcome Tree
+inserts_field fs n index f No Why Yes =
+    ((index ≤ length fs) × gives (struct (fields (insert fs index f)) n) No Why Yes)
+    ⊎ ((length fs < index) × fails_with (IndexOutOfBounds index (length fs)) No Why Yes)
 
 -- the struct of the fields of two structs, or `DuplicateNames` if a name occurs twice
 abbrev pub joins_fields : List (List ℕ × Tree) → List (List ℕ × Tree) → Nullability → Outcome Tree

@@ -37,6 +37,7 @@
 //! valid pointers, distinct slots, and one thread at a time.
 #![tactic(auto)]
 
+mod added_fields;
 mod arrow;
 mod at_once;
 mod buffers;

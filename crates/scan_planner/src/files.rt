@@ -23,11 +23,23 @@ use vortex_dtype::{
     DType, Field, FieldNames, FieldPath, FieldPathSet, VortexResult, project_paths,
 };
 
+/// How a file is read as the table.
+#[derive(Clone, Copy, Debug, PartialEq, Eq)]
+pub enum HowToRead {
+    /// As it is: the type of the file is the type of the table.
+    AsItIs,
+    /// With the columns in the order of the table, and with null for each column that the file lacks. If the two types
+    /// differ only in nullability, then this leaves each row as it is.
+    Adapted,
+}
+
 /// What a scan reads of one file.
 #[derive(Debug, Drop)]
 pub struct FilePlan<'a> {
     /// The type of the file.
     pub file: &'a DType,
+    /// How the file is read as the table.
+    pub how: HowToRead,
     /// The names of the columns to open, in the order of the file.
     pub columns: FieldNames,
     /// The part of the file's type that is read, or `None` if the query needs nothing of this file.
@@ -36,7 +48,7 @@ pub struct FilePlan<'a> {
     pub missing: Vec<FieldPath>,
 }
 
-/// Returns what a scan of the needed paths reads of this file.
+/// Returns what a scan of the needed paths reads of this file, as a file of this table.
 ///
 /// # Errors
 ///
@@ -45,9 +57,11 @@ pub struct FilePlan<'a> {
 pub fn plan_file<'a>(
     alloc: Global,
     file: &'a DType,
+    table: &DType,
     needed: &FieldPathSet,
 ) -> VortexResult<FilePlan<'a>>
     ensures of_file { IfOk result (λ f. tree f.file.now ≡ tree file.now) }
+    ensures how { IfOk result (λ f. f.how ≡ HowToRead.AsItIs ↔ tree f.file.now ≡ tree table.now) }
     ensures opened { IfOk result (λ f. Opens needed.now (tree f.file.now) f.columns) }
     ensures projection { IfOk result (λ f. option_map tree f.read ≡ projected (tree f.file.now) (set.contains needed.now)) }
     ensures lacks { IfOk result (λ f. set_of f.missing.items ≡ unresolved needed.now (tree f.file.now)) }
@@ -55,11 +69,13 @@ pub fn plan_file<'a>(
     ensures errors { IsOkUnless result OutOfMemory }
 {
     let missing = missing_paths(alloc, needed, file)?;
+    let how = how_to_read(file, table);
     match project_paths(alloc, file, needed)? {
         Some(read) => {
             let columns = kept_columns(alloc, file, &read, needed)?;
             Ok(FilePlan {
                 file,
+                how,
                 columns,
                 read: Some(read),
                 missing,
@@ -69,11 +85,24 @@ pub fn plan_file<'a>(
             let columns = FieldNames::empty(alloc);
             Ok(FilePlan {
                 file,
+                how,
                 columns,
                 read: None,
                 missing,
             })
         }
+    }
+}
+
+// Returns how a file is read as a table as which it can be read.
+#[tactic(auto, using(vortex_dtype::proofs::rulesets::equal_types))]
+fn how_to_read(file: &DType, table: &DType) -> HowToRead
+    ensures { result ≡ HowToRead.AsItIs ↔ tree file.now ≡ tree table.now }
+{
+    if *file == *table {
+        HowToRead::AsItIs
+    } else {
+        HowToRead::Adapted
     }
 }
 

@@ -13,7 +13,7 @@ ghost use Rattle.vortex_dtype.specs.Types.Field.{Field};
 ghost use Rattle.vortex_dtype.specs.Types.VortexError.{VortexError};
 ghost use Rattle.vortex_dtype.specs.Types.VortexError.TheVariants.{OutOfMemory};
 ghost use Rattle.scan_planner.specs.Needs.{needed};
-ghost use Rattle.scan_planner.specs.Plans.{AllLack, AllOpen, AllRead};
+ghost use Rattle.scan_planner.specs.Plans.{AllHow, AllLack, AllOpen, AllRead};
 ghost use Rattle.scan_planner.specs.Tables.{AllLackPath, ConflictsFirst, FillsAll, IsLeast, ReadsAll};
 ghost use Rattle.scan_planner.specs.declared.errors.FileConflict.{FileConflict};
 ghost use Rattle.scan_planner.specs.declared.errors.PlanError.TheVariants.{Library, Missing, NoCommonType, NoFiles};
@@ -38,7 +38,7 @@ pub struct ScanPlan<'a> {
 }
 
 /// Returns the plan of a scan over these files: the type of their table, the types of the selected paths, and for each
-/// file what is read of it.
+/// file what is read of it, and how.
 ///
 /// # Errors
 ///
@@ -61,6 +61,8 @@ pub fn plan_scan<'a>(
     ensures there { IfOk result (λ s. (p : List Field) → IsTrue (set.contains (needed select.now filter.now) p)
         → ExistsIn (tree s.table) p) }
     ensures of_files { IfOk result (λ s. map (λ f. tree f.file.now) s.files.items ≡ map tree files.now) }
+    ensures readable { IfOk result (λ s. ReadsAll (map (λ f. tree f.file.now) s.files.items) (tree s.table)) }
+    ensures how { IfOk result (λ s. AllHow (tree s.table) s.files.items) }
     ensures opened { IfOk result (λ s. AllOpen (needed select.now filter.now) s.files.items) }
     ensures projections { IfOk result (λ s. AllRead (needed select.now filter.now) s.files.items) }
     ensures lacks { IfOk result (λ s. AllLack (needed select.now filter.now) s.files.items) }
@@ -78,7 +80,7 @@ pub fn plan_scan<'a>(
     let needed_set = needed_paths(alloc, select, filter)?;
     check_paths(&needed_set, &table)?;
     let types = types_at(alloc, select, &table)?;
-    let files = plan_files(alloc, files, &needed_set)?;
+    let files = plan_files(alloc, files, &table, &needed_set)?;
     Ok(ScanPlan {
         table,
         types,
@@ -87,13 +89,15 @@ pub fn plan_scan<'a>(
 }
 
 // Returns what a scan of the needed paths reads of each file.
-#[tactic(auto, using(vortex_dtype::proofs::rulesets::collected), unfolding(crate::specs::Plans::AllOpen, crate::specs::Plans::AllRead, crate::specs::Plans::AllLack))]
+#[tactic(auto, using(vortex_dtype::proofs::rulesets::collected), unfolding(crate::specs::Plans::AllHow, crate::specs::Plans::AllOpen, crate::specs::Plans::AllRead, crate::specs::Plans::AllLack))]
 fn plan_files<'a>(
     alloc: Global,
     files: &'a [DType],
+    table: &DType,
     needed: &FieldPathSet,
 ) -> VortexResult<Vec<FilePlan<'a>>>
     ensures of_files { IfOk result (λ v. map (λ f. tree f.file.now) v.items ≡ map tree files.now) }
+    ensures how { IfOk result (λ v. AllHow (tree table.now) v.items) }
     ensures opened { IfOk result (λ v. AllOpen needed.now v.items) }
     ensures projections { IfOk result (λ v. AllRead needed.now v.items) }
     ensures lacks { IfOk result (λ v. AllLack needed.now v.items) }
@@ -101,7 +105,7 @@ fn plan_files<'a>(
 {
     let mut plans = Vec::with_capacity(alloc, files.len())?;
     for file in files {
-        plans.push(plan_file(alloc, file, needed)?)?;
+        plans.push(plan_file(alloc, file, table, needed)?)?;
     }
     Ok(plans)
 }

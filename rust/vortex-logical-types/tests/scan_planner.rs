@@ -22,9 +22,9 @@ table {line=u64, order={id=u64, day=i32, customer={id=u64, city=utf8?}}, product
 select product.sku = utf8
 select product.price = decimal(10,2)
 select discount = decimal(4,2)?
-file 1: open [\"order\", \"product\", \"discount\"]
+file 1, as it is: open [\"order\", \"product\", \"discount\"]
     read {order={customer={city=utf8?}}, product={sku=utf8, price=decimal(10,2)}, discount=decimal(4,2)?}
-file 2: open [\"order\", \"product\"]
+file 2, adapted: open [\"order\", \"product\"]
     read {order={customer={city=utf8}}, product={sku=utf8, price=decimal(10,2)}}
     missing discount
 ";
@@ -38,13 +38,13 @@ fn events_are_planned() -> Result<(), Box<dyn Error>> {
 table {at=i64, kind=utf8, payload={user={id=u64, name=utf8?}, tags=list({key=utf8, value=utf8?})?}?, trace=binary?}
 select payload.user.name = utf8?
 select payload.tags.[].key = utf8
-file 1: open [\"kind\"]
+file 1, adapted: open [\"kind\"]
     read {kind=utf8}
     missing payload.user.name
     missing payload.tags.[].key
-file 2: open [\"kind\", \"payload\"]
+file 2, adapted: open [\"kind\", \"payload\"]
     read {kind=utf8, payload={user={name=utf8}, tags=list({key=utf8})}}
-file 3: open [\"kind\"]
+file 3, adapted: open [\"kind\"]
     read {kind=utf8}
     missing payload.user.name
     missing payload.tags.[].key

@@ -4,6 +4,7 @@
 //! The plan of a scan as text.
 
 use crate::scan_planner::errors::{FileConflict, PlanError};
+use crate::scan_planner::files::HowToRead;
 use crate::scan_planner::plan::{ScanPlan, plan_scan};
 use std::error::Error;
 use std::fmt::{self, Write as _};
@@ -71,7 +72,11 @@ fn written(scan: &Scan, plan: &ScanPlan<'_>) -> Result<String, fmt::Error> {
         writeln!(text, "select {} = {dtype}", path.to_source())?;
     }
     for (position, file) in plan.files.iter().enumerate() {
-        writeln!(text, "file {}: open {}", position + 1, file.columns)?;
+        let how = match file.how {
+            HowToRead::AsItIs => "as it is",
+            HowToRead::Adapted => "adapted",
+        };
+        writeln!(text, "file {}, {how}: open {}", position + 1, file.columns)?;
         if let Some(read) = &file.read {
             writeln!(text, "    read {read}")?;
         }

@@ -273,6 +273,9 @@ uint32_t vlt_core_path_display(vlt_slot *path, uint8_t *buffer, size_t buffer_le
 uint32_t vlt_core_path_starts_with_name(vlt_slot *path, const uint8_t *name, size_t name_len);
 uint32_t vlt_core_path_hash(vlt_slot *path, uint64_t *hash);
 uint32_t vlt_core_project_paths(vlt_slot *dtype, vlt_slot *set, vlt_slot *out);
+uint32_t vlt_core_struct_with_fields_renamed_allowing_repeats(
+        vlt_slot *dtype, const uint8_t *names, size_t names_len, const size_t *name_lengths, size_t name_lengths_len,
+        vlt_slot *out);
 uint32_t vlt_core_set_eq(vlt_slot *one, vlt_slot *other);
 uint32_t vlt_core_set_is_subset(vlt_slot *one, vlt_slot *other);
 uint32_t vlt_core_set_is_disjoint(vlt_slot *one, vlt_slot *other);
@@ -927,6 +930,21 @@ vlt_result vlt_struct_project(
             (vlt_slot *)&dtype->slot, names ? names : (const uint8_t *)no_items, names_len,
             name_lengths ? name_lengths : (const size_t *)no_items, name_lengths_len, &out->slot, told);
     empty(&unwanted);
+    return with_argument(result, ARGUMENTS({"dtype", &dtype->slot, 1, VLT_OBJECT_DTYPE}), "names", "name_lengths");
+}
+
+vlt_result vlt_struct_with_fields_renamed_allowing_repeats(
+        const vlt_dtype *dtype, const uint8_t *names, size_t names_len, const size_t *name_lengths,
+        size_t name_lengths_len, vlt_dtype *out) {
+    if (!names && names_len)
+        return vlt_is_wrong("names", VLT_RANGE);
+    if (!name_lengths && name_lengths_len)
+        return vlt_is_wrong("name_lengths", VLT_RANGE);
+    if (are_same(&dtype->slot, &out->slot))
+        return vlt_is_wrong("out", VLT_SAME_SLOT);
+    vlt_result result = (vlt_result)vlt_core_struct_with_fields_renamed_allowing_repeats(
+            (vlt_slot *)&dtype->slot, names ? names : (const uint8_t *)no_items, names_len,
+            name_lengths ? name_lengths : (const size_t *)no_items, name_lengths_len, &out->slot);
     return with_argument(result, ARGUMENTS({"dtype", &dtype->slot, 1, VLT_OBJECT_DTYPE}), "names", "name_lengths");
 }
 

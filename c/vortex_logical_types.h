@@ -816,6 +816,23 @@ VLT_MUST_USE vlt_result vlt_struct_project(
         const vlt_dtype *dtype, const uint8_t *names, size_t names_len, const size_t *name_lengths,
         size_t name_lengths_len, vlt_dtype *out, vlt_error *error);
 
+/* Stores in `out` the struct with other names of its fields, whose types stay in the same order. It is nullable if the
+ * struct in `dtype` is. Each field whose name is an old name gets the new name. All other fields keep their names, and
+ * an old name that no field has changes nothing. If an old name is there twice, the first pair counts. Names can be
+ * swapped. A name may occur several times afterwards.
+ *
+ * `names` contains the bytes of an old name, of its new name, of the next old name, of its new name and so on, one name
+ * directly after the other, and `name_lengths` contains the number of bytes of each name. For example, the bytes
+ * `idskuatday` with the lengths 2, 3, 2 and 3 rename `id` to `sku` and `at` to `day`.
+ *
+ * Returns VLT_UTF8 if a name isn't UTF-8, VLT_CONDITION if the type isn't a struct, and VLT_RANGE if the lengths don't
+ * add up to the number of bytes, or if the last old name has no new name.
+ *
+ * Results: VLT_DONE, VLT_KIND, VLT_UTF8, VLT_CONDITION, VLT_SAME_SLOT, VLT_RANGE or VLT_LIBRARY. */
+VLT_MUST_USE vlt_result vlt_struct_with_fields_renamed_allowing_repeats(
+        const vlt_dtype *dtype, const uint8_t *names, size_t names_len, const size_t *name_lengths,
+        size_t name_lengths_len, vlt_dtype *out);
+
 /* Writes the number of fields of the struct to `count`. Returns VLT_CONDITION if the type isn't a struct.
  *
  * Results: VLT_DONE, VLT_KIND or VLT_CONDITION. */

@@ -1031,6 +1031,37 @@ static void added_fields(void) {
     free_all(&why, 1);
 }
 
+/* Other names of fields. The names are pairs of an old and a new one. */
+static void renamed_fields(void) {
+    any s[2] = {VLT_EMPTY, VLT_EMPTY}, path = VLT_EMPTY;
+    const size_t lengths[4] = {1, 1, 1, 1}, uneven[4] = {1, 2, 0, 1};
+    type_of(&s[0], "{a=i32, b=utf8?, c=f64}?");
+    path_of(&path, "a");
+    DONE(vlt_struct_with_fields_renamed_allowing_repeats(&s[0].dtype, TEXT("abba"), lengths, 4, &s[1].dtype));
+    HAS(&s[1], "{b=i32, a=utf8?, c=f64}?");
+    DONE(vlt_struct_with_fields_renamed_allowing_repeats(&s[0].dtype, TEXT("axay"), lengths, 4, &s[1].dtype));
+    HAS(&s[1], "{x=i32, b=utf8?, c=f64}?");
+    DONE(vlt_struct_with_fields_renamed_allowing_repeats(&s[0].dtype, TEXT("bxyz"), uneven, 4, &s[1].dtype));
+    HAS(&s[1], "{a=i32, xy=utf8?, c=f64}?");
+    DONE(vlt_struct_with_fields_renamed_allowing_repeats(&s[0].dtype, NULL, 0, NULL, 0, &s[1].dtype));
+    HAS(&s[1], "{a=i32, b=utf8?, c=f64}?");
+    DONE(vlt_struct_with_fields_renamed_allowing_repeats(&s[0].dtype, TEXT("acba"), lengths, 4, &s[1].dtype));
+    HAS(&s[1], "{c=i32, a=utf8?, c=f64}?");
+    DONE(vlt_struct_with_fields_renamed_allowing_repeats(&s[1].dtype, TEXT("cd"), lengths, 2, &s[0].dtype));
+    HAS(&s[0], "{d=i32, a=utf8?, d=f64}?");
+    IS(VLT_RANGE, vlt_struct_with_fields_renamed_allowing_repeats(&s[0].dtype, TEXT("aba"), lengths, 3, &s[1].dtype));
+    IS(VLT_RANGE, vlt_struct_with_fields_renamed_allowing_repeats(&s[0].dtype, TEXT("abb"), lengths, 4, &s[1].dtype));
+    IS(VLT_RANGE, vlt_struct_with_fields_renamed_allowing_repeats(&s[0].dtype, TEXT("abc"), lengths, 2, &s[1].dtype));
+    IS(VLT_UTF8, vlt_struct_with_fields_renamed_allowing_repeats(&s[0].dtype, TEXT("a\xff"), lengths, 2, &s[1].dtype));
+    IS(VLT_KIND, vlt_struct_with_fields_renamed_allowing_repeats(&path.dtype, TEXT("ab"), lengths, 2, &s[1].dtype));
+    IS(VLT_SAME_SLOT, vlt_struct_with_fields_renamed_allowing_repeats(&s[0].dtype, TEXT("ab"), lengths, 2, &s[0].dtype));
+    type_of(&s[0], "i32");
+    IS(VLT_CONDITION, vlt_struct_with_fields_renamed_allowing_repeats(&s[0].dtype, TEXT("ab"), lengths, 2, &s[1].dtype));
+    HAS(&s[1], "{c=i32, a=utf8?, c=f64}?");
+    free_all(s, 2);
+    free_all(&path, 1);
+}
+
 /* The message of the type of a text. */
 static void message_of(any *slot, const char *text) {
     any dtype = VLT_EMPTY;
@@ -1346,6 +1377,7 @@ static void all(void) {
     edits();
     errors();
     added_fields();
+    renamed_fields();
     passed_twice();
     messages();
     nodes();

@@ -47,6 +47,13 @@ abbrev pub with_names : {X : Type 0} → List ℕ → List ℕ → (List (List �
 with_names bytes lengths f No Why Yes =
     No (NamesFault whole bytes lengths) ⊎ (AreTexts bytes lengths × OfThe (names_cut bytes lengths) (λ ns. f ns No Why Yes))
 
+-- The pairs of the first and the second item, of the third and the fourth, and so on, or None if their number is odd. For example,
+-- the names `id`, `sku`, `at` and `day` are the pairs of `id` and `sku` and of `at` and `day`.
+abbrev pub paired : {X : Type 0} → List X → Option (List (X × X))
+paired [] = Some []
+paired (x ∷ []) = None
+paired (x ∷ y ∷ xs) = option_map (λ ps. (x, y) ∷ ps) (paired xs)
+
 -- the objects in several slots
 abbrev pub objects_in : List Slot → List (Option Object)
 objects_in slots = map (λ s. s.value) slots

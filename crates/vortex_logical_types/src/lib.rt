@@ -65,6 +65,7 @@ mod path_messages;
 mod path_texts;
 mod paths;
 mod projections;
+mod renamed_fields;
 mod set_relations;
 mod sets;
 mod source_texts;

@@ -2,11 +2,11 @@
 -- SPDX-FileCopyrightText: Copyright the Vortex contributors
 
 -- Hashes of names, how the bytes of a name are read, and the buckets of keys.
-use Rattle.std.proofs.Common.{◌≡◌, ℕ, zero, suc, ◌+◌, ◌-◌, ◌*◌, ◌/◌, ◌%◌, ◌<◌, ◌≤◌, ◌^◌, List, [], ◌∷◌, length, get_or, drop, refl, sym, ap, ◌∙◌, arith, add-mul, pow-suc}
+use Rattle.std.proofs.Common.{◌≡◌, ℕ, zero, suc, ◌+◌, ◌-◌, ◌*◌, ◌/◌, ◌%◌, ◌<◌, ◌≤◌, ◌^◌, List, [], ◌∷◌, length, length-drop, get_or, drop, refl, sym, ap, ◌∙◌, arith, add-mul, pow-suc}
 use Rattle.std.specs.Int.{w64, from_be_bytes}
 use Rattle.std.proofs.Math.Nat.{div-lt_iff_lt-mul, mul-le-mul_right, mul-lt-mul_of_pos_right, mod-eq-sub-div-mul, div-mul-le_self}
 use Rattle.std.proofs.lemmas.Nat.{mod_low, pow-add}
-use Rattle.std.proofs.lemmas.List.{get_or_past, take_rest}
+use Rattle.std.proofs.lemmas.List.{drop-drop, get_or_past, take_rest}
 use Rattle.dtype_base.specs.BinaryDigits.{binary_digits}
 use Rattle.dtype_base.specs.NameHashes.{big_endian, bucket_of_key, hash_of, key_of, mixed, without_bits, words_hash}
 use Rattle.dtype_base.proofs.lemmas.BinaryDigits.{digits_between, digits_fewest}
@@ -40,7 +40,32 @@ pub whole_hash : (k : ℕ) (n : List ℕ) → k ≡ (length n - 1) / 8 → mixed
 unfolding hash_of
 whole_hash k n is = ap (λ j. mixed (words_hash j n) (big_endian 8 (drop (length n - 8) n))) is
 
-pub ruleset hash_steps = (short_hash, whole_hash, words_more, take_rest)
+-- The first words of the text n have the hash h, and the rest is left, of which there is some.
+pub record AreHashed (h : ℕ) (rest n : List ℕ) : Type 0 where
+  pub words : ℕ
+  pub hash : h ≡ words_hash words n
+  pub left : rest ≡ drop (8 * words) n
+  pub some : 8 * words < length n
+
+pub none_hashed : (h : ℕ) (n : List ℕ) → h ≡ length n → 8 ≤ length n → AreHashed h n n
+unfolding words_hash
+none_hashed h n is long = record { words = 0; hash = is; left = refl; some = omega (arith, long) }
+
+pub one_hashed : (h j : ℕ) (rest next n : List ℕ) → AreHashed h rest n → 8 < length rest → j ≡ mixed h (big_endian 8 rest) → next ≡ drop 8 rest → AreHashed j next n
+one_hashed h j rest next n a more is by_word =
+    let long : length rest ≡ length n - 8 * a.words = ap length a.left ∙ length-drop (8 * a.words) n in record {
+      words = a.words + 1;
+      hash = is ∙ ap (λ g. mixed g (big_endian 8 rest)) a.hash ∙ ap (λ (r : List ℕ). mixed (words_hash a.words n) (big_endian 8 r)) a.left ∙ words_more a.words n;
+      left = by_word ∙ ap (drop 8) a.left ∙ drop-drop 8 (8 * a.words) n ∙ (let sum : 8 * a.words + 8 ≡ 8 * (a.words + 1) = omega arith in ap (λ (k : ℕ). drop k n) sum);
+      some = omega (arith, long, more);
+    }
+
+pub all_hashed : (h : ℕ) (rest n : List ℕ) → AreHashed h rest n → length rest ≤ 8 → mixed h (big_endian 8 (drop (length n - 8) n)) ≡ hash_of n
+all_hashed h rest n a few =
+    let long : length rest ≡ length n - 8 * a.words = ap length a.left ∙ length-drop (8 * a.words) n in
+    ap (λ g. mixed g (big_endian 8 (drop (length n - 8) n))) a.hash ∙ whole_hash a.words n (omega (arith, long, few, a.some))
+
+pub ruleset hash_steps = (short_hash, none_hashed, one_hashed, all_hashed, take_rest)
 
 -- ---- keys and buckets
 

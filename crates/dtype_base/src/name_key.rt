@@ -78,8 +78,10 @@ pub(crate) fn hash_of(text: &[u8]) -> u64
     if text.len() < 8 {
         return mixed(hash, load_u64(text));
     }
-    for i in 0..(text.len() - 1) / 8 {
-        hash = mixed(hash, first_word(&text[8 * i..]));
+    let mut rest = text;
+    while rest.len() > 8 {
+        hash = mixed(hash, first_word(rest));
+        rest = &rest[8..];
     }
     mixed(hash, first_word(&text[text.len() - 8..]))
 }

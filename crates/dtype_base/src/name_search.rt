@@ -9,6 +9,7 @@ ghost use Rattle.dtype_base.specs.FieldNames.{first_place};
 ghost use Rattle.dtype_base.specs.Comparisons.{comparisons, longest_bucket};
 ghost use Rattle.dtype_base.specs.NameHashes.{key_of};
 ghost use Rattle.dtype_base.specs.private.NameOrder.{IsBucketFor, IsEntryOf, IsIndexOf, entry_name_cmp, mask, position_in};
+ghost use Rattle.dtype_base.specs.declared.name_order.Discriminator.TheVariants.{Text};
 
 use crate::counted_names::{Compared, CountedNames};
 use crate::name_key::{TWO_POW_64, bucket_of_key, key_of, without_bits};
@@ -44,16 +45,38 @@ pub(crate) fn search(
             name,
             key,
         ),
-        Discriminator::Text => search_with(
-            &names,
-            compared,
-            bits,
-            Discriminator::Text,
-            entries,
-            name,
-            key,
-        ),
+        Discriminator::Text => search_by_texts(&names, compared, bits, entries, name, key),
     }
+}
+
+// The search among entries that the texts of their names distinguish. It isn't inlined, because few lists have such
+// entries, and the calls that compare texts make the other search slower.
+#[inline(never)]
+fn search_by_texts(
+    names: &CountedNames<'_>,
+    compared: Compared,
+    bits: u32,
+    entries: &[u64],
+    name: &str,
+    key: u64,
+) -> (Option<usize>, u64)
+    requires none { compared ≡ 0 }
+    requires bits { bits < 64 }
+    requires some { 0 < length entries.now }
+    requires bucket { IsBucketFor names.now bits Text name.now entries.now }
+    requires key { key ≡ key_of bits name.now }
+    ensures place { result.0 ≡ first_place names.now name.now }
+    ensures count { result.1 ≡ comparisons (length entries.now) }
+{
+    search_with(
+        names,
+        compared,
+        bits,
+        Discriminator::Text,
+        entries,
+        name,
+        key,
+    )
 }
 
 // Returns a window of the entries that contains the bucket of this key and is as long as the longest bucket.

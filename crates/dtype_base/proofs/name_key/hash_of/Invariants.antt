@@ -1,10 +1,13 @@
 -- SPDX-License-Identifier: Apache-2.0
 -- SPDX-FileCopyrightText: Copyright the Vortex contributors
 
-use Rattle.std.proofs.Common.{◌≡◌}
-use Rattle.dtype_base.specs.NameHashes.{words_hash}
+use Rattle.std.proofs.Common.{length}
+use Rattle.dtype_base.proofs.NameHashes.{AreHashed}
 use Rattle.dtype_base.proofs.name_key.hash_of.Given as goal
 
--- the words so far are hashed
-abbrev pub invariant-loop-i : goal.invariant-loop-i
-invariant-loop-i l = l.hash ≡ words_hash l.i l.text
+-- the words before those that are left are hashed
+abbrev pub invariant-loop-rest : goal.invariant-loop-rest
+invariant-loop-rest l = AreHashed l.hash l.rest l.text
+
+abbrev pub decreases-loop-rest : goal.decreases-loop-rest
+decreases-loop-rest l = length l.rest

@@ -5,7 +5,8 @@
 use Rattle.std.specs.Prelude.{ℕ, List, [], ◌∷◌, IsTrue}
 use Rattle.std.specs.FinSet as set
 use Rattle.vortex_dtype.specs.At.{ExistsIn}
-use Rattle.vortex_dtype.specs.Names.{IsAmong}
+use Rattle.vortex_dtype.specs.Distinct.{Distinct}
+use Rattle.vortex_dtype.specs.Names.{IsAmong, column_names}
 use Rattle.vortex_dtype.specs.Overlaps.{Overlaps}
 use Rattle.vortex_dtype.specs.PathOrder.{PathSet, set_of}
 use Rattle.vortex_dtype.specs.Tree.{Tree}
@@ -27,3 +28,8 @@ NeedsColumn s t n = (p : List Field) × IsTrue (set.contains s p) × ExistsIn t 
 pub record Opens (s : PathSet) (t : Tree) (ns : List (List ℕ)) : Type 0 where
   pub all : (n : List ℕ) → HasColumn t n → NeedsColumn s t n → IsAmong ns n
   pub only : (n : List ℕ) → IsAmong ns n → HasColumn t n × NeedsColumn s t n
+
+-- No name is there twice. If the root is in the set, then the whole type is needed, so this requires that no two columns of
+-- `t` have the same name. It is no abbreviation, so that a search in a loop takes it as one word.
+unfoldable pub OpensOnce : PathSet → Tree → List (List ℕ) → Type 0
+OpensOnce s t ns = (IsTrue (set.contains s []) → Distinct (column_names t)) → Distinct ns

@@ -12,7 +12,7 @@ use Rattle.vortex_dtype.specs.PathOrder.{PathSet, set_of}
 use Rattle.vortex_dtype.specs.Projected.{projected}
 use Rattle.vortex_dtype.specs.Tree.{Tree}
 use Rattle.vortex_dtype.specs.Unresolved.{unresolved}
-use Rattle.scan_planner.specs.Needs.{Opens}
+use Rattle.scan_planner.specs.Needs.{Opens, OpensOnce}
 use Rattle.scan_planner.specs.declared.files.FilePlan.{FilePlan}
 use Rattle.scan_planner.specs.declared.files.HowToRead.{HowToRead}
 
@@ -23,6 +23,10 @@ AllHow t fs = AllByRecursion (λ f. f.how ≡ HowToRead.AsItIs ↔ tree f.file.n
 -- the columns that are opened are those of the file that a path needs
 unfoldable pub AllOpen : PathSet → List FilePlan → Type 0
 AllOpen s fs = AllByRecursion (λ f. Opens s (tree f.file.now) f.columns) fs
+
+-- no column is opened twice
+unfoldable pub AllOpenOnce : PathSet → List FilePlan → Type 0
+AllOpenOnce s fs = AllByRecursion (λ f. OpensOnce s (tree f.file.now) f.columns) fs
 
 -- what is read is the projection of the file's type
 unfoldable pub AllRead : PathSet → List FilePlan → Type 0

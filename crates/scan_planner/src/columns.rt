@@ -2,9 +2,9 @@
 // SPDX-FileCopyrightText: Copyright the Vortex contributors
 
 //! The top-level columns of a type.
-ghost use Rattle.std.specs.Prelude.{ℕ, IfOk, IsOkUnless, List};
+ghost use Rattle.std.specs.Prelude.{◌≡◌, ℕ, IfOk, IsOkUnless, List};
 ghost use Rattle.dtype_types.specs.tree.TreeOf.{tree};
-ghost use Rattle.vortex_dtype.specs.Names.{IsAmong};
+ghost use Rattle.vortex_dtype.specs.Names.{IsAmong, column_names};
 ghost use Rattle.vortex_dtype.specs.Types.VortexError.TheVariants.{OutOfMemory};
 ghost use Rattle.scan_planner.specs.Needs.{HasColumn};
 
@@ -18,6 +18,7 @@ use vortex_dtype::{DType, FieldNames, VortexResult};
 /// - `OutOfMemory`: an allocation fails.
 #[tactic(auto, using(vortex_dtype::proofs::rulesets::column_paths))]
 pub fn column_names(alloc: Global, dtype: &DType) -> VortexResult<FieldNames>
+    ensures names { IfOk result (λ ns. ns ≡ column_names (tree dtype.now)) }
     ensures there { IfOk result (λ ns. (n : List ℕ) → IsAmong ns n → HasColumn (tree dtype.now) n) }
     ensures all { IfOk result (λ ns. (n : List ℕ) → HasColumn (tree dtype.now) n → IsAmong ns n) }
     ensures errors { IsOkUnless result OutOfMemory }

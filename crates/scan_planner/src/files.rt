@@ -8,13 +8,14 @@ ghost use Rattle.std.specs.Option.{option_map};
 ghost use Rattle.dtype_types.specs.tree.TreeOf.{tree};
 ghost use Rattle.vortex_dtype.specs.At.{ExistsIn};
 ghost use Rattle.vortex_dtype.specs.Distinct.{Distinct};
+ghost use Rattle.vortex_dtype.specs.Names.{column_names};
 ghost use Rattle.vortex_dtype.specs.Overlaps.{Overlaps};
 ghost use Rattle.vortex_dtype.specs.PathOrder.{set_of};
 ghost use Rattle.vortex_dtype.specs.Projected.{projected};
 ghost use Rattle.vortex_dtype.specs.Types.Field.{Field};
 ghost use Rattle.vortex_dtype.specs.Types.VortexError.TheVariants.{OutOfMemory};
 ghost use Rattle.vortex_dtype.specs.Unresolved.{unresolved};
-ghost use Rattle.scan_planner.specs.Needs.{Opens};
+ghost use Rattle.scan_planner.specs.Needs.{Opens, OpensOnce};
 
 use crate::columns::column_names;
 use crate::paths::missing_paths;
@@ -53,7 +54,7 @@ pub struct FilePlan<'a> {
 /// # Errors
 ///
 /// - `OutOfMemory`: an allocation fails.
-#[tactic(auto, using(vortex_dtype::proofs::rulesets::column_paths))]
+#[tactic(auto, using(vortex_dtype::proofs::rulesets::column_paths), unfolding(crate::specs::Needs::OpensOnce))]
 pub fn plan_file<'a>(
     alloc: Global,
     file: &'a DType,
@@ -63,6 +64,7 @@ pub fn plan_file<'a>(
     ensures of_file { IfOk result (λ f. tree f.file.now ≡ tree file.now) }
     ensures how { IfOk result (λ f. f.how ≡ HowToRead.AsItIs ↔ tree f.file.now ≡ tree table.now) }
     ensures opened { IfOk result (λ f. Opens needed.now (tree f.file.now) f.columns) }
+    ensures opened_once { IfOk result (λ f. OpensOnce needed.now (tree f.file.now) f.columns) }
     ensures projection { IfOk result (λ f. option_map tree f.read ≡ projected (tree f.file.now) (set.contains needed.now)) }
     ensures lacks { IfOk result (λ f. set_of f.missing.items ≡ unresolved needed.now (tree f.file.now)) }
     ensures once { IfOk result (λ f. Distinct f.missing.items) }
@@ -116,6 +118,7 @@ fn kept_columns(
     requires { (q : List Field) → (ExistsIn (tree read.now) q ↔ (ExistsIn (tree file.now) q
         × ((p : List Field) × IsTrue (set.contains needed.now p) × ExistsIn (tree file.now) p × Overlaps p q))) }
     ensures opened { IfOk result (λ ns. Opens needed.now (tree file.now) ns) }
+    ensures names { IfOk result (λ ns. ns ≡ column_names (tree read.now)) }
     ensures errors { IsOkUnless result OutOfMemory }
 {
     Ok(column_names(alloc, read)?)

@@ -9,11 +9,12 @@ ghost use Rattle.dtype_types.specs.tree.TreeOf.{tree};
 ghost use Rattle.dtype_types.specs.tree.Valid.{Valid};
 ghost use Rattle.vortex_dtype.specs.Along.{along};
 ghost use Rattle.vortex_dtype.specs.At.{ExistsIn};
+ghost use Rattle.vortex_dtype.specs.InOne.{ExistsInOne};
 ghost use Rattle.vortex_dtype.specs.Types.Field.{Field};
 ghost use Rattle.vortex_dtype.specs.Types.VortexError.{VortexError};
 ghost use Rattle.vortex_dtype.specs.Types.VortexError.TheVariants.{OutOfMemory};
 ghost use Rattle.scan_planner.specs.Needs.{needed};
-ghost use Rattle.scan_planner.specs.Plans.{AllHow, AllLack, AllOpen, AllRead};
+ghost use Rattle.scan_planner.specs.Plans.{AllHow, AllLack, AllOpen, AllOpenOnce, AllRead};
 ghost use Rattle.scan_planner.specs.Tables.{AllLackPath, ConflictsFirst, FillsAll, IsLeast, ReadsAll};
 ghost use Rattle.scan_planner.specs.declared.errors.FileConflict.{FileConflict};
 ghost use Rattle.scan_planner.specs.declared.errors.PlanError.TheVariants.{Library, Missing, NoCommonType, NoFiles};
@@ -60,10 +61,13 @@ pub fn plan_scan<'a>(
         ≡ map (along (tree s.table)) select.now) }
     ensures there { IfOk result (λ s. (p : List Field) → IsTrue (set.contains (needed select.now filter.now) p)
         → ExistsIn (tree s.table) p) }
+    ensures has { IfOk result (λ s. (p : List Field) → ExistsIn (tree s.table) p
+        → ExistsInOne (map tree files.now) p) }
     ensures of_files { IfOk result (λ s. map (λ f. tree f.file.now) s.files.items ≡ map tree files.now) }
     ensures readable { IfOk result (λ s. ReadsAll (map (λ f. tree f.file.now) s.files.items) (tree s.table)) }
     ensures how { IfOk result (λ s. AllHow (tree s.table) s.files.items) }
     ensures opened { IfOk result (λ s. AllOpen (needed select.now filter.now) s.files.items) }
+    ensures opened_once { IfOk result (λ s. AllOpenOnce (needed select.now filter.now) s.files.items) }
     ensures projections { IfOk result (λ s. AllRead (needed select.now filter.now) s.files.items) }
     ensures lacks { IfOk result (λ s. AllLack (needed select.now filter.now) s.files.items) }
     ensures no_files { IsErrOf result NoFiles → files.now ≡ [] }
@@ -89,7 +93,7 @@ pub fn plan_scan<'a>(
 }
 
 // Returns what a scan of the needed paths reads of each file.
-#[tactic(auto, using(vortex_dtype::proofs::rulesets::collected), unfolding(crate::specs::Plans::AllHow, crate::specs::Plans::AllOpen, crate::specs::Plans::AllRead, crate::specs::Plans::AllLack))]
+#[tactic(auto, using(vortex_dtype::proofs::rulesets::collected), unfolding(crate::specs::Plans::AllHow, crate::specs::Plans::AllOpen, crate::specs::Plans::AllOpenOnce, crate::specs::Plans::AllRead, crate::specs::Plans::AllLack))]
 fn plan_files<'a>(
     alloc: Global,
     files: &'a [DType],
@@ -99,6 +103,7 @@ fn plan_files<'a>(
     ensures of_files { IfOk result (λ v. map (λ f. tree f.file.now) v.items ≡ map tree files.now) }
     ensures how { IfOk result (λ v. AllHow (tree table.now) v.items) }
     ensures opened { IfOk result (λ v. AllOpen needed.now v.items) }
+    ensures opened_once { IfOk result (λ v. AllOpenOnce needed.now v.items) }
     ensures projections { IfOk result (λ v. AllRead needed.now v.items) }
     ensures lacks { IfOk result (λ v. AllLack needed.now v.items) }
     ensures errors { IsOkUnless result OutOfMemory }

@@ -10,6 +10,7 @@ ghost use Rattle.dtype_types.specs.tree.Valid.{Valid};
 ghost use Rattle.vortex_dtype.specs.AllMerged.{AllFilledIn, HaveNoReaderOfAll, IsLeastReaderOfAll, all_columns_merged};
 ghost use Rattle.vortex_dtype.specs.At.{ExistsIn};
 ghost use Rattle.vortex_dtype.specs.Conflicts.{ConflictsAt};
+ghost use Rattle.vortex_dtype.specs.InOne.{ExistsInOne};
 ghost use Rattle.vortex_dtype.specs.MergedColumns.{columns_merged};
 ghost use Rattle.vortex_dtype.specs.Types.Field.{Field};
 ghost use Rattle.vortex_dtype.specs.Types.VortexError.{VortexError};
@@ -38,6 +39,7 @@ pub fn table_type(alloc: Global, files: &[DType]) -> Result<DType, PlanError>
     ensures least { IfOk result (λ t. IsLeast (map tree files.now) (tree t)) }
     ensures values { IfOk result (λ t. FillsAll (map tree files.now) (tree t)) }
     ensures lacks { IfOk result (λ t. (p : List Field) → (ExistsIn (tree t) p → ⊥) → AllLackPath (map tree files.now) p) }
+    ensures has { IfOk result (λ t. (p : List Field) → ExistsIn (tree t) p → ExistsInOne (map tree files.now) p) }
     ensures no_files { IsErrOf result NoFiles → files.now ≡ [] }
     ensures no_type { (c : FileConflict) → IsErrOf result (NoCommonType c)
         → (d : Tree) → Valid d → ReadsAll (map tree files.now) d → ⊥ }
@@ -66,6 +68,8 @@ fn merged_files(alloc: Global, first: &DType, others: &[DType]) -> VortexResult<
     ensures values { IfOk result (λ r. IfSome r (λ c. AllFilledIn (tree first.now) (map tree others.now) (tree c))) }
     ensures lacks { IfOk result (λ r. IfSome r (λ c. (p : List Field)
         → (ExistsIn (tree c) p → ⊥) → AllLackPath (tree first.now ∷ map tree others.now) p)) }
+    ensures has { IfOk result (λ r. IfSome r (λ c. (p : List Field)
+        → ExistsIn (tree c) p → ExistsInOne (tree first.now ∷ map tree others.now) p)) }
     ensures errors { IsOkUnless result OutOfMemory }
 {
     Ok(merge_all(alloc, first, others)?)

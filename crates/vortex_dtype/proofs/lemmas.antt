@@ -13,6 +13,7 @@ pub mod Differences
 pub mod StorageKinds
 pub mod NamesAmong
 pub mod ColumnPaths
+pub mod InOne
 pub mod EachAmong
 pub mod EachRegistered
 pub mod MergedAll

@@ -16,6 +16,7 @@ pub mod Reads
 pub mod Written
 pub mod Accepts
 pub mod PathMessage
+pub mod InOne
 pub mod Names
 pub mod Registered
 pub mod MergedAll

@@ -182,7 +182,7 @@ escape_more (c ∷ bytes) b rest e = split (c == 120) refl where
       let is = some_is (f.0, bytes) (b, []) f.2 in
       rw (t, f.1) (ap (λ (z : ℕ × List ℕ). Some (z.0, z.1 ++ rest)) is)
 
-unit_more : (bytes : List ℕ) (b : ℕ) (rest : List ℕ) → unit_at bytes ≡ Some (b, []) → unit_at (bytes ++ rest) ≡ Some (b, rest)
+pub unit_more : (bytes : List ℕ) (b : ℕ) (rest : List ℕ) → unit_at bytes ≡ Some (b, []) → unit_at (bytes ++ rest) ≡ Some (b, rest)
 unfolding unit_at
 unit_more [] b rest e = absurd cc
 unit_more (c ∷ bytes) b rest e = split (c == 92) refl where
@@ -191,7 +191,7 @@ unit_more (c ∷ bytes) b rest e = split (c == 92) refl where
   split false t = rw t (ap (λ (z : ℕ × List ℕ). Some (z.0, z.1 ++ rest)) (some_is (c, bytes) (b, []) (rw t at e)))
 
 -- no byte in quotes begins with the closing quote
-unit_open : (u : List ℕ) (b : ℕ) (rest : List ℕ) → unit_at u ≡ Some (b, []) → (u ≡ 34 ∷ [] → ⊥) → byte_at 34 (u ++ rest) ≡ None
+pub unit_open : (u : List ℕ) (b : ℕ) (rest : List ℕ) → unit_at u ≡ Some (b, []) → (u ≡ 34 ∷ [] → ⊥) → byte_at 34 (u ++ rest) ≡ None
 unfolding unit_at
 unit_open [] b rest e open_ = absurd cc
 unit_open (c ∷ u) b rest e open_ = split (c == 34) refl where
@@ -203,12 +203,12 @@ unit_open (c ∷ u) b rest e open_ = split (c == 34) refl where
       absurd (open_ (ap (λ d. d ∷ u) is ∙ ap (λ (z : ℕ × List ℕ). 34 ∷ z.1) last))
   split false t = rw t refl
 
-unit_len : (u : List ℕ) (b : ℕ) → unit_at u ≡ Some (b, []) → 1 ≤ length u
+pub unit_len : (u : List ℕ) (b : ℕ) → unit_at u ≡ Some (b, []) → 1 ≤ length u
 unfolding unit_at
 unit_len [] b e = absurd cc
 unit_len (c ∷ u) b e = omega arith
 
-units_again : (k : ℕ) (n x rest : List ℕ) → units n x → length x < k → until (byte_at 34) unit_at k (x ++ (34 ∷ rest)) ≡ Some (n, rest)
+pub units_again : (k : ℕ) (n x rest : List ℕ) → units n x → length x < k → until (byte_at 34) unit_at k (x ++ (34 ∷ rest)) ≡ Some (n, rest)
 units_again zero n x rest h lt = absurd (omega arith)
 units_again (suc k) [] x rest h lt = rw h refl
 units_again (suc k) (b ∷ n) x rest h lt =

@@ -6,6 +6,7 @@ pub mod Loops
 pub mod TypeFacts
 pub mod Words
 pub mod Plain
+pub mod Specials
 pub mod LeavesSound
 pub mod Sequences
 pub mod Ends
@@ -21,4 +22,8 @@ pub mod Written
 pub mod PathSteps
 pub mod PathAgain
 pub mod PathLoops
+pub mod Stops
+pub mod PathStops
+pub mod PathGoes
+pub mod PathEnds
 pub mod AtTheFront

@@ -29,7 +29,7 @@ use Rattle.dtype_text.proofs.LeavesAgain.{begins_blanks, byte_then, named_again,
 use Rattle.dtype_text.proofs.Written.{name_written}
 use Rattle.dtype_text.proofs.PathSteps.{ends_later, bare_ends, bare_some, no_bracket, no_dollar, no_dot, no_gap, next_of, named_some, step_some, steps_some, path_takes}
 
-or_true : (a : Bool) → (a || true) ≡ true
+pub or_true : (a : Bool) → (a || true) ≡ true
 or_true true = refl
 or_true false = refl
 
@@ -47,12 +47,12 @@ named_step_again n x rest h none apart =
     ] in
     rw (r, test) refl
 
-step_name : (bytes : List ℕ) → is_next 91 bytes ≡ false → is_next 36 bytes ≡ false → step_at bytes ≡ named_step_at bytes
+pub step_name : (bytes : List ℕ) → is_next 91 bytes ≡ false → is_next 36 bytes ≡ false → step_at bytes ≡ named_step_at bytes
 unfolding step_at
 step_name [] e f = refl
 step_name (b ∷ bytes) e f = rw (e, f) refl
 
-step_dollar : (bytes : List ℕ) → step_at (36 ∷ bytes) ≡ named_step_at bytes
+pub step_dollar : (bytes : List ℕ) → step_at (36 ∷ bytes) ≡ named_step_at bytes
 unfolding step_at
 step_dollar bytes = refl
 
@@ -75,11 +75,11 @@ step_again (Name n) x rest h none apart = elim h.2 [
       ap (λ (a : List ℕ). step_at (a ++ rest)) e ∙ step_dollar (h.1 ++ rest) ∙ named_step_again n h.1 rest h.3 none (λ bare. apart (ap ends_bare e ∙ later ∙ bare))
 ]
 
-some_len : (x : List ℕ) → (x ≡ [] → ⊥) → 1 ≤ length x
+pub some_len : (x : List ℕ) → (x ≡ [] → ⊥) → 1 ≤ length x
 some_len [] h = absurd (h refl)
 some_len (b ∷ x) h = omega arith
 
-no_byte : (k : ℕ) (bytes : List ℕ) → is_next k bytes ≡ false → byte_at k bytes ≡ None
+pub no_byte : (k : ℕ) (bytes : List ℕ) → is_next k bytes ≡ false → byte_at k bytes ≡ None
 no_byte k [] e = refl
 no_byte k (b ∷ bytes) e = rw e refl
 

@@ -18,3 +18,5 @@ pub mod Within
 pub mod PathGrammar
 pub mod PathSource
 pub mod Paths
+pub mod Places
+pub mod Unreadable

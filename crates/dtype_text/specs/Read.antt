@@ -2,11 +2,10 @@
 -- SPDX-FileCopyrightText: Copyright the Vortex contributors
 
 -- What a reader returns, by what is read: a value and the bytes after it, or nothing.
-use Rattle.std.specs.Prelude.{◌≡◌, ◌≤◌, ℕ, zero, suc, List, [], ◌∷◌, ◌==◌, if◌then◌else◌, Option, Some, None, Result, Ok, Err}
+use Rattle.std.specs.Prelude.{◌≡◌, ℕ, zero, suc, List, [], ◌∷◌, ◌==◌, if◌then◌else◌, Option, Some, None, Result, Ok, Err}
 use Rattle.dtype_base.specs.declared.vortex_error.VortexError.{VortexError}
 use Rattle.dtype_base.specs.declared.vortex_error.VortexError.TheVariants.{OutOfMemory}
 use Rattle.dtype_text.specs.declared.fault.Fault.{Fault}
-use Rattle.dtype_text.specs.declared.text_error.Expected.{Expected}
 use Rattle.dtype_text.specs.declared.fault.Fault.TheVariants.{Memory, Refused, TooDeep, Misread}
 
 -- the error of the library, as a reader returns it
@@ -19,11 +18,6 @@ IsMisread Memory = ⊥
 IsMisread (Refused e) = ⊥
 IsMisread (TooDeep left) = ⊥
 IsMisread (Misread left expected) = Unit {0}
-
--- this was expected where at most so many bytes are left
-abbrev pub IsExpected : Expected → ℕ → Fault → Type 0
-IsExpected x most (Misread left expected) = (expected ≡ x) × (left ≤ most)
-IsExpected x most _ = ⊥
 
 -- what follows a value that was read
 infixl 10 ◌>>=◌

@@ -2,11 +2,13 @@
 // SPDX-FileCopyrightText: Copyright the Vortex contributors
 
 // Readers of what has no parts, at the front of bytes. Each returns what it read and the bytes after it.
-ghost use Rattle.std.specs.Prelude.{◌≡◌, ◌+◌, ◌*◌, ◌<◌, ◌≤◌, string_bytes, Option, Some, None, IfSome, IfOk, length, pos, neg_ℤ};
+ghost use Rattle.std.specs.Prelude.{◌≡◌, ◌+◌, ◌*◌, ◌<◌, ◌≤◌, string_bytes, Option, Some, None, IfErr, IfSome, IfOk, length, pos, neg_ℤ};
 ghost use Rattle.std.specs.List.{prefix_len};
 ghost use Rattle.dtype_text.specs.Bare.{is_bare_byte as is_bare_spec, is_id_byte as is_id_spec};
 ghost use Rattle.dtype_text.specs.Leaves.{is_blank as is_blank_spec, is_in_line as is_in_line_spec, behind_comment as behind_comment_spec, is_number_byte as is_number_spec, front, past, skipped, nullability_at, digit_after, number_of, number_at, text_at, bare_at, hex_at, hex_byte_at, meaning as meaning_spec, escape_at, unit_at, quoted_at, name_at, equals_at, comma_at, signed_at, word_is as word_is_spec, bool_at, no_hex, metadata_at};
-ghost use Rattle.dtype_text.specs.Read.{IsExpected, Reads, shown, byte_at, until};
+ghost use Rattle.dtype_text.specs.Places.{IsAt, bare_stop, escape_stop, from_special, here, name_stop, plain_len as plain_len_spec, quoted_stop, unit_stop, units_stop};
+ghost use Rattle.dtype_text.specs.Read.{Reads, shown, byte_at, until};
+ghost use Rattle.dtype_text.specs.declared.fault.Fault.TheVariants.{Misread};
 ghost use Rattle.dtype_text.specs.declared.text_error.Expected.TheVariants as expecting;
 
 use crate::bare::{has_special, is_bare_byte, is_id_byte, is_special};
@@ -202,35 +204,48 @@ pub fn text_of(bytes: &[u8]) -> Option<&str>
 
 /// Returns these bytes from the first character on that no bare name has. The bytes begin with this word. If the word
 /// has no such character, all bytes are returned.
+#[tactic(auto, using(crate::proofs::Specials::specials))]
 pub fn at_special<'a>(bytes: &'a [u8], word: &[u8]) -> &'a [u8]
-    ensures { length result.now ≤ length bytes.now }
+    ensures { result.now ≡ from_special word.now bytes.now }
 {
-    let Some(text) = text_of(word) else {
-        return bytes;
-    };
-    let mut before = 0usize;
-    for character in text.chars() {
-        if is_special(character) {
-            let (_, rest) = bytes.split_at(before.min(bytes.len()));
-            return rest;
-        }
-        before = before.saturating_add(character.len_utf8());
+    let (_, rest) = bytes.split_at(plain_len(word).min(bytes.len()));
+    rest
+}
+
+// Returns the number of bytes of a word before its first character that no bare name has, or 0 if it has no such character.
+#[tactic(auto, using(crate::proofs::Specials::specials))]
+fn plain_len(word: &[u8]) -> usize
+    ensures { result ≡ plain_len_spec word.now }
+{
+    match text_of(word) {
+        Some(text) => plain_text_len(text),
+        None => 0,
     }
-    bytes
+}
+
+// Returns the same of a text.
+fn plain_text_len(text: &str) -> usize
+    ensures { result ≡ plain_len_spec text.now }
+{
+    match text.find(|character| is_special(character)) {
+        Some(before) => before,
+        None => 0,
+    }
 }
 
 /// Returns the fault that an id was expected at the front of these bytes, which begin with this word. Its place is that of
 /// the first character of the word that no bare id has.
 pub fn not_an_id(bytes: &[u8], word: &[u8]) -> Fault
-    ensures { IsExpected expecting.Id (length bytes.now) result }
+    ensures { result ≡ Misread (length (from_special word.now bytes.now)) expecting.Id }
 {
     misread(at_special(bytes, word), Expected::Id)
 }
 
 // Reads a bare name.
-#[tactic(auto, unfolding(crate::specs::Leaves::bare_at))]
+#[tactic(auto, unfolding(crate::specs::Leaves::bare_at, crate::specs::Places::bare_stop))]
 fn bare(alloc: Global, bytes: &[u8]) -> Result<(FieldName, &[u8]), Fault>
-    ensures { Reads (λ x. (x.0, x.1.now)) result (bare_at bytes.now) }
+    ensures read { Reads (λ x. (x.0, x.1.now)) result (bare_at bytes.now) }
+    ensures place { IfErr result (IsAt (bare_stop bytes.now)) }
 {
     let (word, rest) = bytes.split_at(bare_len(bytes));
     match text_of(word) {
@@ -258,7 +273,8 @@ fn hex_digit(byte: u8) -> Option<u8>
 // Reads two hexadecimal digits.
 #[tactic(auto, unfolding(crate::specs::Leaves::hex_byte_at))]
 fn hex_byte(bytes: &[u8]) -> Result<(u8, &[u8]), Fault>
-    ensures { Reads (λ x. (x.0, x.1.now)) result (hex_byte_at bytes.now) }
+    ensures read { Reads (λ x. (x.0, x.1.now)) result (hex_byte_at bytes.now) }
+    ensures place { IfErr result (IsAt (here expecting.HexDigits bytes.now)) }
 {
     match bytes {
         [high, low, rest @ ..] => match (hex_digit(*high), hex_digit(*low)) {
@@ -288,7 +304,8 @@ fn meaning(letter: u8) -> Option<u8>
 // Reads an escape, after its backslash.
 #[tactic(auto, using(std::proofs::lemmas::Bool::Decides::nat_tests), unfolding(crate::specs::Leaves::escape_at))]
 fn escape(bytes: &[u8]) -> Result<(u8, &[u8]), Fault>
-    ensures { Reads (λ x. (x.0, x.1.now)) result (escape_at bytes.now) }
+    ensures read { Reads (λ x. (x.0, x.1.now)) result (escape_at bytes.now) }
+    ensures place { IfErr result (IsAt (escape_stop bytes.now)) }
 {
     match bytes {
         [b'x', rest @ ..] => hex_byte(rest),
@@ -303,7 +320,8 @@ fn escape(bytes: &[u8]) -> Result<(u8, &[u8]), Fault>
 // Reads a byte in quotes, which may be an escape.
 #[tactic(auto, unfolding(crate::specs::Leaves::unit_at))]
 fn unit(bytes: &[u8]) -> Result<(u8, &[u8]), Fault>
-    ensures { Reads (λ x. (x.0, x.1.now)) result (unit_at bytes.now) }
+    ensures read { Reads (λ x. (x.0, x.1.now)) result (unit_at bytes.now) }
+    ensures place { IfErr result (IsAt (unit_stop bytes.now)) }
 {
     match bytes {
         [b'\\', rest @ ..] => escape(rest),
@@ -314,7 +332,8 @@ fn unit(bytes: &[u8]) -> Result<(u8, &[u8]), Fault>
 
 // Reads the bytes up to the closing quote.
 fn units(alloc: Global, bytes: &[u8]) -> Result<(Vec<u8>, &[u8]), Fault>
-    ensures { Reads (λ x. (x.0.items, x.1.now)) result (until (byte_at 34) unit_at (length bytes.now) bytes.now) }
+    ensures read { Reads (λ x. (x.0.items, x.1.now)) result (until (byte_at 34) unit_at (length bytes.now) bytes.now) }
+    ensures place { IfErr result (IsAt (units_stop (length bytes.now) bytes.now)) }
 {
     let mut units = Vec::new(alloc);
     let mut rest = bytes;
@@ -341,9 +360,10 @@ fn string_of(bytes: Vec<u8>) -> Option<String>
 }
 
 /// Reads a text in quotes, after the opening quote.
-#[tactic(auto, unfolding(crate::specs::Leaves::quoted_at))]
+#[tactic(auto, unfolding(crate::specs::Leaves::quoted_at, crate::specs::Places::quoted_stop))]
 pub fn quoted(alloc: Global, bytes: &[u8]) -> Result<(String, &[u8]), Fault>
-    ensures { Reads (λ x. (string_bytes x.0, x.1.now)) result (quoted_at bytes.now) }
+    ensures read { Reads (λ x. (string_bytes x.0, x.1.now)) result (quoted_at bytes.now) }
+    ensures place { IfErr result (IsAt (quoted_stop bytes.now)) }
 {
     let (units, rest) = units(alloc, bytes)?;
     match string_of(units) {
@@ -353,9 +373,10 @@ pub fn quoted(alloc: Global, bytes: &[u8]) -> Result<(String, &[u8]), Fault>
 }
 
 /// Reads a name.
-#[tactic(auto, unfolding(crate::specs::Leaves::name_at))]
+#[tactic(auto, unfolding(crate::specs::Leaves::name_at, crate::specs::Places::name_stop))]
 pub fn name(alloc: Global, bytes: &[u8]) -> Result<(FieldName, &[u8]), Fault>
-    ensures { Reads (λ x. (x.0, x.1.now)) result (name_at bytes.now) }
+    ensures read { Reads (λ x. (x.0, x.1.now)) result (name_at bytes.now) }
+    ensures place { IfErr result (IsAt (name_stop bytes.now)) }
 {
     match bytes {
         [b'"', rest @ ..] => {

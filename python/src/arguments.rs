@@ -9,13 +9,13 @@ use crate::errors::Made;
 use crate::field_path::FieldPath;
 use crate::field_path_set::FieldPathSet;
 use crate::imported::{Imported, ELEMENT};
-use pyo3::exceptions::{PyIndexError, PyOverflowError, PyTypeError};
+use pyo3::exceptions::{PyIndexError, PyOverflowError, PyTypeError, PyValueError};
 use pyo3::prelude::*;
 use pyo3::types::{PyBool, PyByteArray, PyBytes, PyIterator, PyString};
 use pyo3::{PyClass, PyTypeInfo};
 use std::fmt::Display;
 use std::ops::Deref;
-use vortex_logical_types::{self as library, Field, VortexResult};
+use vortex_logical_types::{self as library, Field, VortexResult, Widening};
 
 /// An argument that may be left out. (`Option` would take Python's `None` for one that is left out.)
 #[derive(Clone, Copy)]
@@ -121,6 +121,15 @@ pub fn flag(Optional(it): Optional<'_>, name: impl Display) -> PyResult<bool> {
     match it.map(|it| it.downcast::<PyBool>().map_err(|_| wrong(name, "a bool", it))) {
         Some(flag) => Ok(flag?.is_true()),
         None => Ok(false),
+    }
+}
+
+/// Returns which numbers may be read as wider ones: none if the argument is left out.
+pub fn widening(Optional(it): Optional<'_>) -> PyResult<Widening> {
+    match it.map(|it| text(it, "widening")).transpose()? {
+        None | Some("none") => Ok(Widening::None),
+        Some("integers") => Ok(Widening::Integers),
+        Some(other) => Err(PyValueError::new_err(format!("widening must be 'none' or 'integers', not {other:?}"))),
     }
 }
 

@@ -2,8 +2,8 @@
 // SPDX-FileCopyrightText: Copyright the Vortex contributors
 
 use crate::arguments::{
-    bytes, flag, given, items, member, number, object, owned, paths, position, text, texts, wrong, FromText, Optional,
-    LEFT_OUT,
+    bytes, flag, given, items, member, number, object, owned, paths, position, text, texts, widening, wrong, FromText,
+    Optional, LEFT_OUT,
 };
 use crate::arrow;
 use crate::arrow_field::{self, ArrowField};
@@ -1015,15 +1015,25 @@ impl DType {
     ///   too, and if the two key types are equal except for nullabilities.
     /// - A union can be read as a union that has its variants, in any order, and further ones. A variant is found by its
     ///   tag and its name. A struct in which a name repeats can be read as one with the same names in the same order.
-    /// - All other types can be read as the types of which they are subsets (`eq_with_nullability_subset`).
+    /// - With `widening="integers"`, an integer type can be read as an integer type that has all its values, and a decimal
+    ///   as a decimal of the same scale and a greater precision. Otherwise a type of numbers can be read as the same type
+    ///   only.
+    /// - All other types can be read as the types of which they are subsets (`eq_with_nullability_subset`). So
+    ///   floating-point types are never widened.
     /// - In each place, at every depth, `other` must be nullable if this type is.
     ///
     /// >>> file, table = DType("{b=utf8, a=i32}"), DType("{a=i32, b=utf8?, c=u8?}")
     /// >>> file.reads_as(table), table.reads_as(file)
     /// (True, False)
-    #[pyo3(text_signature = "($self, other)")]
-    fn reads_as(&self, other: &PyAny) -> Made<bool> {
-        Ok(self.dtype.reads_as(&given::<DType>(other, "other")?.dtype))
+    /// >>> file.reads_as("{a=i64, b=utf8}"), file.reads_as("{a=i64, b=utf8}", widening="integers")
+    /// (False, True)
+    ///
+    /// Raises `ValueError` if `widening` is neither `"none"` nor `"integers"`.
+    #[args("*", widening = "LEFT_OUT")]
+    #[pyo3(text_signature = "($self, other, *, widening='none')")]
+    fn reads_as(&self, other: &PyAny, widening: Optional<'_>) -> Made<bool> {
+        let (other, widening) = (given::<DType>(other, "other")?, self::widening(widening)?);
+        Ok(self.dtype.reads_as(&other.dtype, widening))
     }
 
     /// Returns the least type as which values of both types can be read, or None if there is no such type. A program
@@ -1041,19 +1051,27 @@ impl DType {
     ///   two has stays as it is. Unions in which a tag has two names, or a name has two tags, can't be merged.
     /// - Structs in which a name repeats are merged field by field, if both have the same names in the same order,
     ///   because their columns can't be told apart by name.
-    /// - All other types are merged as `merge_nullability` merges them.
+    /// - With `widening="integers"`, two integer types are merged to the narrowest integer type that has all values of
+    ///   both, if there is one: `i32` and `i64` to `i64`, and `u8` and `i8` to `i16`. Two decimals of the same scale are
+    ///   merged to the one with the greater precision. Otherwise numbers are merged only if their types are the same.
+    /// - All other types are merged as `merge_nullability` merges them. So floating-point types are never widened.
     /// - A type that isn't an extension is nullable if one of the two is, at every depth.
     ///
     /// >>> DType("{a=i32, b=utf8}").merge_columns("{c=u8, a=i32?}")
     /// DType('{a=i32?, b=utf8?, c=u8?}')
-    #[pyo3(text_signature = "($self, other)")]
-    fn merge_columns(&self, other: &PyAny) -> Made<Option<Self>> {
-        let other = given::<DType>(other, "other")?;
-        Ok(self.dtype.try_merge_columns(&other.dtype)?.map(Self::from))
+    /// >>> DType("{a=i32}").merge_columns("{a=i64}", widening="integers")
+    /// DType('{a=i64}')
+    ///
+    /// Raises `ValueError` if `widening` is neither `"none"` nor `"integers"`.
+    #[args("*", widening = "LEFT_OUT")]
+    #[pyo3(text_signature = "($self, other, *, widening='none')")]
+    fn merge_columns(&self, other: &PyAny, widening: Optional<'_>) -> Made<Option<Self>> {
+        let (other, widening) = (given::<DType>(other, "other")?, self::widening(widening)?);
+        Ok(self.dtype.try_merge_columns(&other.dtype, widening)?.map(Self::from))
     }
 
-    /// Returns the first place at which the two types can't be merged by `merge_columns`, or None if they can be
-    /// merged. The conflict has the path to this place, and the types at this place in this type and in `other`. The
+    /// Returns the first place at which the two types can't be merged by `merge_columns` with the same `widening`, or None
+    /// if they can be merged. The conflict has the path to this place, and the types at this place in this type and in `other`. The
     /// first place is the first one in the order of the fields of this type. A path leads only into structs, lists and
     /// fixed-size lists, so if the keys or values of two maps can't be merged, it is the path to the maps. The same is
     /// true of unions, extensions, and structs in which a name repeats. The conflict is returned, and not raised.
@@ -1061,28 +1079,38 @@ impl DType {
     /// >>> conflict = DType("{customer={id=u64}}").merge_conflict("{customer={id=utf8, city=utf8}}")
     /// >>> conflict.path, conflict.left, conflict.right
     /// (FieldPath('customer.id'), DType('u64'), DType('utf8'))
-    #[pyo3(text_signature = "($self, other)")]
-    fn merge_conflict<'p>(&self, py: Python<'p>, other: &PyAny) -> Made<Option<&'p PyAny>> {
-        let conflict = self.dtype.try_merge_conflict(&given::<DType>(other, "other")?.dtype)?;
+    ///
+    /// Raises `ValueError` if `widening` is neither `"none"` nor `"integers"`.
+    #[args("*", widening = "LEFT_OUT")]
+    #[pyo3(text_signature = "($self, other, *, widening='none')")]
+    fn merge_conflict<'p>(&self, py: Python<'p>, other: &PyAny, widening: Optional<'_>) -> Made<Option<&'p PyAny>> {
+        let (other, widening) = (given::<DType>(other, "other")?, self::widening(widening)?);
+        let conflict = self.dtype.try_merge_conflict(&other.dtype, widening)?;
         Ok(conflict.map(|conflict| exception_of(py, conflict)).transpose()?)
     }
 
     /// Returns the least type as which values of all of these types can be read, such as the schemas of several files:
-    /// the first two, merged by `merge_columns`, then the result with the third, and so on. Returns None if `types` has
-    /// no type. The order of the types decides only the order of the columns. All types are taken from `types` before
+    /// the first two, merged by `merge_columns` with this `widening`, then the result with the third, and so on. Returns
+    /// None if `types` has no type. The order of the types decides only the order of the columns. All types are taken from `types` before
     /// the first two are merged. Raises `MergeConflict` with the first type that can't be merged with those before it.
     ///
     /// >>> DType.merge_all(["{id=u64}", "{note=utf8, id=u64}", "{id=u64?}"])
     /// DType('{id=u64?, note=utf8?}')
+    /// >>> DType.merge_all(["{id=i16}", "{id=u8}", "{id=i32}"], widening="integers")
+    /// DType('{id=i32}')
+    ///
+    /// Raises `ValueError` if `widening` is neither `"none"` nor `"integers"`.
     #[staticmethod]
-    #[pyo3(text_signature = "(types)")]
-    fn merge_all(py: Python<'_>, types: &PyAny) -> Made<Option<Self>> {
+    #[args("*", widening = "LEFT_OUT")]
+    #[pyo3(text_signature = "(types, *, widening='none')")]
+    fn merge_all(py: Python<'_>, types: &PyAny, widening: Optional<'_>) -> Made<Option<Self>> {
+        let widening = self::widening(widening)?;
         if DType::is_type_of(types) {
             return Err(wrong("types", "an iterable of DType and str", types).into());
         }
         let one = |(at, item): (usize, PyResult<_>)| given::<DType>(item?, format_args!("types[{at}]"));
         let types: Made<Vec<_>> = items(types, "types", "DType and str")?.enumerate().map(one).collect();
-        match library::DType::try_merge_all(types?.iter().map(|it| &it.dtype))? {
+        match library::DType::try_merge_all(types?.iter().map(|it| &it.dtype), widening)? {
             Ok(merged) => Ok(merged.map(Self::from)),
             Err(conflict) => Err(PyErr::from_value(exception_of(py, conflict)?).into()),
         }

@@ -70,6 +70,9 @@ def accepts(hint, value):
         is_one_thing = isinstance(value, (str, bytes)) or (isinstance(value, FieldPath) and parts != (Step,))
         return (isinstance(value, collections.abc.Iterable) and not is_one_thing
                 and all(accepts(parts[0], it) for it in value))
+    if origin is typing.Literal:
+        # (A word that isn't one of these is a ValueError, which other tests try.)
+        return isinstance(value, tuple(map(type, parts)))
     return isinstance(value, hint)
 
 
@@ -82,6 +85,8 @@ def sample(hint):
         return tuple(map(sample, parts))
     if origin is collections.abc.Iterable:
         return [sample(parts[0])]
+    if origin is typing.Literal:
+        return parts[0]
     return SAMPLES[hint]
 
 

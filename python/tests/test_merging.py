@@ -35,6 +35,15 @@ CONFLICTS = (
     ("{a=x.y[0x](i8)}", "{a=x.y[0x00](i8)}", "a", "x.y[0x](i8)", "x.y[0x00](i8)"),
 )
 
+# Two types of numbers, and the least type as which both can be read if integers are widened.
+WIDENED = (
+    ("i32", "i64", "i64"), ("u8?", "i16", "i16?"), ("u8", "i8", "i16"), ("u32", "i32?", "i64?"), ("decimal(5,2)", "decimal(7,2)", "decimal(7,2)"),
+    ("{a=i8, b=utf8}", "{a=u16}", "{a=i32, b=utf8?}"), ("list(union(x@1=i8))", "list(union(x@1=i16))", "list(union(x@1=i16))"),
+    ("map(i8, u8, keys_sorted=true)", "map(i16, u8, keys_sorted=true)", "map(i16, u8, keys_sorted=false)"),
+)
+# Two types of numbers that have no common type, also if integers are widened.
+APART = (("u64", "i8"), ("f32", "f64"), ("i32", "f64"), ("decimal(5,2)", "decimal(7,3)"), ("i32", "decimal(10,0)"))
+
 
 # A type, another as which it can be read, and which can't be read as it.
 READABLE = (
@@ -94,6 +103,30 @@ class Merging(unittest.TestCase):
         error = caught.exception
         self.assertEqual((error.index, error.path, error.left, error.right), (2, FieldPath("b"), DType("i8?"), DType("i16")))
         self.assertIsInstance(error, ValueError)
+
+    def test_integers_are_widened_if_the_caller_says_so(self):
+        for one, other, both in WIDENED:
+            for first, second in ((DType(one), other), (DType(other), one)):
+                self.assertEqual(first.merge_columns(second, widening="integers"), DType(both))
+                self.assertTrue(first.reads_as(both, widening="integers"))
+                self.assertIsNone(first.merge_conflict(second, widening="integers"))
+                self.assertEqual((first.merge_columns(second), first.merge_columns(second, widening="none")), (None, None))
+            self.assertFalse(DType(one).reads_as(both) and DType(other).reads_as(both))
+        for one, other in APART:
+            for first, second in ((DType(one), other), (DType(other), one)):
+                self.assertIsNone(first.merge_columns(second, widening="integers"))
+                self.assertFalse(first.reads_as(second, widening="integers"))
+                self.assertEqual(first.merge_conflict(second, widening="integers").path, FieldPath("."))
+        files = ["{id=i16}", "{id=u8, note=utf8}", "{id=i32?}"]
+        self.assertEqual(DType.merge_all(files, widening="integers"), DType("{id=i32?, note=utf8?}"))
+        self.assertRaises(MergeConflict, DType.merge_all, files)
+
+    def test_another_word_for_widening_is_refused(self):
+        one = DType("i8")
+        for call in (one.reads_as, one.merge_columns, one.merge_conflict, lambda it, **named: DType.merge_all([it], **named)):
+            self.assertRaisesRegex(ValueError, "^widening must be 'none' or 'integers', not \"floats\"$", call, one, widening="floats")
+            self.assertRaisesRegex(TypeError, "^widening must be a str, not NoneType$", call, one, widening=None)
+            self.assertRaises(TypeError, call, one, "integers")
 
     def test_one_type_is_no_iterable_of_types(self):
         for wrong in (DType("{a=i8}"), "ab", 5, None):

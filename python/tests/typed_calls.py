@@ -26,8 +26,8 @@ def of_types() -> None:
     found: tuple[Optional[int], Optional[DType]] = (orders.find("id"), orders.field("id"))
     parts: tuple[Optional[tuple[int, int]], Optional[bool]] = (orders.decimal_parts, orders.keys_sorted)
     merged: Optional[DType] = orders.merge_nullability(DType(orders))
-    columns: tuple[Optional[DType], Optional[DType]] = (orders.merge_columns(orders), DType.merge_all([orders]))
-    readable: bool = orders.reads_as(orders)
+    columns: tuple[Optional[DType], Optional[DType]] = (orders.merge_columns(orders), DType.merge_all([orders], widening="integers"))
+    readable: bool = orders.reads_as(orders, widening="none")
     conflict: Optional[MergeConflict] = orders.merge_conflict(orders)
     differences: list[Difference] = orders.differences("i8", ignore_nullability=True, ignore_order=False)
     removed: list[FieldPath] = [it.path for it in differences if it.after is None]

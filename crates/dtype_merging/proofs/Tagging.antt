@@ -22,6 +22,7 @@ use Rattle.dtype_types.proofs.lemmas.TreeLaws.{tree_union, triples_variants}
 use Rattle.dtype_types.proofs.lemmas.TypesBelow.{weight, weight_items}
 use Rattle.dtype_merging.specs.MergedColumns.{all_differ, can_be_variants, columns_merged, further_variants, joined, merged_by_tag, own_tags, put_first, union_with, variant_type}
 use Rattle.dtype_merging.specs.ReadsAs.{keyed, tags}
+use Rattle.dtype_merging.specs.declared.widening.Widening.{Widening}
 use Rattle.dtype_merging.specs.private.Collected.{gathered, unions_merged}
 use Rattle.dtype_merging.proofs.lemmas.Columns.{joined_nothing, kept_variant, left_variant}
 use Rattle.dtype_merging.proofs.lemmas.Finding.{by_bool, finds_first, finds_later}
@@ -107,36 +108,36 @@ variants_lighter left rest n d g k next within =
     omega (arith, all, within)
 
 -- a variant is merged, of those that are left
-pub tagged_more : (gs : Fields) (done more : Done) (left rest : Left) (n : List ℕ) (d x : DType) (g : ℕ) (o : Option Tree) (all : Option Variants)
-    → option_map (λ us. joined (gathered done) us) (merged_by_tag (variants_left left) gs) ≡ all → left ≡ (n, (d, g)) ∷ rest → o ≡ first_named (pairs gs) (g ∷ n)
-    → Some (tree x) ≡ variant_type (tree d) (λ u. columns_merged (tree d) u) o → more ≡ done ++ (n, g, x) ∷ []
-    → option_map (λ us. joined (gathered more) us) (merged_by_tag (variants_left rest) gs) ≡ all
-tagged_more gs done more left rest n d x g o all so_far next found made put =
-    let others = merged_by_tag (variants_left rest) gs in
-    let here : Some (tree x) ≡ variant_type (tree d) (λ u. columns_merged (tree d) u) (first_named (pairs gs) (g ∷ n)) = made ∙ ap (variant_type (tree d) (λ u. columns_merged (tree d) u)) found in
+pub tagged_more : (wide : Widening) (gs : Fields) (done more : Done) (left rest : Left) (n : List ℕ) (d x : DType) (g : ℕ) (o : Option Tree) (all : Option Variants)
+    → option_map (λ us. joined (gathered done) us) (merged_by_tag wide (variants_left left) gs) ≡ all → left ≡ (n, (d, g)) ∷ rest → o ≡ first_named (pairs gs) (g ∷ n)
+    → Some (tree x) ≡ variant_type (tree d) (λ u. columns_merged wide (tree d) u) o → more ≡ done ++ (n, g, x) ∷ []
+    → option_map (λ us. joined (gathered more) us) (merged_by_tag wide (variants_left rest) gs) ≡ all
+tagged_more wide gs done more left rest n d x g o all so_far next found made put =
+    let others = merged_by_tag wide (variants_left rest) gs in
+    let here : Some (tree x) ≡ variant_type (tree d) (λ u. columns_merged wide (tree d) u) (first_named (pairs gs) (g ∷ n)) = made ∙ ap (variant_type (tree d) (λ u. columns_merged wide (tree d) u)) found in
     ap (λ z. option_map (λ us. joined (gathered z) us) others) put
     ∙ behind others
     ∙ ap (λ z. option_map (λ us. joined (gathered done) us) (put_first {h = a_union} n g z others)) here
-    ∙ ap (λ z. option_map (λ us. joined (gathered done) us) (merged_by_tag (variants_left z) gs)) (sym next) ∙ so_far
+    ∙ ap (λ z. option_map (λ us. joined (gathered done) us) (merged_by_tag wide (variants_left z) gs)) (sym next) ∙ so_far
   where
     behind : (z : Option Variants) → option_map (λ us. joined (gathered (done ++ (n, g, x) ∷ [])) us) z ≡ option_map (λ us. joined (gathered done) us) (put_first {h = a_union} n g (Some (tree x)) z)
     behind None = refl
     behind (Some us) = ap Some (gathered_more done n g x us)
 
 -- a variant can't be merged, of those that are left
-pub tagged_stops : (gs : Fields) (done : Done) (left rest : Left) (n : List ℕ) (d : DType) (g : ℕ) (o : Option Tree) (all : Option Variants)
-    → option_map (λ us. joined (gathered done) us) (merged_by_tag (variants_left left) gs) ≡ all → left ≡ (n, (d, g)) ∷ rest → o ≡ first_named (pairs gs) (g ∷ n)
-    → None ≡ variant_type (tree d) (λ u. columns_merged (tree d) u) o → None ≡ all
-tagged_stops gs done left rest n d g o all so_far next found none =
-    let others = merged_by_tag (variants_left rest) gs in
-    let here : None ≡ variant_type (tree d) (λ u. columns_merged (tree d) u) (first_named (pairs gs) (g ∷ n)) = none ∙ ap (variant_type (tree d) (λ u. columns_merged (tree d) u)) found in
+pub tagged_stops : (wide : Widening) (gs : Fields) (done : Done) (left rest : Left) (n : List ℕ) (d : DType) (g : ℕ) (o : Option Tree) (all : Option Variants)
+    → option_map (λ us. joined (gathered done) us) (merged_by_tag wide (variants_left left) gs) ≡ all → left ≡ (n, (d, g)) ∷ rest → o ≡ first_named (pairs gs) (g ∷ n)
+    → None ≡ variant_type (tree d) (λ u. columns_merged wide (tree d) u) o → None ≡ all
+tagged_stops wide gs done left rest n d g o all so_far next found none =
+    let others = merged_by_tag wide (variants_left rest) gs in
+    let here : None ≡ variant_type (tree d) (λ u. columns_merged wide (tree d) u) (first_named (pairs gs) (g ∷ n)) = none ∙ ap (variant_type (tree d) (λ u. columns_merged wide (tree d) u)) found in
     ap (λ z. option_map (λ us. joined (gathered done) us) (put_first {h = a_union} n g z others)) here
-    ∙ ap (λ z. option_map (λ us. joined (gathered done) us) (merged_by_tag (variants_left z) gs)) (sym next) ∙ so_far
+    ∙ ap (λ z. option_map (λ us. joined (gathered done) us) (merged_by_tag wide (variants_left z) gs)) (sym next) ∙ so_far
 
 -- no variants are left
-pub tagged_all : (gs : Fields) (done : Done) (left : Left) (all : Option Variants) → option_map (λ us. joined (gathered done) us) (merged_by_tag (variants_left left) gs) ≡ all → left ≡ [] → Some (gathered done) ≡ all
-tagged_all gs done left all so_far end =
-    ap Some (sym (joined_nothing (gathered done))) ∙ ap (λ z. option_map (λ us. joined (gathered done) us) (merged_by_tag (variants_left z) gs)) (sym end) ∙ so_far
+pub tagged_all : (wide : Widening) (gs : Fields) (done : Done) (left : Left) (all : Option Variants) → option_map (λ us. joined (gathered done) us) (merged_by_tag wide (variants_left left) gs) ≡ all → left ≡ [] → Some (gathered done) ≡ all
+tagged_all wide gs done left all so_far end =
+    ap Some (sym (joined_nothing (gathered done))) ∙ ap (λ z. option_map (λ us. joined (gathered done) us) (merged_by_tag wide (variants_left z) gs)) (sym end) ∙ so_far
 
 -- a further variant
 pub further_put : (gs : Fields) (done more : Done) (left rest : Left) (n : List ℕ) (d x : DType) (g : ℕ) (all : Variants)
@@ -208,17 +209,17 @@ union_is_refused n vs ns ts gs e names types each (inr refused) other =
 
 -- ---- two unions
 
-pub unions_apart : (vs ws : Variants) (n : Nullability) (b : Bool) → b ≡ (own_tags vs && own_tags ws) → b ≡ false → None ≡ unions_merged vs ws n
-unions_apart vs ws n b test fails =
-    sym (pick_false (own_tags vs && own_tags ws) (union_with (option_map (λ us. joined us (further_variants (keyed vs) ws)) (merged_by_tag vs (keyed ws))) n) None (sym test ∙ fails))
+pub unions_apart : (wide : Widening) (vs ws : Variants) (n : Nullability) (b : Bool) → b ≡ (own_tags vs && own_tags ws) → b ≡ false → None ≡ unions_merged wide vs ws n
+unions_apart wide vs ws n b test fails =
+    sym (pick_false (own_tags vs && own_tags ws) (union_with (option_map (λ us. joined us (further_variants (keyed vs) ws)) (merged_by_tag wide vs (keyed ws))) n) None (sym test ∙ fails))
 
-pub unions_unmade : (vs ws : Variants) (n : Nullability) (b : Bool) → b ≡ (own_tags vs && own_tags ws) → b ≡ true → None ≡ merged_by_tag vs (keyed ws) → None ≡ unions_merged vs ws n
-unions_unmade vs ws n b test passes none =
+pub unions_unmade : (wide : Widening) (vs ws : Variants) (n : Nullability) (b : Bool) → b ≡ (own_tags vs && own_tags ws) → b ≡ true → None ≡ merged_by_tag wide vs (keyed ws) → None ≡ unions_merged wide vs ws n
+unions_unmade wide vs ws n b test passes none =
     ap (λ o. union_with (option_map (λ us. joined us (further_variants (keyed vs) ws)) o) n) none
-    ∙ sym (pick_true (own_tags vs && own_tags ws) (union_with (option_map (λ us. joined us (further_variants (keyed vs) ws)) (merged_by_tag vs (keyed ws))) n) None (sym test ∙ passes))
+    ∙ sym (pick_true (own_tags vs && own_tags ws) (union_with (option_map (λ us. joined us (further_variants (keyed vs) ws)) (merged_by_tag wide vs (keyed ws))) n) None (sym test ∙ passes))
 
-pub unions_made : (vs ws us all : Variants) (n : Nullability) (b : Bool) (r : Option Tree) → b ≡ (own_tags vs && own_tags ws) → b ≡ true → Some us ≡ merged_by_tag vs (keyed ws)
-    → all ≡ joined us (further_variants (keyed vs) ws) → r ≡ union_with (Some all) n → r ≡ unions_merged vs ws n
-unions_made vs ws us all n b r test passes some made is =
+pub unions_made : (wide : Widening) (vs ws us all : Variants) (n : Nullability) (b : Bool) (r : Option Tree) → b ≡ (own_tags vs && own_tags ws) → b ≡ true → Some us ≡ merged_by_tag wide vs (keyed ws)
+    → all ≡ joined us (further_variants (keyed vs) ws) → r ≡ union_with (Some all) n → r ≡ unions_merged wide vs ws n
+unions_made wide vs ws us all n b r test passes some made is =
     is ∙ ap (λ z. union_with (Some z) n) made ∙ ap (λ o. union_with (option_map (λ zs. joined zs (further_variants (keyed vs) ws)) o) n) some
-    ∙ sym (pick_true (own_tags vs && own_tags ws) (union_with (option_map (λ zs. joined zs (further_variants (keyed vs) ws)) (merged_by_tag vs (keyed ws))) n) None (sym test ∙ passes))
+    ∙ sym (pick_true (own_tags vs && own_tags ws) (union_with (option_map (λ zs. joined zs (further_variants (keyed vs) ws)) (merged_by_tag wide vs (keyed ws))) n) None (sym test ∙ passes))

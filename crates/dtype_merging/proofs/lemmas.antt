@@ -7,6 +7,7 @@ pub mod Repeats
 pub mod Variants
 pub mod Beside
 pub mod Order
+pub mod Numbers
 pub mod Reading
 pub mod Columns
 pub mod Merging

@@ -16,6 +16,7 @@ use Rattle.dtype_paths.specs.declared.field.Field.{Field}
 use Rattle.dtype_paths.specs.declared.field.Field.TheVariants.{Name, ElementType}
 use Rattle.dtype_merging.specs.MergedColumns.{columns_merged, merged_beside, no_repeats}
 use Rattle.dtype_merging.specs.ReadsAs.{NoRepeats}
+use Rattle.dtype_merging.specs.declared.widening.Widening.{Widening}
 
 -- the root if nothing is merged, and otherwise no place
 abbrev pub root_unless : {X : Type 0} → Option X → Option (List Field)
@@ -29,27 +30,27 @@ first_of (Some p) o = Some p
 
 abbrev mutual
   -- the first place at which the two types can't be merged, or None if they can be merged
-  pub first_conflict : Tree → Tree → Option (List Field)
-  first_conflict (list t m) (list u n) = option_map (λ p. ElementType ∷ p) (first_conflict t u)
-  first_conflict (fixed_size_list t j m) (fixed_size_list u k n) = if j == k then option_map (λ p. ElementType ∷ p) (first_conflict t u) else Some []
-  first_conflict (struct fs m) (struct gs n) = if no_repeats (pairs fs) && no_repeats (pairs gs) then fields_conflict fs gs else root_unless (merged_beside fs gs)
-  first_conflict t u = root_unless (columns_merged t u)
+  pub first_conflict : Widening → Tree → Tree → Option (List Field)
+  first_conflict w (list t m) (list u n) = option_map (λ p. ElementType ∷ p) (first_conflict w t u)
+  first_conflict w (fixed_size_list t j m) (fixed_size_list u k n) = if j == k then option_map (λ p. ElementType ∷ p) (first_conflict w t u) else Some []
+  first_conflict w (struct fs m) (struct gs n) = if no_repeats (pairs fs) && no_repeats (pairs gs) then fields_conflict w fs gs else root_unless (merged_beside w fs gs)
+  first_conflict w t u = root_unless (columns_merged w t u)
 
   -- the first place in the fields `fs`, each beside the field of its name in `gs`
-  pub fields_conflict : Fields → Fields → Option (List Field)
-  fields_conflict no_items gs = None
-  fields_conflict (item n t _ fs) gs = first_of (option_map (λ p. Name n ∷ p) (option_and_then (λ u. first_conflict t u) (first_named (pairs gs) n))) (fields_conflict fs gs)
+  pub fields_conflict : Widening → Fields → Fields → Option (List Field)
+  fields_conflict w no_items gs = None
+  fields_conflict w (item n t _ fs) gs = first_of (option_map (λ p. Name n ∷ p) (option_and_then (λ u. first_conflict w t u) (first_named (pairs gs) n))) (fields_conflict w fs gs)
 
 -- The two types can't be merged, whatever is inside of them where a path leads: they are of different kinds, for
 -- example, or fixed-size lists of different sizes.
-abbrev pub ClashesHere : Tree → Tree → Type 0
-ClashesHere (list t m) (list u n) = ⊥
-ClashesHere (fixed_size_list t j m) (fixed_size_list u k n) = j ≢ k
-ClashesHere (struct fs m) (struct gs n) = (¬ NoRepeats fs gs) × (columns_merged (struct fs m) (struct gs n) ≡ None)
-ClashesHere t u = columns_merged t u ≡ None
+abbrev pub ClashesHere : Widening → Tree → Tree → Type 0
+ClashesHere w (list t m) (list u n) = ⊥
+ClashesHere w (fixed_size_list t j m) (fixed_size_list u k n) = j ≢ k
+ClashesHere w (struct fs m) (struct gs n) = (¬ NoRepeats fs gs) × (columns_merged w (struct fs m) (struct gs n) ≡ None)
+ClashesHere w t u = columns_merged w t u ≡ None
 
 -- the path leads in `t` to `x` and in `u` to `y`, which can't be merged, whatever is inside of them
-pub record ConflictsAt (t u : Tree) (p : List Field) (x y : Tree) : Type 0 where
+pub record ConflictsAt (w : Widening) (t u : Tree) (p : List Field) (x y : Tree) : Type 0 where
   pub first : At t p x
   pub second : At u p y
-  pub clash : ClashesHere x y
+  pub clash : ClashesHere w x y

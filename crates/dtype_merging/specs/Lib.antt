@@ -1,6 +1,7 @@
 -- SPDX-License-Identifier: Apache-2.0
 -- SPDX-FileCopyrightText: Copyright the Vortex contributors
 
+pub mod Widens
 pub mod ReadsAs
 pub mod MergedColumns
 pub mod Conflicts

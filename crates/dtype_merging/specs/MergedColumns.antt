@@ -7,8 +7,9 @@
 -- if they have the same tag and the same name. For example, `union(x={a=i32})` and `union(x={b=u8}, y=utf8)` are merged
 -- to `union(x={a=i32?, b=u8?}, y=utf8)`. Two unions in which a tag has two names, or a name has two tags, have no
 -- common type. Structs in which a name repeats have a common type only if their names are the same in the same order.
--- Then their types are merged position by position. Types without parts are merged by nullability alone. That this is
--- the least type as which both can be read is a theorem (`ReadsAs`, and `laws`).
+-- Then their types are merged position by position. Types of numbers are merged to the least type as which numbers of both
+-- can be read by the caller's choice (`Widens`), and other types without parts by nullability alone. That this is the
+-- least type as which both can be read is a theorem (`ReadsAs`, and `laws`).
 use Rattle.std.specs.Prelude.{ℕ, List, [], ◌∷◌, ◌++◌, map, Bool, true, false, ◌&&◌, ◌==◌, Option, Some, None, is_none, is_some, if◌then◌else◌}
 use Rattle.std.specs.List.{filter, list_all}
 use Rattle.std.specs.Option.{option_map}
@@ -21,8 +22,10 @@ use Rattle.dtype_types.specs.equality.Equality.{same_tag}
 use Rattle.dtype_types.specs.nullability.Merged.{merged}
 use Rattle.dtype_types.specs.nullability.Nullable.{nullability, set_null}
 use Rattle.dtype_types.specs.parts.Lookups.{first_named, variant_names}
-use Rattle.dtype_types.specs.tree.Tree.{Tree, Fields, Variants, Items, Holder, Tag, no_items, item, pairs, triples, fields, null, list, fixed_size_list, map_of, struct, union, extension}
+use Rattle.dtype_types.specs.tree.Tree.{Tree, Fields, Variants, Items, Holder, Tag, no_items, item, pairs, triples, fields, null, primitive, decimal, list, fixed_size_list, map_of, struct, union, extension}
 use Rattle.dtype_merging.specs.ReadsAs.{keyed, tags}
+use Rattle.dtype_merging.specs.Widens.{common_decimal, common_ptype}
+use Rattle.dtype_merging.specs.declared.widening.Widening.{Widening}
 
 -- no two of the fields have the same name
 abbrev pub no_repeats : List (List ℕ × Tree) → Bool
@@ -122,30 +125,32 @@ others_merged t null = Some (made_nullable t)
 others_merged t u = merged t u
 
 abbrev mutual
-  -- the least type as which both types can be read, or None if there is none
-  pub columns_merged : Tree → Tree → Option Tree
-  columns_merged (list t m) (list u n) = option_map (λ x. list x (either m n)) (columns_merged t u)
-  columns_merged (fixed_size_list t j m) (fixed_size_list u k n) = if j == k then option_map (λ x. fixed_size_list x j (either m n)) (columns_merged t u) else None
-  columns_merged (map_of t v x m) (map_of u w y n) = map_with (columns_merged t u) (columns_merged v w) (stay_sorted x t y u) (either m n)
-  columns_merged (struct fs m) (struct gs n) =
-      if no_repeats (pairs fs) && no_repeats (pairs gs) then struct_with (merged_by_name fs gs) (further (pairs fs) (pairs gs)) (either m n) else option_map (λ hs. struct hs (either m n)) (merged_beside fs gs)
-  columns_merged (union vs m) (union ws n) =
-      if own_tags vs && own_tags ws then union_with (option_map (λ us. joined us (further_variants (keyed vs) ws)) (merged_by_tag vs (keyed ws))) (either m n) else None
-  columns_merged (extension i a t) (extension j b u) = if bytes_eq i j && bytes_eq a b then option_map (extension i a) (columns_merged t u) else None
-  columns_merged t u = others_merged t u
+  -- the least type as which both types can be read, by the caller's choice `w`, or None if there is none
+  pub columns_merged : Widening → Tree → Tree → Option Tree
+  columns_merged w (list t m) (list u n) = option_map (λ x. list x (either m n)) (columns_merged w t u)
+  columns_merged w (fixed_size_list t j m) (fixed_size_list u k n) = if j == k then option_map (λ x. fixed_size_list x j (either m n)) (columns_merged w t u) else None
+  columns_merged w (map_of t p x m) (map_of u q y n) = map_with (columns_merged w t u) (columns_merged w p q) (stay_sorted x t y u) (either m n)
+  columns_merged w (struct fs m) (struct gs n) =
+      if no_repeats (pairs fs) && no_repeats (pairs gs) then struct_with (merged_by_name w fs gs) (further (pairs fs) (pairs gs)) (either m n) else option_map (λ hs. struct hs (either m n)) (merged_beside w fs gs)
+  columns_merged w (union vs m) (union ws n) =
+      if own_tags vs && own_tags ws then union_with (option_map (λ us. joined us (further_variants (keyed vs) ws)) (merged_by_tag w vs (keyed ws))) (either m n) else None
+  columns_merged w (extension i a t) (extension j b u) = if bytes_eq i j && bytes_eq a b then option_map (extension i a) (columns_merged w t u) else None
+  columns_merged w (primitive p m) (primitive q n) = option_map (λ r. primitive r (either m n)) (common_ptype w p q)
+  columns_merged w (decimal d m) (decimal e n) = option_map (λ r. decimal r (either m n)) (common_decimal w d e)
+  columns_merged w t u = others_merged t u
 
   -- the fields of `fs`, each merged with the field of its name in `gs`
-  pub merged_by_name : Fields → Fields → Option (List (List ℕ × Tree))
-  merged_by_name no_items gs = Some []
-  merged_by_name (item n t _ fs) gs = prepend n (column t (λ u. columns_merged t u) (first_named (pairs gs) n)) (merged_by_name fs gs)
+  pub merged_by_name : Widening → Fields → Fields → Option (List (List ℕ × Tree))
+  merged_by_name w no_items gs = Some []
+  merged_by_name w (item n t _ fs) gs = prepend n (column t (λ u. columns_merged w t u) (first_named (pairs gs) n)) (merged_by_name w fs gs)
 
   -- the variants of `vs`, each merged with the variant of its tag and name in the other union
-  pub merged_by_tag : Variants → Fields → Option Variants
-  merged_by_tag no_items gs = Some no_items
-  merged_by_tag (item n t f vs) gs = put_first n f (variant_type t (λ u. columns_merged t u) (first_named (pairs gs) (f ∷ n))) (merged_by_tag vs gs)
+  pub merged_by_tag : Widening → Variants → Fields → Option Variants
+  merged_by_tag w no_items gs = Some no_items
+  merged_by_tag w (item n t f vs) gs = put_first n f (variant_type t (λ u. columns_merged w t u) (first_named (pairs gs) (f ∷ n))) (merged_by_tag w vs gs)
 
   -- the items at equal positions, merged; None if their names or tags differ
-  pub merged_beside : {h : Holder} → Items h → Items h → Option (Items h)
-  merged_beside no_items no_items = Some no_items
-  merged_beside {h} (item m t f xs) (item n u g ys) = if bytes_eq m n && same_tag h f g then put_first m f (columns_merged t u) (merged_beside xs ys) else None
-  merged_beside _ _ = None
+  pub merged_beside : Widening → {h : Holder} → Items h → Items h → Option (Items h)
+  merged_beside w no_items no_items = Some no_items
+  merged_beside w {h} (item m t f xs) (item n u g ys) = if bytes_eq m n && same_tag h f g then put_first m f (columns_merged w t u) (merged_beside w xs ys) else None
+  merged_beside w _ _ = None

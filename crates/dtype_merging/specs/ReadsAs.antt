@@ -1,7 +1,7 @@
 -- SPDX-License-Identifier: Apache-2.0
 -- SPDX-FileCopyrightText: Copyright the Vortex contributors
 
--- Which type can be read as which other: `ReadsAs t u` means that a reader makes a value of `u` from each value of `t`
+-- Which type can be read as which other: `ReadsAs w t u` means that a reader makes a value of `u` from each value of `t`
 -- by adding nulls for the columns that `t` lacks, and by putting the columns into the order of `u`. For example, the
 -- rows of `{b=utf8, a=i32}` can be read as `{a=i32, b=utf8?, c=u8?}`. This is how query engines read files of one table
 -- that were written with different schemas (DuckDB's `union_by_name`, Spark's `mergeSchema`). A column is found by its
@@ -11,7 +11,9 @@
 -- name. For example, `union(int@5=i32)` can be read as `union(text@9=utf8, int@5=i32?)`, but not as
 -- `union(number@5=i32)`, although the values of these two unions are the same, because a tag keeps its name. A map
 -- whose keys are sorted can also be read as a map that doesn't promise it (`StaySorted`). The type `null`, whose only
--- value is null, is read as each nullable type: a column that has only nulls is read as a column that is missing.
+-- value is null, is read as each nullable type: a column that has only nulls is read as a column that is missing. Which
+-- numbers can be read as which is the caller's choice `w` (`Widens`): for example, `{a=i32}` can be read as `{a=i64}` only
+-- if integers may be widened.
 use Rattle.std.specs.Prelude.{◌≡◌, ◌≢◌, ◌⊎◌, ℕ, List, [], ◌∷◌, Bool, true, Some, None, IsSomeAnd}
 use Rattle.dtype_base.specs.Distinct.{Distinct}
 use Rattle.dtype_base.specs.declared.nullability.Nullability.{Nullability}
@@ -19,8 +21,10 @@ use Rattle.dtype_types.specs.nullability.Nullable.{IsNullable}
 use Rattle.dtype_types.specs.nullability.Sub.{Sub, Allows}
 use Rattle.dtype_types.specs.parts.Lookups.{field_names, first_named, variant_tags}
 use Rattle.dtype_types.specs.tree.Erase.{erase}
-use Rattle.dtype_types.specs.tree.Tree.{Tree, Fields, Variants, Items, Holder, no_items, item, pairs, triples, null, list, fixed_size_list, map_of, struct, union, extension}
+use Rattle.dtype_types.specs.tree.Tree.{Tree, Fields, Variants, Items, Holder, no_items, item, pairs, triples, null, primitive, decimal, list, fixed_size_list, map_of, struct, union, extension}
 use Rattle.dtype_types.specs.tree.Valid.{Valid}
+use Rattle.dtype_merging.specs.Widens.{ReadsDecimal, ReadsPrimitive}
+use Rattle.dtype_merging.specs.declared.widening.Widening.{Widening}
 
 -- the names of the fields, in order
 abbrev pub names : Fields → List (List ℕ)
@@ -100,25 +104,29 @@ abbrev mutual
   EachBeside L R K E V (item m t f xs) (item n u g ys) = (m ≡ n) × (f ≡ g) × Alike L R K E V t u × EachBeside L R K E V xs ys
   EachBeside L R K E V _ _ = ⊥
 
--- a type without parts is read as a type of which it is a subset, and `null` as each nullable type
-abbrev pub ReadsPlain : Tree → Tree → Type 0
-ReadsPlain null u = IsNullable u
-ReadsPlain t u = Sub t u
+-- A type without parts is read as a type of which it is a subset, and `null` as each nullable type. A type of numbers is
+-- also read as a wider one if the caller allows it.
+abbrev pub ReadsPlain : Widening → Tree → Tree → Type 0
+ReadsPlain w null u = IsNullable u
+ReadsPlain w (primitive p m) (primitive q n) = ReadsPrimitive w p q × Allows m n
+ReadsPlain w (decimal d m) (decimal e n) = ReadsDecimal w d e × Allows m n
+ReadsPlain w t u = Sub t u
 
--- `t` can be read as `u`: `u` is nullable in each place in which `t` is, and its further columns are nullable
-abbrev pub ReadsAs : Tree → Tree → Type 0
-ReadsAs = Alike ReadsPlain Allows StaySorted IsNullable (Unit {0})
+-- `t` can be read as `u`, by the caller's choice which numbers may be read as wider ones: `u` is nullable in each place in
+-- which `t` is, and its further columns are nullable
+abbrev pub ReadsAs : Widening → Tree → Tree → Type 0
+ReadsAs w = Alike (ReadsPlain w) Allows StaySorted IsNullable (Unit {0})
 
 -- the two types are the same up to the order of columns and of variants; the columns of sorted keys are in the same order
 abbrev pub SameColumns : Tree → Tree → Type 0
 SameColumns = Alike (λ t u. t ≡ u) (λ m n. m ≡ n) SameOrder (λ t. ⊥) ⊥
 
 -- both `a` and `b` can be read as `c`, and `c` can be read as each valid type `d` as which both can be read
-pub record IsLeastReader (a b c : Tree) : Type 0 where
-  pub first : ReadsAs a c
-  pub second : ReadsAs b c
-  pub least : (d : Tree) → Valid d → ReadsAs a d → ReadsAs b d → ReadsAs c d
+pub record IsLeastReader (w : Widening) (a b c : Tree) : Type 0 where
+  pub first : ReadsAs w a c
+  pub second : ReadsAs w b c
+  pub least : (d : Tree) → Valid d → ReadsAs w a d → ReadsAs w b d → ReadsAs w c d
 
 -- there is no valid type as which both can be read
-abbrev pub HaveNoReader : Tree → Tree → Type 0
-HaveNoReader a b = (d : Tree) → Valid d → ReadsAs a d → ReadsAs b d → ⊥
+abbrev pub HaveNoReader : Widening → Tree → Tree → Type 0
+HaveNoReader w a b = (d : Tree) → Valid d → ReadsAs w a d → ReadsAs w b d → ⊥

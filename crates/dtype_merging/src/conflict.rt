@@ -11,6 +11,7 @@ ghost use Rattle.dtype_merging.specs.Conflicts.{ConflictsAt, fields_conflict, fi
 ghost use Rattle.dtype_merging.specs.MergedColumns.{columns_merged};
 
 use crate::merge::{have_no_repeats, merge_columns};
+use crate::widening::Widening;
 use dtype_base::VortexResult;
 use dtype_paths::{Field, FieldPath};
 use dtype_types::{DType, StructFields};
@@ -30,11 +31,13 @@ pub struct MergeConflict<'a> {
     pub right: &'a DType,
 }
 
-/// Returns the first place at which `merge_columns` can't merge the two types, or `None` if it can merge them. So a
+/// Returns the first place at which `merge_columns` can't merge the two types, with the same choice which numbers may be
+/// read as wider ones, or `None` if it can merge them. So a
 /// program can report that `customer.id` is `u64` in one file and `utf8` in another.
 ///
 /// The fields are visited in the order of the first type, and a field is visited with everything in it before the next.
-/// For example, the conflict of `{a=list(i32), b=i32}` and `{b=utf8, a=list(utf8)}` is at `a.[]`. The path leads only
+/// For example, the conflict of `{a=list(i32), b=i32}` and `{b=utf8, a=list(utf8)}` is at `a.[]`. The conflict of
+/// `{a=i32}` and `{a=i64}` is at `a` with `Widening::None`, and there is none with `Widening::Integers`. The path leads only
 /// into structs, lists and fixed-size lists. If two maps, two unions, two extensions, or two structs in which a name
 /// repeats can't be merged, the path ends there.
 ///
@@ -51,14 +54,15 @@ pub fn merge_conflict<'a>(
     alloc: Global,
     a: &'a DType,
     b: &'a DType,
+    widening: Widening,
 ) -> VortexResult<Option<MergeConflict<'a>>>
-    ensures ok { Makes result (λ r. option_map (λ c. c.path) r ≡ first_conflict (tree a.now) (tree b.now)) }
-    ensures none { IfOk result (λ r. IfNone r (IsSome (columns_merged (tree a.now) (tree b.now)))) }
-    ensures some { IfOk result (λ r. IfSome r (λ c. columns_merged (tree a.now) (tree b.now) ≡ None)) }
+    ensures ok { Makes result (λ r. option_map (λ c. c.path) r ≡ first_conflict widening (tree a.now) (tree b.now)) }
+    ensures none { IfOk result (λ r. IfNone r (IsSome (columns_merged widening (tree a.now) (tree b.now)))) }
+    ensures some { IfOk result (λ r. IfSome r (λ c. columns_merged widening (tree a.now) (tree b.now) ≡ None)) }
     ensures at { IfOk result (λ r. IfSome r (λ c.
-        ConflictsAt (tree a.now) (tree b.now) c.path (tree c.left.now) (tree c.right.now))) }
+        ConflictsAt widening (tree a.now) (tree b.now) c.path (tree c.left.now) (tree c.right.now))) }
 {
-    let Some(mut steps) = conflict_steps(alloc, a, b)? else {
+    let Some(mut steps) = conflict_steps(alloc, a, b, widening)? else {
         return Ok(None);
     };
     steps.reverse();
@@ -81,33 +85,45 @@ fn resolved<'a>(path: &FieldPath, dtype: &'a DType) -> &'a DType
 
 // Returns the steps of the path to the first conflict, the last step first, or `None` if there is no conflict.
 #[cycle(conflicting)]
-fn conflict_steps(alloc: Global, a: &DType, b: &DType) -> VortexResult<Option<Vec<Field>>>
-    ensures { Makes result (λ r. option_map (λ v. reverse v.items) r ≡ first_conflict (tree a.now) (tree b.now)) }
+fn conflict_steps(
+    alloc: Global,
+    a: &DType,
+    b: &DType,
+    widening: Widening,
+) -> VortexResult<Option<Vec<Field>>>
+    ensures { Makes result (λ r. option_map (λ v. reverse v.items) r ≡ first_conflict widening (tree a.now) (tree b.now)) }
 {
     match (a, b) {
-        (DType::List(t, _), DType::List(u, _)) => in_element(conflict_steps(alloc, t, u)?),
+        (DType::List(t, _), DType::List(u, _)) => in_element(conflict_steps(
+            alloc, t, u, widening,
+        )?),
         (DType::FixedSizeList(t, j, _), DType::FixedSizeList(u, k, _)) => {
             if *j != *k {
                 return Ok(Some(Vec::new(alloc)));
             }
-            in_element(conflict_steps(alloc, t, u)?)
+            in_element(conflict_steps(alloc, t, u, widening)?)
         }
         (DType::Struct(fields, _), DType::Struct(others, _)) => {
             if have_no_repeats(fields, others) {
-                field_conflict(alloc, fields, others)
+                field_conflict(alloc, fields, others, widening)
             } else {
-                whole_conflict(alloc, a, b)
+                whole_conflict(alloc, a, b, widening)
             }
         }
-        _ => whole_conflict(alloc, a, b),
+        _ => whole_conflict(alloc, a, b, widening),
     }
 }
 
 // Returns no steps if the two types can't be merged, and `None` if they can.
-fn whole_conflict(alloc: Global, a: &DType, b: &DType) -> VortexResult<Option<Vec<Field>>>
-    ensures { Makes result (λ r. option_map (λ v. reverse v.items) r ≡ root_unless (columns_merged (tree a.now) (tree b.now))) }
+fn whole_conflict(
+    alloc: Global,
+    a: &DType,
+    b: &DType,
+    widening: Widening,
+) -> VortexResult<Option<Vec<Field>>>
+    ensures { Makes result (λ r. option_map (λ v. reverse v.items) r ≡ root_unless (columns_merged widening (tree a.now) (tree b.now))) }
 {
-    match merge_columns(alloc, a, b)? {
+    match merge_columns(alloc, a, b, widening)? {
         Some(_) => Ok(None),
         None => Ok(Some(Vec::new(alloc))),
     }
@@ -139,12 +155,13 @@ fn field_conflict(
     alloc: Global,
     a: &StructFields,
     b: &StructFields,
+    widening: Widening,
 ) -> VortexResult<Option<Vec<Field>>>
-    ensures { Makes result (λ r. option_map (λ v. reverse v.items) r ≡ fields_conflict (fields_of a.now) (fields_of b.now)) }
+    ensures { Makes result (λ r. option_map (λ v. reverse v.items) r ≡ fields_conflict widening (fields_of a.now) (fields_of b.now)) }
 {
     for (name, dtype) in a.pairs() {
         if let Some(other) = b.field(name.as_str()) {
-            if let Some(steps) = conflict_steps(alloc, dtype, other)? {
+            if let Some(steps) = conflict_steps(alloc, dtype, other, widening)? {
                 return Ok(Some(with_step(steps, Field::Name(name.try_clone(alloc)?))?));
             }
         }

@@ -21,8 +21,13 @@
 //! `reads_as` tells whether a type can be read as another, for example a new file as the table that a program has. It is
 //! proved to decide the relation `ReadsAs`.
 //!
+//! Each of these calls takes the caller's choice which numbers may be read as wider ones, `Widening`. With
+//! `Widening::None`, numbers of two types have no common type. With `Widening::Integers`, `i32` and `i64` have `i64`. The
+//! theorems are true of both choices.
+//!
 //! The definitions are in `specs/`:
 //! - `ReadsAs`: which type can be read as which, and which types are the same up to the order of columns.
+//! - `Widens`: which numbers can be read as which, and the least common type of two.
 //! - `MergedColumns`: what is merged of two types, by recursion on the first.
 //! - `Filled`: the value that a reader makes of a value of one type to read it as another.
 //! - `AllMerged`: what several types are merged to, one after another.
@@ -43,8 +48,10 @@ pub mod laws;
 mod merge;
 mod reading;
 mod variants;
+mod widening;
 
 pub use all::merge_all;
 pub use conflict::{MergeConflict, merge_conflict};
 pub use merge::merge_columns;
 pub use reading::reads_as;
+pub use widening::Widening;

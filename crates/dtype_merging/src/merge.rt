@@ -14,6 +14,7 @@ ghost use Rattle.dtype_merging.specs.ReadsAs.{HaveNoReader, IsLeastReader, keyed
 ghost use Rattle.dtype_merging.specs.private.Collected.{collected, gathered, maps_merged, maps_stay_sorted, types_merged, unions_merged};
 
 use crate::variants::{have_own_tags, union_of, variant_with, with_further_variants};
+use crate::widening::Widening;
 use dtype_base::{FieldName, Nullability, VortexResult};
 use dtype_types::{
     DType, DTypeIter, ExtDTypeRef, FieldDType, Kind, MapDType, StructFields, UnionVariants,
@@ -40,11 +41,17 @@ use std::alloc::Global;
 ///   it is. Unions in which a tag has two names, or a name has two tags, can't be merged.
 /// - Structs in which a name repeats are merged field by field, if the names are the same in the same order, because their
 ///   columns can't be told apart by name.
-/// - All other types are merged as `merge_nullability` merges them.
+/// - With `Widening::Integers`, two integer types are merged to the narrowest integer type that has all values of both, if
+///   there is one. For example, `i32` and `i64` are merged to `i64`, and `u8` and `i8` to `i16`. There is none for `u64`
+///   and a signed type. Two decimals of the same scale are merged to the one with the greater precision: for example,
+///   `decimal(5,2)` and `decimal(7,2)` to `decimal(7,2)`. With `Widening::None`, numbers are merged only if their types are
+///   the same.
+/// - All other types are merged as `merge_nullability` merges them. So floating-point types are never widened.
 /// - In each place, at every depth, the merged type is nullable if one of the two types is nullable there.
 ///
 /// For example, merging `{a=i32, b=utf8}` and `{c=u8, a=i32?}` returns `{a=i32?, b=utf8?, c=u8?}`. Merging `{a=null}` and
-/// `{a=list(i32)}` returns `{a=list(i32)?}`. Merging `union(x@5={a=i32})` and `union(x@5={b=u8}, y@9=utf8)` returns
+/// `{a=list(i32)}` returns `{a=list(i32)?}`. Merging `{a=i32}` and `{a=i64}` returns `{a=i64}` with `Widening::Integers`,
+/// and `None` with `Widening::None`. Merging `union(x@5={a=i32})` and `union(x@5={b=u8}, y@9=utf8)` returns
 /// `union(x@5={a=i32?, b=u8?}, y@9=utf8)`. Merging `{a=i32}` and `{a=utf8}` returns `None`, and `merge_conflict` returns
 /// the path `a` and the two types there.
 ///
@@ -65,25 +72,38 @@ use std::alloc::Global;
 ///
 /// - `OutOfMemory` (0): an allocation fails, or a reference count is at its maximum.
 #[tactic(auto, using(crate::proofs::lemmas::MergeLaws::returned))]
-pub fn merge_columns(alloc: Global, a: &DType, b: &DType) -> VortexResult<Option<DType>>
-    ensures ok { Makes result (λ r. option_map tree r ≡ columns_merged (tree a.now) (tree b.now)) }
-    ensures least { IfOk result (λ r. IfSome r (λ c. IsLeastReader (tree a.now) (tree b.now) (tree c))) }
-    ensures none { IfOk result (λ r. IfNone r (HaveNoReader (tree a.now) (tree b.now))) }
+pub fn merge_columns(
+    alloc: Global,
+    a: &DType,
+    b: &DType,
+    widening: Widening,
+) -> VortexResult<Option<DType>>
+    ensures ok { Makes result (λ r. option_map tree r ≡ columns_merged widening (tree a.now) (tree b.now)) }
+    ensures least { IfOk result (λ r. IfSome r (λ c. IsLeastReader widening (tree a.now) (tree b.now) (tree c))) }
+    ensures none { IfOk result (λ r. IfNone r (HaveNoReader widening (tree a.now) (tree b.now))) }
     ensures values { IfOk result (λ r. IfSome r (λ c.
         ((v : Value) → Of v (tree a.now) → Of (filled (tree a.now) (tree c) v) (tree c))
         × ((v : Value) → Of v (tree b.now) → Of (filled (tree b.now) (tree c) v) (tree c)))) }
     ensures valid { Valid (tree a.now) → Valid (tree b.now) → IfOk result (λ r. IfSome r (λ c. Valid (tree c))) }
 {
-    Ok(merge(alloc, a, b)?)
+    Ok(merge(alloc, a, b, widening)?)
 }
 
 // Returns the merged type, or `None` if there is none.
 #[cycle(merging)]
-fn merge(alloc: Global, a: &DType, b: &DType) -> VortexResult<Option<DType>>
-    ensures { Makes result (λ r. option_map tree r ≡ columns_merged (tree a.now) (tree b.now)) }
+fn merge(alloc: Global, a: &DType, b: &DType, widening: Widening) -> VortexResult<Option<DType>>
+    ensures { Makes result (λ r. option_map tree r ≡ columns_merged widening (tree a.now) (tree b.now)) }
 {
     match (a, b) {
-        (DType::List(t, m), DType::List(u, n)) => match merge(alloc, t, u)? {
+        (DType::Primitive(p, m), DType::Primitive(q, n)) => match widening.common_ptype(*p, *q) {
+            Some(common) => Ok(Some(DType::Primitive(common, *m | *n))),
+            None => Ok(None),
+        },
+        (DType::Decimal(d, m), DType::Decimal(e, n)) => match widening.common_decimal(*d, *e) {
+            Some(common) => Ok(Some(DType::Decimal(common, *m | *n))),
+            None => Ok(None),
+        },
+        (DType::List(t, m), DType::List(u, n)) => match merge(alloc, t, u, widening)? {
             Some(element) => Ok(Some(DType::list(alloc, element, *m | *n)?)),
             None => Ok(None),
         },
@@ -91,28 +111,28 @@ fn merge(alloc: Global, a: &DType, b: &DType) -> VortexResult<Option<DType>>
             if *j != *k {
                 return Ok(None);
             }
-            match merge(alloc, t, u)? {
+            match merge(alloc, t, u, widening)? {
                 Some(element) => Ok(Some(DType::fixed_size_list(alloc, element, *j, *m | *n)?)),
                 None => Ok(None),
             }
         }
-        (DType::Map(t, m), DType::Map(u, n)) => merge_maps(alloc, t, u, *m | *n),
+        (DType::Map(t, m), DType::Map(u, n)) => merge_maps(alloc, t, u, *m | *n, widening),
         (DType::Struct(fields, m), DType::Struct(others, n)) => {
             if have_no_repeats(fields, others) {
-                merge_structs(alloc, fields, others, *m | *n)
+                merge_structs(alloc, fields, others, *m | *n, widening)
             } else {
-                merge_in_order(alloc, fields, others, *m | *n)
+                merge_in_order(alloc, fields, others, *m | *n, widening)
             }
         }
         (DType::Union(variants, m), DType::Union(others, n)) => {
-            merge_unions(alloc, variants, others, *m | *n)
+            merge_unions(alloc, variants, others, *m | *n, widening)
         }
-        (DType::Extension(t), DType::Extension(u)) => merge_extensions(alloc, t, u),
+        (DType::Extension(t), DType::Extension(u)) => merge_extensions(alloc, t, u, widening),
         _ => merge_others(alloc, a, b),
     }
 }
 
-// Returns the merged type of two types whose parts aren't merged one by one.
+// Returns the merged type of two types whose parts aren't merged one by one, and that aren't both primitive types or decimals.
 #[tactic(auto, using(crate::proofs::lemmas::Merging::merging_others))]
 fn merge_others(alloc: Global, a: &DType, b: &DType) -> VortexResult<Option<DType>>
     ensures { Makes result (λ r. option_map tree r ≡ others_merged (tree a.now) (tree b.now)) }
@@ -133,16 +153,17 @@ fn merge_maps(
     a: &MapDType,
     b: &MapDType,
     n: Nullability,
+    widening: Widening,
 ) -> VortexResult<Option<DType>>
-    ensures { Makes result (λ r. option_map tree r ≡ maps_merged (map_shown a.now) (map_shown b.now) n) }
+    ensures { Makes result (λ r. option_map tree r ≡ maps_merged widening (map_shown a.now) (map_shown b.now) n) }
 {
-    let Some(key) = merge(alloc, a.key_dtype(), b.key_dtype())? else {
+    let Some(key) = merge(alloc, a.key_dtype(), b.key_dtype(), widening)? else {
         return Ok(None);
     };
     if key.is_nullable() {
         return Ok(None);
     }
-    match merge(alloc, a.value_dtype(), b.value_dtype())? {
+    match merge(alloc, a.value_dtype(), b.value_dtype(), widening)? {
         Some(value) => Ok(Some(DType::map(alloc, key, value, keys_stay_sorted(a, b), n)?)),
         None => Ok(None),
     }
@@ -157,13 +178,18 @@ pub(crate) fn keys_stay_sorted(a: &MapDType, b: &MapDType) -> bool
 
 // Returns the merged type of two extensions.
 #[cycle(merging)]
-fn merge_extensions(alloc: Global, a: &ExtDTypeRef, b: &ExtDTypeRef) -> VortexResult<Option<DType>>
-    ensures { Makes result (λ r. option_map tree r ≡ columns_merged (extension_tree a.now) (extension_tree b.now)) }
+fn merge_extensions(
+    alloc: Global,
+    a: &ExtDTypeRef,
+    b: &ExtDTypeRef,
+    widening: Widening,
+) -> VortexResult<Option<DType>>
+    ensures { Makes result (λ r. option_map tree r ≡ columns_merged widening (extension_tree a.now) (extension_tree b.now)) }
 {
     if a.id() != b.id() || a.metadata_bytes() != b.metadata_bytes() {
         return Ok(None);
     }
-    match merge(alloc, a.storage_dtype(), b.storage_dtype())? {
+    match merge(alloc, a.storage_dtype(), b.storage_dtype(), widening)? {
         Some(storage) => {
             let id = a.id().try_clone(alloc)?;
             let metadata = a.serialize_metadata(alloc)?;
@@ -181,11 +207,12 @@ fn merge_structs(
     a: &StructFields,
     b: &StructFields,
     n: Nullability,
+    widening: Widening,
 ) -> VortexResult<Option<DType>>
     ensures { Makes result (λ r. option_map tree r
-        ≡ struct_with (merged_by_name (fields_of a.now) (fields_of b.now)) (further (children a.now) (children b.now)) n) }
+        ≡ struct_with (merged_by_name widening (fields_of a.now) (fields_of b.now)) (further (children a.now) (children b.now)) n) }
 {
-    match merge_by_name(alloc, a, b)? {
+    match merge_by_name(alloc, a, b, widening)? {
         Some(columns) => {
             let columns = with_further(alloc, columns, a, b)?;
             Ok(Some(DType::Struct(StructFields::from_iter(alloc, columns)?, n)))
@@ -201,14 +228,15 @@ fn merge_in_order(
     a: &StructFields,
     b: &StructFields,
     n: Nullability,
+    widening: Widening,
 ) -> VortexResult<Option<DType>>
     ensures { Makes result (λ r. option_map tree r
-        ≡ option_map (λ fs. struct fs n) (merged_beside (fields_of a.now) (fields_of b.now))) }
+        ≡ option_map (λ fs. struct fs n) (merged_beside widening (fields_of a.now) (fields_of b.now))) }
 {
     if a.names() != b.names() {
         return Ok(None);
     }
-    match merge_types(alloc, a.fields(), b.fields())? {
+    match merge_types(alloc, a.fields(), b.fields(), widening)? {
         Some(dtypes) => {
             let names = a.names().try_clone(alloc)?;
             Ok(Some(DType::Struct(StructFields::new(alloc, names, dtypes)?, n)))
@@ -225,13 +253,14 @@ fn merge_unions(
     a: &UnionVariants,
     b: &UnionVariants,
     n: Nullability,
+    widening: Widening,
 ) -> VortexResult<Option<DType>>
-    ensures { Makes result (λ r. option_map tree r ≡ unions_merged (variants_of a.now) (variants_of b.now) n) }
+    ensures { Makes result (λ r. option_map tree r ≡ unions_merged widening (variants_of a.now) (variants_of b.now) n) }
 {
     if !have_own_tags(a, b) {
         return Ok(None);
     }
-    match merge_by_tag(alloc, a, b)? {
+    match merge_by_tag(alloc, a, b, widening)? {
         Some(variants) => {
             let variants = with_further_variants(alloc, variants, a, b)?;
             Ok(union_of(alloc, variants, n)?)
@@ -247,13 +276,14 @@ fn merge_by_tag(
     alloc: Global,
     a: &UnionVariants,
     b: &UnionVariants,
+    widening: Widening,
 ) -> VortexResult<Option<Vec<(FieldName, u8, DType)>>>
     ensures { Makes result (λ r. option_map (λ v. gathered v.items) r
-        ≡ merged_by_tag (variants_of a.now) (keyed (variants_of b.now))) }
+        ≡ merged_by_tag widening (variants_of a.now) (keyed (variants_of b.now))) }
 {
     let mut variants = Vec::with_capacity(alloc, a.len())?;
     for (name, tag, dtype) in a.triples() {
-        match merge_variant(alloc, dtype, variant_with(b, tag, name.as_str()))? {
+        match merge_variant(alloc, dtype, variant_with(b, tag, name.as_str()), widening)? {
             Some(merged) => variants.push((name.try_clone(alloc)?, tag, merged))?,
             None => return Ok(None),
         }
@@ -263,14 +293,19 @@ fn merge_by_tag(
 
 // Returns the type of a variant whose type in the other union is `other`, or which the other union lacks.
 #[cycle(merging)]
-fn merge_variant(alloc: Global, dtype: &DType, other: Option<&DType>) -> VortexResult<Option<DType>>
+fn merge_variant(
+    alloc: Global,
+    dtype: &DType,
+    other: Option<&DType>,
+    widening: Widening,
+) -> VortexResult<Option<DType>>
     ensures { Makes result (λ r. option_map tree r
-        ≡ variant_type (tree dtype.now) (λ u. columns_merged (tree dtype.now) u) (shown tree other.entry)) }
+        ≡ variant_type (tree dtype.now) (λ u. columns_merged widening (tree dtype.now) u) (shown tree other.entry)) }
 {
     let Some(other) = other else {
         return Ok(Some(dtype.try_clone(alloc)?));
     };
-    Ok(merge(alloc, dtype, other)?)
+    Ok(merge(alloc, dtype, other, widening)?)
 }
 
 // Returns the types at equal positions, merged. Returns `None` if two of them can't be merged.
@@ -279,12 +314,13 @@ fn merge_types(
     alloc: Global,
     a: DTypeIter<'_>,
     b: DTypeIter<'_>,
+    widening: Widening,
 ) -> VortexResult<Option<Vec<DType>>>
-    ensures { Makes result (λ r. option_map (λ v. map tree v.items) r ≡ types_merged (map tree a.entry) (map tree b.entry)) }
+    ensures { Makes result (λ r. option_map (λ v. map tree v.items) r ≡ types_merged widening (map tree a.entry) (map tree b.entry)) }
 {
     let mut dtypes = Vec::with_capacity(alloc, a.len())?;
     for (dtype, other) in a.zip(b) {
-        match merge(alloc, dtype, other)? {
+        match merge(alloc, dtype, other, widening)? {
             Some(merged) => dtypes.push(merged)?,
             None => return Ok(None),
         }
@@ -299,12 +335,13 @@ fn merge_by_name(
     alloc: Global,
     a: &StructFields,
     b: &StructFields,
+    widening: Widening,
 ) -> VortexResult<Option<Vec<(FieldName, FieldDType)>>>
-    ensures { Makes result (λ r. option_map (λ v. collected v.items) r ≡ merged_by_name (fields_of a.now) (fields_of b.now)) }
+    ensures { Makes result (λ r. option_map (λ v. collected v.items) r ≡ merged_by_name widening (fields_of a.now) (fields_of b.now)) }
 {
     let mut columns = Vec::with_capacity(alloc, a.nfields())?;
     for (name, dtype) in a.pairs() {
-        match merge_column(alloc, dtype, b.field(name.as_str()))? {
+        match merge_column(alloc, dtype, b.field(name.as_str()), widening)? {
             Some(column) => columns.push((name.try_clone(alloc)?, FieldDType::from(column)))?,
             None => return Ok(None),
         }
@@ -314,12 +351,17 @@ fn merge_by_name(
 
 // Returns the type of a column whose type in the other struct is `other`, or which the other struct lacks.
 #[cycle(merging)]
-fn merge_column(alloc: Global, dtype: &DType, other: Option<&DType>) -> VortexResult<Option<DType>>
+fn merge_column(
+    alloc: Global,
+    dtype: &DType,
+    other: Option<&DType>,
+    widening: Widening,
+) -> VortexResult<Option<DType>>
     ensures { Makes result (λ r. option_map tree r
-        ≡ column (tree dtype.now) (λ u. columns_merged (tree dtype.now) u) (shown tree other.entry)) }
+        ≡ column (tree dtype.now) (λ u. columns_merged widening (tree dtype.now) u) (shown tree other.entry)) }
 {
     match other {
-        Some(other) => merge(alloc, dtype, other),
+        Some(other) => merge(alloc, dtype, other, widening),
         None => Ok(Some(dtype.as_nullable(alloc)?)),
     }
 }

@@ -22,7 +22,7 @@ ghost use Rattle.scan_planner.specs.declared.errors.PlanError.TheVariants.{Libra
 use crate::errors::{FileConflict, PlanError};
 use std::alloc::Global;
 use vortex_dtype::{
-    DType, Field, VortexError, VortexResult, merge_all, merge_columns, merge_conflict,
+    DType, Field, VortexError, VortexResult, Widening, merge_all, merge_columns, merge_conflict,
 };
 
 /// Returns the type of the table that the files are: the least type as which each of them can be read.
@@ -62,9 +62,11 @@ pub fn table_type(alloc: Global, files: &[DType]) -> Result<DType, PlanError>
 // Returns what the files are merged to, as `merge_all` does, and says which paths exist in it.
 #[tactic(auto, using(vortex_dtype::proofs::rulesets::merged_paths), unfolding(crate::specs::Tables::AllLackPath))]
 fn merged_files(alloc: Global, first: &DType, others: &[DType]) -> VortexResult<Option<DType>>
-    ensures ok { IfOk result (λ r. option_map tree r ≡ all_columns_merged (tree first.now) (map tree others.now)) }
-    ensures least { IfOk result (λ r. IfSome r (λ c. IsLeastReaderOfAll (tree first.now) (map tree others.now) (tree c))) }
-    ensures none { IfOk result (λ r. IfNone r (HaveNoReaderOfAll (tree first.now) (map tree others.now))) }
+    ensures ok { IfOk result (λ r. option_map tree r
+        ≡ all_columns_merged Widening.None (tree first.now) (map tree others.now)) }
+    ensures least { IfOk result (λ r. IfSome r (λ c.
+        IsLeastReaderOfAll Widening.None (tree first.now) (map tree others.now) (tree c))) }
+    ensures none { IfOk result (λ r. IfNone r (HaveNoReaderOfAll Widening.None (tree first.now) (map tree others.now))) }
     ensures values { IfOk result (λ r. IfSome r (λ c. AllFilledIn (tree first.now) (map tree others.now) (tree c))) }
     ensures lacks { IfOk result (λ r. IfSome r (λ c. (p : List Field)
         → (ExistsIn (tree c) p → ⊥) → AllLackPath (tree first.now ∷ map tree others.now) p)) }
@@ -72,20 +74,20 @@ fn merged_files(alloc: Global, first: &DType, others: &[DType]) -> VortexResult<
         → ExistsIn (tree c) p → ExistsInOne (tree first.now ∷ map tree others.now) p)) }
     ensures errors { IsOkUnless result OutOfMemory }
 {
-    Ok(merge_all(alloc, first, others)?)
+    Ok(merge_all(alloc, first, others, Widening::None)?)
 }
 
 // Returns the first file that can't be merged with those before it. The caller proves that there is one.
 #[tactic(auto, using(vortex_dtype::proofs::rulesets::merged_so_far), unfolding(crate::specs::Tables::ConflictsFirst))]
 fn first_conflict(alloc: Global, first: &DType, others: &[DType]) -> VortexResult<FileConflict>
-    requires { all_columns_merged (tree first.now) (map tree others.now) ≡ None }
+    requires { all_columns_merged Widening.None (tree first.now) (map tree others.now) ≡ None }
     ensures first { IfOk result (λ c. ConflictsFirst (tree first.now ∷ map tree others.now)
         c.file c.path (tree c.table) (tree c.here)) }
     ensures errors { IsOkUnless result OutOfMemory }
 {
     let mut table = first.try_clone(alloc)?;
     for (i, file) in others.iter().enumerate() {
-        match merge_columns(alloc, &table, file)? {
+        match merge_columns(alloc, &table, file, Widening::None)? {
             Some(both) => table = both,
             None => return Ok(conflict_with(alloc, &table, file, i + 1)?),
         }
@@ -101,12 +103,13 @@ fn conflict_with(
     here: &DType,
     position: usize,
 ) -> VortexResult<FileConflict>
-    requires { columns_merged (tree table.now) (tree here.now) ≡ None }
-    ensures at { IfOk result (λ c. ConflictsAt (tree table.now) (tree here.now) c.path (tree c.table) (tree c.here)) }
+    requires { columns_merged Widening.None (tree table.now) (tree here.now) ≡ None }
+    ensures at { IfOk result (λ c. ConflictsAt Widening.None (tree table.now) (tree here.now)
+        c.path (tree c.table) (tree c.here)) }
     ensures position { IfOk result (λ c. c.file ≡ position) }
     ensures errors { IsOkUnless result OutOfMemory }
 {
-    match merge_conflict(alloc, table, here)? {
+    match merge_conflict(alloc, table, here, Widening::None)? {
         Some(conflict) => {
             let table = conflict.left.try_clone(alloc)?;
             let here = conflict.right.try_clone(alloc)?;

@@ -9,7 +9,8 @@ use std::vec;
 use vortex_dtype::{
     DType, DTypeProto, DTypeSession, Field, FieldDType, FieldMask, FieldName, FieldNames,
     FieldPath, FieldPathCursor, FieldPathSet, MessageFault, Nullability, PType, StructFields,
-    VortexError, VortexResult, field_path, merge_columns, merge_conflict, pb, project_paths,
+    VortexError, VortexResult, Widening, field_path, merge_columns, merge_conflict, pb,
+    project_paths,
 };
 
 /// Returns the columns `id=u64, name=utf8?`.
@@ -134,7 +135,7 @@ pub fn required(alloc: Global, dtype: &DType) -> VortexResult<Option<DType>> {
 pub fn one_schema(alloc: Global, first: &DType, others: &[DType]) -> VortexResult<Option<DType>> {
     let mut schema = first.try_clone(alloc)?;
     for other in others {
-        match merge_columns(alloc, &schema, other)? {
+        match merge_columns(alloc, &schema, other, Widening::None)? {
             Some(merged) => schema = merged,
             None => return Ok(None),
         }
@@ -144,7 +145,7 @@ pub fn one_schema(alloc: Global, first: &DType, others: &[DType]) -> VortexResul
 
 /// Returns what two schemas disagree about, for example `$customer.$id is u64 and utf8`, or `None` if they can be merged.
 pub fn disagreement(alloc: Global, a: &DType, b: &DType) -> VortexResult<Option<String>> {
-    match merge_conflict(alloc, a, b)? {
+    match merge_conflict(alloc, a, b, Widening::None)? {
         Some(conflict) => {
             let (path, left, right) = (&conflict.path, conflict.left, conflict.right);
             Ok(Some(format!(in alloc; "{path} is {left} and {right}")?))

@@ -14,6 +14,7 @@ pub mod StorageKinds
 pub mod NamesAmong
 pub mod ColumnPaths
 pub mod InOne
+pub mod Chosen
 pub mod EachAmong
 pub mod EachRegistered
 pub mod MergedAll

@@ -55,7 +55,6 @@ pub use Rattle.vortex_dtype.proofs.lemmas.Smaller.{smaller_parts}
 -- the ids of a session, each of many
 pub use Rattle.vortex_dtype.proofs.lemmas.EachRegistered.{each_registered}
 -- several types that a loop merges by columns, and what they are merged to up to a position
-pub use Rattle.dtype_merging.proofs.lemmas.AllMerged.{all_merged}
 pub use Rattle.vortex_dtype.proofs.lemmas.MergedSoFar.{merged_so_far}
 -- several types that a loop merges by nullability
 pub use Rattle.vortex_dtype.proofs.lemmas.MergedAll.{merging_all}
@@ -69,12 +68,14 @@ pub use Rattle.dtype_paths.proofs.lemmas.Covering.{of_push}
 pub use Rattle.vortex_dtype.proofs.lemmas.Unions.{tag_at_one, union_listed}
 -- a union in the other order: beside `covering` a search would turn it back and forth
 pub use Rattle.dtype_paths.proofs.lemmas.Covering.{union_swap}
+-- a table can be read as its copy, for an answer that a caller writes
+pub use Rattle.vortex_dtype.proofs.lemmas.Chosen.{reads_copy}
 -- types that are subsets of each other are equal: beside `order` a search would go from `Sub` to `Sub`
 pub use Rattle.dtype_types.proofs.lemmas.Order.{sub_antisymmetric}
 -- ---- what the rulesets below are made of
 use Rattle.dtype_base.proofs.lemmas.BinaryDigits.{digits_fewest, digits_reach}
 use Rattle.dtype_base.proofs.lemmas.Lookups.{lookups as name_lookups, found_compared, most_compared, absent_of_place, first_of_place, found_first, no_place, none_absent, place_found, place_of_first}
-use Rattle.dtype_merging.proofs.lemmas.Paths.{all_lack, one_has}
+use Rattle.dtype_merging.proofs.lemmas.AllMerged.{all_least, all_none, all_valid}
 use Rattle.dtype_messages.proofs.lemmas.Equality.{equality as message_equality, dtype_Decides}
 use Rattle.dtype_messages.proofs.lemmas.Names.{names}
 use Rattle.dtype_messages.proofs.lemmas.Numbers.{numbers}
@@ -95,7 +96,7 @@ use Rattle.vortex_dtype.proofs.lemmas.Collected.{each_pushed, more_taken, moved}
 use Rattle.vortex_dtype.proofs.lemmas.Compared.{compared_up_to, compared_within}
 use Rattle.vortex_dtype.proofs.lemmas.Differences.{differences}
 use Rattle.vortex_dtype.proofs.lemmas.FieldLists.{valid_fields}
-use Rattle.vortex_dtype.proofs.lemmas.InOne.{found_in_one}
+use Rattle.vortex_dtype.proofs.lemmas.Chosen.{unwidened_has, unwidened_in_one, unwidened_lack, unwidened_values, widened_has, widened_in_one, widened_lack, widened_values}
 use Rattle.vortex_dtype.proofs.lemmas.InOrder.{read_reads, reads_once, reads_read}
 use Rattle.vortex_dtype.proofs.lemmas.Intersected.{given_values_of_both, values_of_both}
 use Rattle.vortex_dtype.proofs.lemmas.NamesAmong.{among_before, among_behind, distinct_removed, few_variants, removed_not_among, some_variants, tag_at_is_among, unnamed_not_among, unplaced_not_among}
@@ -167,7 +168,10 @@ pub ruleset admitting = (admits_allow_unknown_in, admits_one_more, admits_more, 
 -- ---- smaller rulesets
 
 -- which paths exist in a type to which others were merged by columns
-pub ruleset merged_paths = (all_lack, one_has, found_in_one)
+pub ruleset merged_paths = (unwidened_lack, unwidened_has, unwidened_in_one, widened_lack, widened_has, widened_in_one)
+
+-- several types that were merged by columns
+pub ruleset all_merged = (all_least, all_none, all_valid, unwidened_values, widened_values)
 
 -- what is found, and where
 pub ruleset found_names = (place_of_first, no_place, place_found, first_of_place, absent_of_place, found_first, none_absent, field_lookups)

@@ -82,6 +82,7 @@ pub use Rattle.dtype_merging.specs.Conflicts
 pub use Rattle.dtype_merging.specs.Filled
 pub use Rattle.dtype_merging.specs.MergedColumns
 pub use Rattle.dtype_merging.specs.ReadsAs
+pub use Rattle.dtype_merging.specs.Widens
 pub use Rattle.dtype_projection.specs.IsPart
 pub use Rattle.dtype_projection.specs.Projected
 pub use Rattle.dtype_projection.specs.Restricted

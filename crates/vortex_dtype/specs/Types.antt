@@ -8,6 +8,7 @@ pub use Rattle.dtype_base.specs.declared.ptype.PType
 pub use Rattle.dtype_base.specs.declared.vortex_error.MessageFault
 pub use Rattle.dtype_base.specs.declared.vortex_error.VortexError
 pub use Rattle.dtype_edits.specs.declared.difference.Ignoring
+pub use Rattle.dtype_merging.specs.declared.widening.Widening
 pub use Rattle.dtype_messages.specs.declared.pb.FieldPath
 pub use Rattle.dtype_paths.specs.declared.field.Field
 pub use Rattle.dtype_paths.specs.declared.field_mask.FieldMask

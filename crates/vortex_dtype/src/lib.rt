@@ -44,7 +44,9 @@ pub use dtype_edits::{
     with_field_at, with_fields_renamed, with_fields_renamed_allowing_repeats, with_type_at,
     without_paths,
 };
-pub use dtype_merging::{MergeConflict, merge_all, merge_columns, merge_conflict, reads_as};
+pub use dtype_merging::{
+    MergeConflict, Widening, merge_all, merge_columns, merge_conflict, reads_as,
+};
 pub use dtype_messages::pb;
 pub use dtype_native::{
     IntegerPType, NativeDType, NativeDecimalType, NativePType, OffsetBuilderPType, PTypeVisitor,

@@ -7,6 +7,7 @@ use Rattle.std.specs.Prelude.{◌≡◌, ◌⊎◌, ℕ, List, Option, Some, Non
 use Rattle.c_objects.specs.declared.object.Object.{Object}
 use Rattle.dtype_merging.specs.Conflicts.{ConflictsAt, first_conflict}
 use Rattle.dtype_merging.specs.MergedColumns.{columns_merged}
+use Rattle.dtype_merging.specs.declared.widening.Widening.TheVariants as widening
 use Rattle.dtype_paths.specs.declared.field.Field.{Field}
 use Rattle.dtype_types.specs.tree.Tree.{Tree}
 use Rattle.vortex_logical_types.specs.Slots.{path_in, type_in}
@@ -16,11 +17,11 @@ use Rattle.vortex_logical_types.specs.Vocabulary.{OfThe, Outcome, gives_some, re
 abbrev pub Place : Type 0
 Place = List Field × Tree × Tree
 
--- The first place at which the two types can't be merged; 1 if they can be. For example, the place of `{id=u64}` and
+-- The first place at which the two types can't be merged; 1 if they can be. No number is read as a wider one. For example, the place of `{id=u64}` and
 -- `{id=utf8}` is the path `id`, `u64` and `utf8`.
 abbrev pub finds_conflict : Tree → Tree → Outcome Place
 finds_conflict t u No Why Yes =
-    gives_some (λ c. (first_conflict t u ≡ Some c.0) × ConflictsAt t u c.0 c.1 c.2) No Why Yes ⊎ (IsSome (columns_merged t u) × refuses 1 No Why Yes)
+    gives_some (λ c. (first_conflict widening.None t u ≡ Some c.0) × ConflictsAt widening.None t u c.0 c.1 c.2) No Why Yes ⊎ (IsSome (columns_merged widening.None t u) × refuses 1 No Why Yes)
 
 -- what three slots contain
 abbrev pub Three : Type 0

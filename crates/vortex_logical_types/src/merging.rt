@@ -14,7 +14,7 @@ use crate::objects::put;
 use crate::views::as_dtype;
 use c_objects::{Object, Slot};
 use dtype_base::VortexResult;
-use dtype_merging::{MergeConflict, merge_columns, merge_conflict};
+use dtype_merging::{MergeConflict, Widening, merge_columns, merge_conflict};
 use dtype_paths::FieldPath;
 use dtype_types::DType;
 use std::alloc::Global;
@@ -44,13 +44,13 @@ pub extern "C" fn vlt_core_dtype_merge_columns(
     out: &mut Slot,
 ) -> u32
     ensures puts { Puts type_in (on_both (type_in one.old.value) (type_in other.old.value)
-        (λ t u. unless_memory (found (columns_merged t u) gives))) result out.old.value out.new.value }
+        (λ t u. unless_memory (found (columns_merged Widening.None t u) gives))) result out.old.value out.new.value }
     ensures kept { (one.new.value ≡ one.old.value) × (other.new.value ≡ other.old.value) }
 {
     let (Some(one), Some(other)) = (as_dtype(one), as_dtype(other)) else {
         return KIND;
     };
-    match merge_columns(alloc, one, other) {
+    match merge_columns(alloc, one, other, Widening::None) {
         Ok(Some(made)) => put(alloc, out, Object::DType(made)),
         Ok(None) => NONE,
         Err(error) => of_library(error),
@@ -94,7 +94,7 @@ fn put_conflict(
     ensures { PutsPlace (unless_memory (finds_conflict (tree one.now) (tree other.now))) result
         (path.old.value, left.old.value, right.old.value) (path.new.value, left.new.value, right.new.value) }
 {
-    match merge_conflict(alloc, one, other) {
+    match merge_conflict(alloc, one, other, Widening::None) {
         Ok(
             Some(
                 MergeConflict {

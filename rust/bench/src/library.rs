@@ -8,7 +8,7 @@ pub use vortex_logical_types::{
     StructFields, pb::DType as Message,
 };
 
-use vortex_logical_types::ForeignExtDType;
+use vortex_logical_types::{ForeignExtDType, Widening};
 
 /// The greatest set of paths whose cover is measured if no path is a prefix of another: here every set's is.
 pub const GREATEST_COVER: Option<usize> = None;
@@ -33,7 +33,7 @@ pub fn merged(one: &DType, other: &DType) -> Option<DType> {
 
 /// The least type as which both can be read.
 pub fn merged_columns(one: &DType, other: &DType) -> Option<DType> {
-    one.merge_columns(other)
+    one.merge_columns(other, Widening::None)
 }
 
 /// A session without plugins.

@@ -11,7 +11,7 @@ use vortex_logical_types::rattle_std::alloc::AllocError;
 use vortex_logical_types::text_hints::path_help;
 use vortex_logical_types::{
     DType, DecimalDType, DecimalType, ExtDTypeRef, ExtId, Field, FieldDType, FieldMask, FieldName, FieldNames,
-    FieldPath, FieldPathSet, MapDType, Nullability, PType, StructFields, UnionVariants, format_in,
+    FieldPath, FieldPathSet, MapDType, Nullability, PType, StructFields, UnionVariants, Widening, format_in,
 };
 
 /// What is read from a line, after the blanks before it.
@@ -89,6 +89,7 @@ arguments! {
     ExtDTypeRef: |line| read_kind(line, "an extension", |dtype| dtype.as_extension_opt().cloned())?;
     bool: |line| line.one_of("true or false")? == "true";
     Nullability: |line| Nullability::from(line.one_of("NonNullable or Nullable")? == "Nullable");
+    Widening: |line| if line.one_of("None or Integers")? == "Integers" { Widening::Integers } else { Widening::None };
     FieldName: |line| line.name()?;
     FieldNames: |line| FieldNames::from(read_joined(line, FieldName::read)?);
     ExtId: |line| line.id()?;

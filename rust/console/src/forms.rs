@@ -21,6 +21,7 @@ pub const ARGUMENTS: &[Form] = &[
     Form("NAME", r#"a name of letters, digits and _, or any text in double quotes; the escapes in quotes are \\, \", \', \t, \n, \r, and \x with two hexadecimal digits"#, r#""a b""#),
     Form("NAMES", "names separated by commas, or - for no name", r#"a,"b c""#),
     Form("N", "NonNullable or Nullable", "Nullable"),
+    Form("W", "None or Integers: which numbers may be read as wider ones", "Integers"),
     Form("BOOL", "true or false", "true"),
     Form("I, COUNT, TAG, P, S, V", "a whole number", "12"),
     Form("TAGS", "tags separated by commas, or - for no tag", "5,9"),

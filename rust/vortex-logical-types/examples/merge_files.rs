@@ -5,7 +5,7 @@
 //! has different types is left out, with the reason, and so is one that the readers of the table mustn't see.
 
 use std::error::Error;
-use vortex_logical_types::{DType, FieldPathSet};
+use vortex_logical_types::{DType, FieldPathSet, Widening};
 
 const NAMES: [&str; 3] = ["2023.parquet", "2024.parquet", "2025.parquet"];
 const TEXTS: [&str; 3] = [
@@ -39,7 +39,7 @@ fn with_usual_names(file: &DType) -> Result<DType, Box<dyn Error>> {
 /// Returns the type as which all of these can be read, without the columns whose types differ.
 fn merged(mut files: Vec<DType>) -> Result<DType, Box<dyn Error>> {
     loop {
-        match DType::merge_all(&files) {
+        match DType::merge_all(&files, Widening::None) {
             Ok(table) => return table.ok_or_else(|| "there is no file".into()),
             Err(conflict) if conflict.path.is_root() => return Err(conflict.into()),
             Err(conflict) => {

@@ -4,7 +4,7 @@
 //! A registry of the versions of a schema. It accepts a new version if what was written with every earlier one can be read
 //! as the new one, and otherwise says why not.
 
-use vortex_logical_types::{DType, Error};
+use vortex_logical_types::{DType, Error, Widening};
 
 /// The versions that were accepted, from the first on.
 #[derive(Default)]
@@ -19,7 +19,8 @@ impl Registry {
     ///
     /// The reasons why the latest version that can't be read as the new one can't be.
     fn register(&mut self, new: DType) -> Result<usize, Vec<String>> {
-        let refused = self.versions.iter().rev().find(|old| !old.reads_as(&new));
+        let mut latest_first = self.versions.iter().rev();
+        let refused = latest_first.find(|old| !old.reads_as(&new, Widening::None));
         if let Some(old) = refused {
             return Err(reasons(old, &new));
         }
@@ -31,8 +32,8 @@ impl Registry {
 /// Returns why values of the old type can't be read as the new one.
 fn reasons(old: &DType, new: &DType) -> Vec<String> {
     // As the merged type both can be read. What the new one lacks is what differs.
-    let Some(merged) = old.merge_columns(new) else {
-        let conflict = old.merge_conflict(new);
+    let Some(merged) = old.merge_columns(new, Widening::None) else {
+        let conflict = old.merge_conflict(new, Widening::None);
         return conflict.map(|it| it.to_string()).into_iter().collect();
     };
     let mut reasons = Vec::new();

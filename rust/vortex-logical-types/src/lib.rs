@@ -33,6 +33,8 @@ pub use dtype_base::{
 #[doc(inline)]
 pub use dtype_edits::{Difference, Ignoring};
 #[doc(inline)]
+pub use dtype_merging::Widening;
+#[doc(inline)]
 pub use dtype_native::{
     IntegerPType, NativeDType, NativeDecimalType, NativePType, OffsetBuilderPType, PTypeVisitor,
     PhysicalPType, PrecisionScale, ToBytes, TryFromBytes, UnsignedPType, match_each_float_ptype,

@@ -13,7 +13,7 @@ use vortex_logical_types::Nullability::{NonNullable, Nullable};
 use vortex_logical_types::{
     Below, DType, DecimalDType, DecimalType, Error, ErrorKind, ExtDTypeRef, Field, FieldMask,
     FieldName, FieldNames, FieldPath, FieldPathSet, ForeignExtDType, Kind, MergeConflict,
-    Nullability, PType, StructFields, UnionVariants, VortexError, field_path,
+    Nullability, PType, StructFields, UnionVariants, VortexError, Widening, field_path,
 };
 
 fn dtype(text: &str) -> DType {
@@ -323,8 +323,8 @@ fn parts_are_left_out() {
     }
 }
 
-fn merged(one: &str, other: &str) -> Option<String> {
-    let both = dtype(one).merge_columns(&dtype(other));
+fn merged(one: &str, other: &str, widening: Widening) -> Option<String> {
+    let both = dtype(one).merge_columns(&dtype(other), widening);
     both.map(|it| it.to_source())
 }
 
@@ -375,8 +375,15 @@ fn columns_are_merged() {
             "{a=union(x@0=i8?, y@3=utf8)?}",
         ),
     ] {
-        assert_eq!(merged(one, other).as_deref(), Some(both));
-        assert_eq!(dtype(one).merge_conflict(&dtype(other)), None);
+        assert_eq!(merged(one, other, Widening::None).as_deref(), Some(both));
+        assert_eq!(
+            merged(one, other, Widening::Integers).as_deref(),
+            Some(both)
+        );
+        assert_eq!(
+            dtype(one).merge_conflict(&dtype(other), Widening::None),
+            None
+        );
     }
 }
 
@@ -401,16 +408,20 @@ fn files_can_be_read_as_tables() {
         ("{a=i8, a={}}", "{a=i8?, a={b=u8?}}"),
     ] {
         let (file, table) = (dtype(file), dtype(table));
-        assert!(file.reads_as(&table) && file.reads_as(&file));
-        assert!(!table.reads_as(&file));
-        assert_eq!(table.merge_columns(&file), Some(table));
+        for widening in [Widening::None, Widening::Integers] {
+            assert!(file.reads_as(&table, widening) && file.reads_as(&file, widening));
+            assert!(!table.reads_as(&file, widening));
+        }
+        assert_eq!(table.merge_columns(&file, Widening::None), Some(table));
     }
 }
 
 #[test]
 fn files_that_cannot_be_read_as_tables_are_told() {
     for (one, other) in [
-        ("i32", "i64"),
+        ("f32", "f64"),
+        ("u64", "i64"),
+        ("decimal(5,2)", "decimal(7,3)"),
         ("null", "i32"),
         ("{a=i8?}", "{a=i8, b=i8?}"),
         ("{a=i8}", "{b=i8?}"),
@@ -428,7 +439,9 @@ fn files_that_cannot_be_read_as_tables_are_told() {
         ("{a=i8, a=i8}", "{a=i8}"),
     ] {
         let (one, other) = (dtype(one), dtype(other));
-        assert!(!one.reads_as(&other) && !other.reads_as(&one));
+        for widening in [Widening::None, Widening::Integers] {
+            assert!(!one.reads_as(&other, widening) && !other.reads_as(&one, widening));
+        }
     }
 }
 
@@ -500,7 +513,8 @@ fn columns_that_cannot_be_merged_are_named() {
             "x.y[0x00](i8)",
         ),
     ] {
-        assert_eq!((merged(one, other), merged(other, one)), (None, None));
+        let turned = merged(other, one, Widening::None);
+        assert_eq!((merged(one, other, Widening::None), turned), (None, None));
         let (left, right) = (dtype(left), dtype(right));
         let text = format!(
             "{path} is {} in one type and {} in another",
@@ -514,25 +528,92 @@ fn columns_that_cannot_be_merged_are_named() {
             index: 1,
         };
         assert_eq!(conflict.to_string(), text);
-        assert_eq!(dtype(one).merge_conflict(&dtype(other)), Some(conflict));
+        assert_eq!(
+            dtype(one).merge_conflict(&dtype(other), Widening::None),
+            Some(conflict)
+        );
     }
+}
+
+#[test]
+fn integers_are_widened_if_the_caller_says_so() {
+    for (one, other, both) in [
+        ("i32", "i64", "i64"),
+        ("u8?", "i16", "i16?"),
+        ("u8", "i8", "i16"),
+        ("u32", "i32?", "i64?"),
+        ("decimal(5,2)", "decimal(7,2)", "decimal(7,2)"),
+        ("{a=i8, b=utf8}", "{a=u16}", "{a=i32, b=utf8?}"),
+        (
+            "list(union(x@1=i8))",
+            "list(union(x@1=i16))",
+            "list(union(x@1=i16))",
+        ),
+        ("x.y[0x](u8)", "x.y[0x](u64)", "x.y[0x](u64)"),
+        (
+            "map(i8, u8, keys_sorted=true)",
+            "map(i8, u16, keys_sorted=true)",
+            "map(i8, u16, keys_sorted=true)",
+        ),
+        (
+            "map(i8, u8, keys_sorted=true)",
+            "map(i16, u8, keys_sorted=true)",
+            "map(i16, u8, keys_sorted=false)",
+        ),
+    ] {
+        for (one, other) in [(one, other), (other, one)] {
+            assert_eq!(merged(one, other, Widening::None), None);
+            let found = merged(one, other, Widening::Integers);
+            assert_eq!(found.map(|it| dtype(&it)), Some(dtype(both)));
+            assert!(dtype(one).reads_as(&dtype(both), Widening::Integers));
+        }
+        let (one, other, both) = (dtype(one), dtype(other), dtype(both));
+        let by_name = |it: &DType| it.reads_as(&both, Widening::None);
+        assert!(!by_name(&one) || !by_name(&other));
+        assert_eq!(one.merge_conflict(&other, Widening::Integers), None);
+        assert!(one.merge_conflict(&other, Widening::None).is_some());
+    }
+    for (one, other) in [
+        ("u64", "i8"),
+        ("f32", "f64"),
+        ("i32", "f64"),
+        ("decimal(5,2)", "decimal(7,3)"),
+        ("i32", "decimal(10,0)"),
+    ] {
+        for (one, other) in [(one, other), (other, one)] {
+            assert_eq!(merged(one, other, Widening::Integers), None);
+        }
+    }
+    let files = ["{id=i16}", "{id=u8, note=utf8}", "{id=i32?}"].map(dtype);
+    assert_eq!(
+        DType::merge_all(&files, Widening::Integers),
+        Ok(Some(dtype("{id=i32?, note=utf8?}")))
+    );
+    assert_eq!(
+        DType::merge_all(&files, Widening::None).map_err(|it| it.path),
+        Err(path("id"))
+    );
+    assert_eq!(Widening::default(), Widening::None);
 }
 
 #[test]
 fn all_schemas_are_merged() {
     let files = ["{a=i32, b=utf8}", "{b=utf8, a=i32}", "{b=utf8, c=f64}"].map(dtype);
     assert_eq!(
-        DType::merge_all(&files),
+        DType::merge_all(&files, Widening::None),
         Ok(Some(dtype("{a=i32?, b=utf8, c=f64?}")))
     );
-    assert_eq!(DType::merge_all([] as [DType; 0]), Ok(None));
-    assert_eq!(DType::merge_all([&files[0]]), Ok(Some(files[0].clone())));
+    assert_eq!(DType::merge_all([] as [DType; 0], Widening::None), Ok(None));
+    assert_eq!(
+        DType::merge_all([&files[0]], Widening::None),
+        Ok(Some(files[0].clone()))
+    );
     let mut taken = 0;
     let types = ["{a=i8}", "{b=i8}", "{b=i16}", "{c=i8}"].iter().map(|it| {
         taken += 1;
         dtype(it)
     });
-    let conflict = DType::merge_all(types).unwrap_err();
+    let conflict = DType::merge_all(types, Widening::None).unwrap_err();
     assert_eq!((taken, conflict.index, conflict.path), (3, 2, path("b")));
     assert_eq!(
         (conflict.left, conflict.right),

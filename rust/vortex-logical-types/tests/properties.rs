@@ -8,7 +8,7 @@ use proptest::prelude::*;
 use std::collections::BTreeSet;
 use vortex_logical_types::{
     DType, DTypeSession, DecimalDType, ExtDTypeRef, Field, FieldPath, FieldPathSet, Nullability,
-    PType, StructFields, UnionVariants,
+    PType, StructFields, UnionVariants, Widening,
 };
 
 fn nullability() -> impl Strategy<Value = Nullability> {
@@ -232,7 +232,7 @@ proptest! {
         let least = one.intersect_nullability(&other).expect("they differ in nullabilities");
         prop_assert!(least.eq_with_nullability_subset(&one) && least.eq_with_nullability_subset(&other));
         prop_assert!(one.eq_ignore_nullability(&both) && one.eq_ignore_nullability(&least));
-        prop_assert_eq!(one.merge_columns(&one), Some(one));
+        prop_assert_eq!(one.merge_columns(&one, Widening::None), Some(one));
     }
 
     #[test]

@@ -17,7 +17,7 @@ use vortex_logical_types::arrow::FieldMetadata;
 use vortex_logical_types::time::{Date, TimeUnit, Timestamp};
 use vortex_logical_types::{
     DType, DTypeSession, Error, FieldNames, FieldPath, FieldPathSet, NativeDType, PType,
-    UnionVariants, VortexError, pb,
+    UnionVariants, VortexError, Widening, pb,
 };
 
 const ORDERS: &str =
@@ -78,14 +78,18 @@ fn merging() {
     assert_eq!(below, Some(dtype("{a={b=i32, c=utf8}}")));
     let wider = dtype("{a={c=utf8, d=i8}, e=i8}");
     let both = dtype("{a={b=i32?, c=utf8?, d=i8?}, e=i8?}");
-    assert_eq!(refuse(|| one.try_merge_columns(&wider)), Some(both));
+    assert_eq!(
+        refuse(|| one.try_merge_columns(&wider, Widening::None)),
+        Some(both)
+    );
     let wrong = dtype("{a={b=utf8}}");
     assert_eq!(
-        refuse(|| one.try_merge_conflict(&wrong)).map(|it| it.path),
+        refuse(|| one.try_merge_conflict(&wrong, Widening::None)).map(|it| it.path),
         Some(path("a.b"))
     );
     assert_eq!(
-        refuse(|| DType::try_merge_all([&one, &wider, &wrong])).map_err(|it| it.index),
+        refuse(|| DType::try_merge_all([&one, &wider, &wrong], Widening::None))
+            .map_err(|it| it.index),
         Err(2)
     );
 }

@@ -18,7 +18,7 @@ use vortex_logical_types::{
     DType, DTypeSession, DecimalDType, ExtDType, ExtDTypeRef, ExtId, Field, FieldDType, FieldMask,
     FieldName, FieldNames, FieldPath, FieldPathSet, ForeignExtDType, ForeignExtMetadata, Ignoring,
     IndexedNames, MapDType, PType, PluginOf, PrecisionScale, StructFields, UnionVariants,
-    VortexError, VortexResult, dtype_edits, dtype_merging, dtype_projection, dtype_text,
+    VortexError, VortexResult, Widening, dtype_edits, dtype_merging, dtype_projection, dtype_text,
     dtype_types, fallible, pb,
 };
 
@@ -152,18 +152,18 @@ fn of_types() -> Vec<Tried> {
         }),
         tried("try_merge_columns", {
             let (a, b) = (type_of(), dtype("{a={c=utf8, d=i8}, e=i8}"));
-            move || dtype_merging::try_merge_columns(&a, &b)
+            move || dtype_merging::try_merge_columns(&a, &b, Widening::None)
         }),
         tried("try_merge_all", {
             let (first, others) = (
                 dtype("{a=i8}"),
                 [dtype("{b=utf8, a=null}"), dtype("{c={d=i8}}")],
             );
-            move || dtype_merging::try_merge_all(&first, &others)
+            move || dtype_merging::try_merge_all(&first, &others, Widening::None)
         }),
         tried("try_merge_conflict", {
             let (a, b) = (type_of(), dtype("{a={b=utf8}}"));
-            move || dtype_merging::try_merge_conflict(&a, &b).map(drop)
+            move || dtype_merging::try_merge_conflict(&a, &b, Widening::None).map(drop)
         }),
         tried("try_differences", {
             let (a, b) = (type_of(), dtype("{a={b=utf8}, c=i8}"));

@@ -10,13 +10,14 @@ class Columns(Planted):
 
     def test_takes_what_is_read_in_one_way(self):
         status, said = self.run_tool("columns", "60")
-        self.assertRegex(said, r"^60 types: \d+ pairs can be read and \d+ merged, \d{3,} values read in one step and in two\n$")
+        line = r"60 types with(out)? widening: \d+ pairs can be read and \d+ merged, \d{3,} values read in one step and in two\n"
+        self.assertRegex(said, f"^({line}){{2}}$")
         self.assertEqual(status, 0)
 
-    def refused(self, reason, old, new):
+    def refused(self, reason, old, new, *number):
         self.change("tools/definitions/columns", old, new)
-        status, said = self.run_tool("columns", "120")
-        self.assertEqual((status, said.splitlines()[0]), (1, reason))
+        status, said = self.run_tool("columns", *number or ("120",))
+        self.assertEqual((status, [line for line in said.splitlines() if line == reason]), (1, [reason]))
 
     def test_tells_a_type_that_values_say_can_be_read(self):
         self.refused("values say otherwise:", "        return nullable(u)\n", "        return u[0] == 'null'\n")
@@ -32,3 +33,13 @@ class Columns(Planted):
 
     def test_tells_what_is_read_in_two_ways(self):
         self.refused("read differently in two steps:", "filled(t[1], u[1], x) for x in v[1:]))", "filled(t[1], u[1], x) for x in v[1:] * (1 + (t != u))))")
+
+    def test_tells_integers_that_values_say_cannot_be_read(self):
+        self.refused("values say otherwise:", "least <= low and high <= greatest", "high <= greatest")
+
+    def test_tells_decimals_that_values_say_cannot_be_read(self):
+        self.refused("values say otherwise:", "wide and t[1] <= u[1]", "wide", "500")
+
+    def test_tells_floats_that_values_say_cannot_be_read(self):
+        self.refused("values say otherwise:", "    if t[0] in FLOATS or u[0] in FLOATS:\n        return t[0] == u[0]",
+                     "    if t[0] in FLOATS or u[0] in FLOATS:\n        return t[0] == u[0] or wide and {t[0], u[0]} <= {*FLOATS}", "500")

@@ -14,6 +14,7 @@ use Rattle.dtype_types.specs.parts.Lookups.{variant_names}
 use Rattle.dtype_types.specs.tree.Tree.{Tree, Fields, Variants, Items, Holder, Tag, a_struct, a_union, no_items, item, triples}
 use Rattle.dtype_merging.specs.MergedColumns.{columns_merged, merged_beside, put_first}
 use Rattle.dtype_merging.specs.ReadsAs.{EachBeside, names, tags}
+use Rattle.dtype_merging.specs.declared.widening.Widening.{Widening}
 use Rattle.dtype_merging.proofs.lemmas.Finding.{both_true, true_both}
 
 -- ---- the names and tags
@@ -69,16 +70,16 @@ put_some n f (Some x) None zs e = cc
 put_some n f None r zs e = cc
 
 -- the names and tags are the same, and the types and the other items are merged
-pub items_of : {h : Holder} (m : List ℕ) (t : Tree) (f : Tag h) (xs : Items h) (n : List ℕ) (u : Tree) (g : Tag h) (ys zs : Items h) → merged_beside (item m t f xs) (item n u g ys) ≡ Some zs
-    → (x : Tree) × (rest : Items h) × (m ≡ n) × (f ≡ g) × (columns_merged t u ≡ Some x) × (merged_beside xs ys ≡ Some rest) × (item m x f rest ≡ zs)
-items_of {h} m t f xs n u g ys zs e =
-    let s = picked_some (bytes_eq m n && same_tag h f g) (put_first m f (columns_merged t u) (merged_beside xs ys)) zs e in
+pub items_of : (wide : Widening) {h : Holder} (m : List ℕ) (t : Tree) (f : Tag h) (xs : Items h) (n : List ℕ) (u : Tree) (g : Tag h) (ys zs : Items h) → merged_beside wide (item m t f xs) (item n u g ys) ≡ Some zs
+    → (x : Tree) × (rest : Items h) × (m ≡ n) × (f ≡ g) × (columns_merged wide t u ≡ Some x) × (merged_beside wide xs ys ≡ Some rest) × (item m x f rest ≡ zs)
+items_of wide {h} m t f xs n u g ys zs e =
+    let s = picked_some (bytes_eq m n && same_tag h f g) (put_first m f (columns_merged wide t u) (merged_beside wide xs ys)) zs e in
     let both = both_true (bytes_eq m n) (same_tag h f g) s.0 in
-    let r = put_some m f (columns_merged t u) (merged_beside xs ys) zs s.1 in
+    let r = put_some m f (columns_merged wide t u) (merged_beside wide xs ys) zs s.1 in
     (r.0, r.1, (bytes_eq-Decides m n).0 both.0, same_tag_is h f g both.1, r.2, r.3, r.4)
 
-pub of_items : {h : Holder} (m : List ℕ) (t : Tree) (f : Tag h) (xs : Items h) (n : List ℕ) (u : Tree) (g : Tag h) (ys : Items h) (x : Tree) (rest : Items h) → m ≡ n → f ≡ g → columns_merged t u ≡ Some x
-    → merged_beside xs ys ≡ Some rest → merged_beside (item m t f xs) (item n u g ys) ≡ Some (item m x f rest)
-of_items {h} m t f xs n u g ys x rest e d made others =
-    ap (λ b. if b then put_first m f (columns_merged t u) (merged_beside xs ys) else None) (true_both (bytes_eq m n) (same_tag h f g) ((bytes_eq-Decides m n).1 e) (is_same_tag h f g d))
-    ∙ ap (λ o. put_first m f o (merged_beside xs ys)) made ∙ ap (put_first m f (Some x)) others
+pub of_items : (wide : Widening) {h : Holder} (m : List ℕ) (t : Tree) (f : Tag h) (xs : Items h) (n : List ℕ) (u : Tree) (g : Tag h) (ys : Items h) (x : Tree) (rest : Items h) → m ≡ n → f ≡ g → columns_merged wide t u ≡ Some x
+    → merged_beside wide xs ys ≡ Some rest → merged_beside wide (item m t f xs) (item n u g ys) ≡ Some (item m x f rest)
+of_items wide {h} m t f xs n u g ys x rest e d made others =
+    ap (λ b. if b then put_first m f (columns_merged wide t u) (merged_beside wide xs ys) else None) (true_both (bytes_eq m n) (same_tag h f g) ((bytes_eq-Decides m n).1 e) (is_same_tag h f g d))
+    ∙ ap (λ o. put_first m f o (merged_beside wide xs ys)) made ∙ ap (put_first m f (Some x)) others

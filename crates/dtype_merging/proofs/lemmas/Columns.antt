@@ -18,6 +18,7 @@ use Rattle.dtype_types.proofs.lemmas.Order.{below_nullable}
 use Rattle.dtype_types.proofs.lemmas.TreeLaws.{pairs_of}
 use Rattle.dtype_merging.specs.ReadsAs.{ReadsAs, ReadsPlain, StaySorted, keyed, names}
 use Rattle.dtype_merging.specs.MergedColumns.{further, further_variants, joined, made_nullable, no_repeats, or_tree}
+use Rattle.dtype_merging.specs.declared.widening.Widening.{Widening}
 use Rattle.dtype_merging.proofs.lemmas.Finding.{Pairs, agrees_rest, by_name, by_option, by_place, finds_first, finds_later, no_repeats_rest, true_both}
 use Rattle.dtype_merging.proofs.lemmas.Order.{of_extension, of_fixed, of_list, of_map, of_struct, of_union}
 use Rattle.dtype_merging.proofs.lemmas.Reading.{plain_kinds, reads_kind, sub_reads}
@@ -34,49 +35,49 @@ made_set _ = refl
 pub made_in_storage : (i b : List ℕ) (s : Tree) → made_nullable (extension i b s) ≡ extension i b (made_nullable s)
 made_in_storage i b s = ap (or_tree (extension i b s)) (ap (option_and_then (λ x. Some (extension i b x))) (made_set s))
 
-pub made_above : (t : Tree) → ReadsAs t (made_nullable t)
-made_above t = sub_reads t (made_nullable t) (below_nullable t (made_nullable t) (made_set t))
+pub made_above : (wide : Widening) (t : Tree) → ReadsAs wide t (made_nullable t)
+made_above wide t = sub_reads wide t (made_nullable t) (below_nullable t (made_nullable t) (made_set t))
 
 pub made_is : (t : Tree) → IsNullable (made_nullable t)
 made_is t = set_is t (made_nullable t) Nullable (made_set t)
 
 -- a nullable type as which a type can be read is one as which the type made nullable can be read
-pub made_least : (t y : Tree) → ReadsAs t y → IsNullable y → ReadsAs (made_nullable t) y
-made_least null y h e = h
-made_least (bool m) (bool n) h e = record { erased = h.erased; nullable = λ z. e }
-made_least (primitive p m) (primitive q n) h e = record { erased = h.erased; nullable = λ z. e }
-made_least (decimal p m) (decimal q n) h e = record { erased = h.erased; nullable = λ z. e }
-made_least (utf8 m) (utf8 n) h e = record { erased = h.erased; nullable = λ z. e }
-made_least (binary m) (binary n) h e = record { erased = h.erased; nullable = λ z. e }
-made_least (variant m) (variant n) h e = record { erased = h.erased; nullable = λ z. e }
-made_least (union vs m) y h e =
-    let i = of_union ReadsPlain Allows StaySorted IsNullable (Unit {0}) plain_kinds vs m y h in
+pub made_least : (wide : Widening) (t y : Tree) → ReadsAs wide t y → IsNullable y → ReadsAs wide (made_nullable t) y
+made_least wide null y h e = h
+made_least wide (bool m) (bool n) h e = record { erased = h.erased; nullable = λ z. e }
+made_least wide (primitive p m) (primitive q n) h e = (h.0, λ z. e)
+made_least wide (decimal p m) (decimal q n) h e = (h.0, λ z. e)
+made_least wide (utf8 m) (utf8 n) h e = record { erased = h.erased; nullable = λ z. e }
+made_least wide (binary m) (binary n) h e = record { erased = h.erased; nullable = λ z. e }
+made_least wide (variant m) (variant n) h e = record { erased = h.erased; nullable = λ z. e }
+made_least wide (union vs m) y h e =
+    let i = of_union (ReadsPlain wide) Allows StaySorted IsNullable (Unit {0}) (plain_kinds wide) vs m y h in
     let at = subst IsNullable i.2 e in
-    subst (ReadsAs (union vs Nullable)) (sym i.2) (elim i.3 [
+    subst (ReadsAs wide (union vs Nullable)) (sym i.2) (elim i.3 [
       | inl s ↦ inl (s.0, λ z. at, s.2, s.3)
       | inr s ↦ inr (s.0, record { erased = s.1.erased; nullable = (λ z. at, s.1.nullable.1) })
     ])
-made_least (list t m) y h e =
-    let i = of_list ReadsPlain Allows StaySorted IsNullable (Unit {0}) plain_kinds t m y h in
-    let at = subst IsNullable i.2 e in subst (ReadsAs (list t Nullable)) (sym i.2) (λ z. at, i.4)
-made_least (fixed_size_list t j m) y h e =
-    let i = of_fixed ReadsPlain Allows StaySorted IsNullable (Unit {0}) plain_kinds t j m y h in
-    let at = subst IsNullable i.2 e in subst (ReadsAs (fixed_size_list t j Nullable)) (sym i.2) (refl, λ z. at, i.4)
-made_least (map_of t v x m) y h e =
-    let i = of_map ReadsPlain Allows StaySorted IsNullable (Unit {0}) plain_kinds t v x m y h in
-    let at = subst IsNullable i.4 e in subst (ReadsAs (map_of t v x Nullable)) (sym i.4) (i.5, λ z. at, i.7, i.8)
-made_least (struct fs m) y h e =
-    let i = of_struct ReadsPlain Allows StaySorted IsNullable (Unit {0}) plain_kinds fs m y h in
+made_least wide (list t m) y h e =
+    let i = of_list (ReadsPlain wide) Allows StaySorted IsNullable (Unit {0}) (plain_kinds wide) t m y h in
+    let at = subst IsNullable i.2 e in subst (ReadsAs wide (list t Nullable)) (sym i.2) (λ z. at, i.4)
+made_least wide (fixed_size_list t j m) y h e =
+    let i = of_fixed (ReadsPlain wide) Allows StaySorted IsNullable (Unit {0}) (plain_kinds wide) t j m y h in
+    let at = subst IsNullable i.2 e in subst (ReadsAs wide (fixed_size_list t j Nullable)) (sym i.2) (refl, λ z. at, i.4)
+made_least wide (map_of t v x m) y h e =
+    let i = of_map (ReadsPlain wide) Allows StaySorted IsNullable (Unit {0}) (plain_kinds wide) t v x m y h in
+    let at = subst IsNullable i.4 e in subst (ReadsAs wide (map_of t v x Nullable)) (sym i.4) (i.5, λ z. at, i.7, i.8)
+made_least wide (struct fs m) y h e =
+    let i = of_struct (ReadsPlain wide) Allows StaySorted IsNullable (Unit {0}) (plain_kinds wide) fs m y h in
     let at = subst IsNullable i.2 e in
-    subst (ReadsAs (struct fs Nullable)) (sym i.2) (elim i.3 [
+    subst (ReadsAs wide (struct fs Nullable)) (sym i.2) (elim i.3 [
       | inl s ↦ inl (s.0, λ z. at, s.2, s.3)
       | inr s ↦ inr (s.0, λ z. at, s.2)
     ])
-made_least (extension i b t) y h e =
-    let p = of_extension ReadsPlain Allows StaySorted IsNullable (Unit {0}) plain_kinds i b t y h in
+made_least wide (extension i b t) y h e =
+    let p = of_extension (ReadsPlain wide) Allows StaySorted IsNullable (Unit {0}) (plain_kinds wide) i b t y h in
     let at = subst IsNullable p.1 e in
-    subst (λ z. ReadsAs z y) (sym (made_in_storage i b t)) (subst (ReadsAs (extension i b (made_nullable t))) (sym p.1) (refl, refl, made_least t p.0 p.2 at))
-made_least t y h e = let kinds = reads_kind t y refl h in cc
+    subst (λ z. ReadsAs wide z y) (sym (made_in_storage i b t)) (subst (ReadsAs wide (extension i b (made_nullable t))) (sym p.1) (refl, refl, made_least wide t p.0 p.2 at))
+made_least wide t y h e = let kinds = reads_kind wide t y refl h in cc
 
 -- ---- columns side by side with fields
 

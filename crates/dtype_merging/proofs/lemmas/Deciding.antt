@@ -17,12 +17,13 @@ use Rattle.dtype_types.specs.nullability.Merged.{merge, merged}
 use Rattle.dtype_types.specs.nullability.Nullable.{IsNullable, nullability}
 use Rattle.dtype_types.specs.nullability.Sub.{Allows, Sub}
 use Rattle.dtype_types.specs.parts.Lookups.{first_named}
-use Rattle.dtype_types.specs.tree.Tree.{Tree, Fields, Variants, no_items, item, pairs, null, list, fixed_size_list, map_of, struct, union, extension}
+use Rattle.dtype_types.specs.tree.Tree.{Tree, Fields, Variants, no_items, item, pairs, null, primitive, decimal, list, fixed_size_list, map_of, struct, union, extension}
 use Rattle.dtype_types.proofs.lemmas.Merging.{merged_least, under_some, under_where}
 use Rattle.dtype_types.proofs.lemmas.Order.{sub_antisymmetric, sub_reflexive}
 use Rattle.dtype_merging.specs.MergedColumns.{no_repeats, own_tags}
 use Rattle.dtype_merging.specs.ReadsAs.{EachBeside, EachFound, EachTagged, NoRepeats, OwnTags, ReadsAs, ReadsPlain, StaySorted, keyed}
-use Rattle.dtype_merging.specs.private.Readable.{allowed, beside_readable, found_readable, further_nullable, is_and, is_null_allowed, is_subset, kept_sorted, plain_readable, readable, tagged_readable}
+use Rattle.dtype_merging.specs.declared.widening.Widening.{Widening}
+use Rattle.dtype_merging.specs.private.Readable.{allowed, beside_readable, found_readable, further_nullable, is_and, is_null_allowed, is_subset, kept_sorted, readable, tagged_readable}
 use Rattle.dtype_merging.proofs.lemmas.Finding.{Pairs, agrees_rest, both_true, by_bool, by_option, by_place, finds_first, no_repeats_rest, true_both}
 use Rattle.dtype_merging.proofs.lemmas.Merging.{pick_false, pick_true}
 use Rattle.dtype_merging.proofs.lemmas.Repeats.{distinct_tested, repeats_tested}
@@ -61,10 +62,6 @@ subset-Decides t u = (
       ap (is_and (λ c. same_by (λ x. x) c u)) some ∙ (equal_under-Decides c u).1 same,
 )
 
-plain-Decides : (t u : Tree) → Decides (plain_readable t u) (ReadsPlain t u)
-plain-Decides null u = nulls-Decides (nullability u)
-plain-Decides t u = subset-Decides t u
-
 -- ---- further fields
 
 further_one : (fs gs : Pairs) (g : List ℕ × Tree) → first_named gs g.0 ≡ None → ((n : List ℕ) (u : Tree) → first_named fs n ≡ None → first_named (g ∷ gs) n ≡ Some u → IsNullable u)
@@ -98,78 +95,81 @@ found_is P f d None = (λ e. absurd (false≢true e), λ h. absurd h)
 found_is P f d (Some u) = d u
 
 -- two structs, from what is done with their fields
-structs-Decides : (fs gs : Fields) (m n : Nullability) → Decides (found_readable fs gs) (EachFound ReadsPlain Allows StaySorted IsNullable (Unit {0}) fs gs)
-    → Decides (beside_readable fs gs) (EachBeside ReadsPlain Allows StaySorted IsNullable (Unit {0}) fs gs) → Decides (readable (struct fs m) (struct gs n)) (ReadsAs (struct fs m) (struct gs n))
-structs-Decides fs gs m n go also =
+structs-Decides : (wide : Widening) (fs gs : Fields) (m n : Nullability) → Decides (found_readable wide fs gs) (EachFound (ReadsPlain wide) Allows StaySorted IsNullable (Unit {0}) fs gs)
+    → Decides (beside_readable wide fs gs) (EachBeside (ReadsPlain wide) Allows StaySorted IsNullable (Unit {0}) fs gs) → Decides (readable wide (struct fs m) (struct gs n)) (ReadsAs wide (struct fs m) (struct gs n))
+structs-Decides wide fs gs m n go also =
     let test = no_repeats (pairs fs) && no_repeats (pairs gs) in
-    let by_name = found_readable fs gs && further_nullable (pairs fs) (pairs gs) in
-    let in_order = beside_readable fs gs in
+    let by_name = found_readable wide fs gs && further_nullable (pairs fs) (pairs gs) in
+    let in_order = beside_readable wide fs gs in
     by_bool test
     (λ tested.
     let both = both_true (no_repeats (pairs fs)) (no_repeats (pairs gs)) tested in
     let d : NoRepeats fs gs = (distinct_tested (pairs fs) both.0, distinct_tested (pairs gs) both.1) in
-    subst (λ b. Decides (allowed m n && b) (ReadsAs (struct fs m) (struct gs n))) (sym (pick_true test by_name in_order tested))
+    subst (λ b. Decides (allowed m n && b) (ReadsAs wide (struct fs m) (struct gs n))) (sym (pick_true test by_name in_order tested))
     (Decides-like _
     (λ h. inl (d, h.0, h.1.0, h.1.1))
     (λ h. elim h [ inl s ↦ (s.1, (s.2, s.3)) | inr s ↦ absurd (s.0 d) ])
     (Decides-and _ _ (allowed-Decides m n) (Decides-and _ _ go (further-Decides (pairs fs) (pairs gs) both.1)))))
     (λ differ.
     let d : ¬ NoRepeats fs gs = repeats_tested fs gs differ in
-    subst (λ b. Decides (allowed m n && b) (ReadsAs (struct fs m) (struct gs n))) (sym (pick_false test by_name in_order differ))
+    subst (λ b. Decides (allowed m n && b) (ReadsAs wide (struct fs m) (struct gs n))) (sym (pick_false test by_name in_order differ))
     (Decides-like _
     (λ h. inr (d, h.0, h.1))
     (λ h. elim h [ inl s ↦ absurd (d s.0) | inr s ↦ (s.1, s.2) ])
     (Decides-and _ _ (allowed-Decides m n) also)))
 
 -- two unions
-unions-Decides : (vs ws : Variants) (m n : Nullability) → Decides (tagged_readable vs (keyed ws)) (EachTagged ReadsPlain Allows StaySorted IsNullable (Unit {0}) vs (keyed ws))
-    → Decides (readable (union vs m) (union ws n)) (ReadsAs (union vs m) (union ws n))
-unions-Decides vs ws m n go =
+unions-Decides : (wide : Widening) (vs ws : Variants) (m n : Nullability) → Decides (tagged_readable wide vs (keyed ws)) (EachTagged (ReadsPlain wide) Allows StaySorted IsNullable (Unit {0}) vs (keyed ws))
+    → Decides (readable wide (union vs m) (union ws n)) (ReadsAs wide (union vs m) (union ws n))
+unions-Decides wide vs ws m n go =
     let test = own_tags vs && own_tags ws in
-    let by_tag = allowed m n && tagged_readable vs (keyed ws) in
+    let by_tag = allowed m n && tagged_readable wide vs (keyed ws) in
     let whole = is_subset (union vs m) (union ws n) in
     by_bool test
     (λ tested.
     let both = both_true (own_tags vs) (own_tags ws) tested in
     let d : OwnTags vs ws = (own_tested vs both.0, own_tested ws both.1) in
-    subst (λ b. Decides b (ReadsAs (union vs m) (union ws n))) (sym (pick_true test by_tag whole tested))
+    subst (λ b. Decides b (ReadsAs wide (union vs m) (union ws n))) (sym (pick_true test by_tag whole tested))
     (Decides-like _
     (λ h. inl (d, h.0, h.1, λ k u none is. tt))
     (λ h. elim h [ inl s ↦ (s.1, s.2) | inr s ↦ absurd (s.0 d) ])
     (Decides-and _ _ (allowed-Decides m n) go)))
     (λ repeat.
     let d : ¬ OwnTags vs ws = λ o. false≢true (sym repeat ∙ true_both (own_tags vs) (own_tags ws) (tested_own vs o.0) (tested_own ws o.1)) in
-    subst (λ b. Decides b (ReadsAs (union vs m) (union ws n))) (sym (pick_false test by_tag whole repeat))
+    subst (λ b. Decides b (ReadsAs wide (union vs m) (union ws n))) (sym (pick_false test by_tag whole repeat))
     (Decides-like _
     (λ h. inr (d, h))
     (λ h. elim h [ inl s ↦ absurd (d s.0) | inr s ↦ s.1 ])
     (subset-Decides (union vs m) (union ws n))))
 
 mutual
-  pub readable_Decides : (t u : Tree) → Decides (readable t u) (ReadsAs t u)
-  readable_Decides (list t m) (list u n) = Decides-and _ _ (allowed-Decides m n) (readable_Decides t u)
-  readable_Decides (fixed_size_list t j m) (fixed_size_list u k n) =
-      Decides-like _ (λ h. (h.0, h.1.0, h.1.1)) (λ h. (h.0, (h.1, h.2))) (Decides-and _ _ (Decides-eqb j k) (Decides-and _ _ (allowed-Decides m n) (readable_Decides t u)))
-  readable_Decides (map_of t v x m) (map_of u w y n) =
+  pub readable_Decides : (wide : Widening) (t u : Tree) → Decides (readable wide t u) (ReadsAs wide t u)
+  readable_Decides wide (list t m) (list u n) = Decides-and _ _ (allowed-Decides m n) (readable_Decides wide t u)
+  readable_Decides wide (fixed_size_list t j m) (fixed_size_list u k n) =
+      Decides-like _ (λ h. (h.0, h.1.0, h.1.1)) (λ h. (h.0, (h.1, h.2))) (Decides-and _ _ (Decides-eqb j k) (Decides-and _ _ (allowed-Decides m n) (readable_Decides wide t u)))
+  readable_Decides wide (map_of t v x m) (map_of u w y n) =
       Decides-like _ (λ h. (h.1.0, h.0, h.1.1.0, h.1.1.1)) (λ h. (h.1, (h.0, (h.2, h.3))))
-      (Decides-and _ _ (allowed-Decides m n) (Decides-and _ _ (sorted-Decides x t y u) (Decides-and _ _ (readable_Decides t u) (readable_Decides v w))))
-  readable_Decides (struct fs m) (struct gs n) = structs-Decides fs gs m n (found-Decides fs gs) (beside-Decides fs gs)
-  readable_Decides (union vs m) (union ws n) = unions-Decides vs ws m n (tagged-Decides vs (keyed ws))
-  readable_Decides (extension i a t) (extension j b u) =
-      Decides-like _ (λ h. (h.0, h.1.0, h.1.1)) (λ h. (h.0, (h.1, h.2))) (Decides-and _ _ (bytes_eq-Decides i j) (Decides-and _ _ (bytes_eq-Decides a b) (readable_Decides t u)))
-  readable_Decides t u = plain-Decides t u
+      (Decides-and _ _ (allowed-Decides m n) (Decides-and _ _ (sorted-Decides x t y u) (Decides-and _ _ (readable_Decides wide t u) (readable_Decides wide v w))))
+  readable_Decides wide (struct fs m) (struct gs n) = structs-Decides wide fs gs m n (found-Decides wide fs gs) (beside-Decides wide fs gs)
+  readable_Decides wide (union vs m) (union ws n) = unions-Decides wide vs ws m n (tagged-Decides wide vs (keyed ws))
+  readable_Decides wide (extension i a t) (extension j b u) =
+      Decides-like _ (λ h. (h.0, h.1.0, h.1.1)) (λ h. (h.0, (h.1, h.2))) (Decides-and _ _ (bytes_eq-Decides i j) (Decides-and _ _ (bytes_eq-Decides a b) (readable_Decides wide t u)))
+  readable_Decides wide (primitive p m) (primitive q n) = Decides-and _ _ (λ e. record { reads = e }, λ h. h.reads) (allowed-Decides m n)
+  readable_Decides wide (decimal d m) (decimal e n) = Decides-and _ _ (λ e. record { reads = e }, λ h. h.reads) (allowed-Decides m n)
+  readable_Decides wide null u = nulls-Decides (nullability u)
+  readable_Decides wide t u = subset-Decides t u
 
-  found-Decides : (fs gs : Fields) → Decides (found_readable fs gs) (EachFound ReadsPlain Allows StaySorted IsNullable (Unit {0}) fs gs)
-  found-Decides no_items gs = (λ e. tt, λ h. refl)
-  found-Decides (item n t _ fs) gs = Decides-and _ _ (found_is (ReadsAs t) (λ u. readable t u) (λ u. readable_Decides t u) (first_named (pairs gs) n)) (found-Decides fs gs)
+  found-Decides : (wide : Widening) (fs gs : Fields) → Decides (found_readable wide fs gs) (EachFound (ReadsPlain wide) Allows StaySorted IsNullable (Unit {0}) fs gs)
+  found-Decides wide no_items gs = (λ e. tt, λ h. refl)
+  found-Decides wide (item n t _ fs) gs = Decides-and _ _ (found_is (ReadsAs wide t) (λ u. readable wide t u) (λ u. readable_Decides wide t u) (first_named (pairs gs) n)) (found-Decides wide fs gs)
 
-  tagged-Decides : (vs : Variants) (gs : Fields) → Decides (tagged_readable vs gs) (EachTagged ReadsPlain Allows StaySorted IsNullable (Unit {0}) vs gs)
-  tagged-Decides no_items gs = (λ e. tt, λ h. refl)
-  tagged-Decides (item n t f vs) gs = Decides-and _ _ (found_is (ReadsAs t) (λ u. readable t u) (λ u. readable_Decides t u) (first_named (pairs gs) (f ∷ n))) (tagged-Decides vs gs)
+  tagged-Decides : (wide : Widening) (vs : Variants) (gs : Fields) → Decides (tagged_readable wide vs gs) (EachTagged (ReadsPlain wide) Allows StaySorted IsNullable (Unit {0}) vs gs)
+  tagged-Decides wide no_items gs = (λ e. tt, λ h. refl)
+  tagged-Decides wide (item n t f vs) gs = Decides-and _ _ (found_is (ReadsAs wide t) (λ u. readable wide t u) (λ u. readable_Decides wide t u) (first_named (pairs gs) (f ∷ n))) (tagged-Decides wide vs gs)
 
-  beside-Decides : (fs gs : Fields) → Decides (beside_readable fs gs) (EachBeside ReadsPlain Allows StaySorted IsNullable (Unit {0}) fs gs)
-  beside-Decides no_items no_items = (λ e. tt, λ h. refl)
-  beside-Decides (item m t _ fs) (item n u _ gs) =
-      Decides-like _ (λ h. (h.0, refl, h.1.0, h.1.1)) (λ h. (h.0, (h.2, h.3))) (Decides-and _ _ (bytes_eq-Decides m n) (Decides-and _ _ (readable_Decides t u) (beside-Decides fs gs)))
-  beside-Decides no_items (item n u _ gs) = (λ e. absurd (false≢true e), λ h. absurd h)
-  beside-Decides (item m t _ fs) no_items = (λ e. absurd (false≢true e), λ h. absurd h)
+  beside-Decides : (wide : Widening) (fs gs : Fields) → Decides (beside_readable wide fs gs) (EachBeside (ReadsPlain wide) Allows StaySorted IsNullable (Unit {0}) fs gs)
+  beside-Decides wide no_items no_items = (λ e. tt, λ h. refl)
+  beside-Decides wide (item m t _ fs) (item n u _ gs) =
+      Decides-like _ (λ h. (h.0, refl, h.1.0, h.1.1)) (λ h. (h.0, (h.2, h.3))) (Decides-and _ _ (bytes_eq-Decides m n) (Decides-and _ _ (readable_Decides wide t u) (beside-Decides wide fs gs)))
+  beside-Decides wide no_items (item n u _ gs) = (λ e. absurd (false≢true e), λ h. absurd h)
+  beside-Decides wide (item m t _ fs) no_items = (λ e. absurd (false≢true e), λ h. absurd h)

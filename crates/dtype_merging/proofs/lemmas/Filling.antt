@@ -13,7 +13,7 @@ use Rattle.dtype_types.specs.nullability.Nullable.{IsNullable}
 use Rattle.dtype_types.specs.nullability.Sub.{Allows}
 use Rattle.dtype_types.specs.parts.Lookups.{first_named}
 use Rattle.dtype_types.specs.tree.Erase.{erase, erase_items}
-use Rattle.dtype_types.specs.tree.Tree.{Tree, Fields, Variants, no_items, item, pairs, null, list, fixed_size_list, map_of, struct, union, extension, first_tag, rest_of}
+use Rattle.dtype_types.specs.tree.Tree.{Tree, Fields, Variants, no_items, item, pairs, null, primitive, decimal, list, fixed_size_list, map_of, struct, union, extension, first_tag, rest_of}
 use Rattle.dtype_types.specs.values.Value.{Value, Values, no_values, value, Entries, no_entries, entry, Named, no_named, named, null_value, items, fixed_items, entries, record_of, tagged, Each, EachEntry, NamedOf, Of, VariantOf, value_count}
 use Rattle.dtype_types.proofs.lemmas.Lookups.{other_name, taken_same_name}
 use Rattle.dtype_types.proofs.lemmas.NullValues.{null_is_of_nullable}
@@ -21,8 +21,10 @@ use Rattle.dtype_types.proofs.lemmas.SubValues.{sub_values}
 use Rattle.dtype_merging.specs.Filled.{cell, each_entry, each_value, filled, filled_beside, filled_pairs, filled_variant, in_entries, in_items, in_record, in_variant, or_same, value_named}
 use Rattle.dtype_merging.specs.MergedColumns.{no_repeats, own_tags, tags_differ}
 use Rattle.dtype_merging.specs.ReadsAs.{EachBeside, EachFound, OnlyFurther, ReadsAs, ReadsPlain, StaySorted, keyed, tags}
+use Rattle.dtype_merging.specs.declared.widening.Widening.{Widening}
 use Rattle.dtype_merging.proofs.lemmas.Beside.{name_or, type_or}
 use Rattle.dtype_merging.proofs.lemmas.Finding.{Agrees, agrees_first, agrees_rest, both_true, by_bool, by_name, by_option, by_place, finds_first, finds_later, found, no_repeats_rest, to_found, true_both}
+use Rattle.dtype_merging.proofs.lemmas.Numbers.{decimal_values, ptype_values}
 use Rattle.dtype_merging.proofs.lemmas.Order.{alike_plain, plain}
 use Rattle.dtype_merging.proofs.lemmas.Reading.{erased_kind, reads_kind}
 use Rattle.dtype_merging.proofs.lemmas.Repeats.{distinct_tested, tested_distinct}
@@ -240,70 +242,72 @@ mutual
       ]))
 
 mutual
-  pub of_filled : (t u : Tree) → ReadsAs t u → (v : Value) → Of v t → Of (filled t u v) u
-  of_filled (list t m) (list u n) h v o = list_filled t u m n (λ x. filled t u x) (of_filled t u h.1) h.0 v o
-  of_filled (list t m) u h v o = let k = reads_kind (list t m) u refl h in cc
-  of_filled (fixed_size_list t j m) (fixed_size_list u k n) h v o =
-      subst (λ z. Of (in_items (λ x. filled t u x) v) (fixed_size_list u z n)) h.0 (fixed_filled t u j m n (λ x. filled t u x) (of_filled t u h.2) h.1 v o)
-  of_filled (fixed_size_list t j m) u h v o = let k = reads_kind (fixed_size_list t j m) u refl h in cc
-  of_filled (map_of t p x m) (map_of u q y n) h v o = map_filled t u p q x y m n (λ k. filled t u k) (λ w. filled p q w) (of_filled t u h.2) (of_filled p q h.3) h.1 v o
-  of_filled (map_of t p x m) u h v o = let k = reads_kind (map_of t p x m) u refl h in cc
-  of_filled (struct fs m) (struct gs n) (inl h) v o =
+  pub of_filled : (wide : Widening) (t u : Tree) → ReadsAs wide t u → (v : Value) → Of v t → Of (filled t u v) u
+  of_filled wide (list t m) (list u n) h v o = list_filled t u m n (λ x. filled t u x) (of_filled wide t u h.1) h.0 v o
+  of_filled wide (list t m) u h v o = let k = reads_kind wide (list t m) u refl h in cc
+  of_filled wide (fixed_size_list t j m) (fixed_size_list u k n) h v o =
+      subst (λ z. Of (in_items (λ x. filled t u x) v) (fixed_size_list u z n)) h.0 (fixed_filled t u j m n (λ x. filled t u x) (of_filled wide t u h.2) h.1 v o)
+  of_filled wide (fixed_size_list t j m) u h v o = let k = reads_kind wide (fixed_size_list t j m) u refl h in cc
+  of_filled wide (map_of t p x m) (map_of u q y n) h v o = map_filled t u p q x y m n (λ k. filled t u k) (λ w. filled p q w) (of_filled wide t u h.2) (of_filled wide p q h.3) h.1 v o
+  of_filled wide (map_of t p x m) u h v o = let k = reads_kind wide (map_of t p x m) u refl h in cc
+  of_filled wide (struct fs m) (struct gs n) (inl h) v o =
       let tested = true_both (no_repeats (pairs fs)) (no_repeats (pairs gs)) (tested_distinct (pairs fs) h.0.0) (tested_distinct (pairs gs) h.0.1) in
       subst (λ b. Of (if b then in_record (λ nvs. filled_pairs fs nvs gs) v else in_record (λ nvs. filled_beside fs nvs gs) v) (struct gs n)) (sym tested)
-      (struct_filled fs gs m n (λ nvs. filled_pairs fs nvs gs) (λ nvs p. pairs_filled fs gs gs nvs h.2 h.3 (tested_distinct (pairs gs) h.0.1) (λ k z is. is) p) h.1 v o)
-  of_filled (struct fs m) (struct gs n) (inr h) v o =
+      (struct_filled fs gs m n (λ nvs. filled_pairs fs nvs gs) (λ nvs p. pairs_filled wide fs gs gs nvs h.2 h.3 (tested_distinct (pairs gs) h.0.1) (λ k z is. is) p) h.1 v o)
+  of_filled wide (struct fs m) (struct gs n) (inr h) v o =
       let test = no_repeats (pairs fs) && no_repeats (pairs gs) in
       let differ : test ≡ false = by_bool test
       (λ tested. let d = both_true (no_repeats (pairs fs)) (no_repeats (pairs gs)) tested in absurd (h.0 (distinct_tested (pairs fs) d.0, distinct_tested (pairs gs) d.1)))
       (λ e. e) in
       subst (λ b. Of (if b then in_record (λ nvs. filled_pairs fs nvs gs) v else in_record (λ nvs. filled_beside fs nvs gs) v) (struct gs n)) (sym differ)
-      (struct_filled fs gs m n (λ nvs. filled_beside fs nvs gs) (λ nvs p. beside_filled fs gs nvs h.2 p) h.1 v o)
-  of_filled (struct fs m) u h v o = let k = reads_kind (struct fs m) u refl h in cc
-  of_filled (union vs m) (union ws n) (inl h) v o =
+      (struct_filled fs gs m n (λ nvs. filled_beside fs nvs gs) (λ nvs p. beside_filled wide fs gs nvs h.2 p) h.1 v o)
+  of_filled wide (struct fs m) u h v o = let k = reads_kind wide (struct fs m) u refl h in cc
+  of_filled wide (union vs m) (union ws n) (inl h) v o =
       let tested = true_both (own_tags vs) (own_tags ws) (tested_own vs h.0.0) (tested_own ws h.0.1) in
       subst (λ b. Of (if b then in_variant (λ k x. filled_variant (keyed vs) ws k x) v else v) (union ws n)) (sym tested)
       (union_filled vs ws m n (λ k x. filled_variant (keyed vs) ws k x) (λ k x p.
       let q = variant_value vs k x (tested_tags vs h.0.0.1) p in
-      variant_filled (keyed vs) ws k x q.0 q.1 (tested_tags ws h.0.1.1) q.2 q.3 (found ReadsPlain Allows StaySorted IsNullable (Unit {0}) (keyed vs) (keyed ws) (to_found ReadsPlain Allows StaySorted IsNullable (Unit {0}) vs (keyed ws) h.2) (k ∷ q.0) q.1 q.2)) h.1 v o)
-  of_filled (union vs m) (union ws n) (inr h) v o =
+      variant_filled wide (keyed vs) ws k x q.0 q.1 (tested_tags ws h.0.1.1) q.2 q.3 (found (ReadsPlain wide) Allows StaySorted IsNullable (Unit {0}) (keyed vs) (keyed ws) (to_found (ReadsPlain wide) Allows StaySorted IsNullable (Unit {0}) vs (keyed ws) h.2) (k ∷ q.0) q.1 q.2)) h.1 v o)
+  of_filled wide (union vs m) (union ws n) (inr h) v o =
       let test = own_tags vs && own_tags ws in
       let repeat : test ≡ false = by_bool test (λ tested. let d = both_true (own_tags vs) (own_tags ws) tested in absurd (h.0 (own_tested vs d.0, own_tested ws d.1))) (λ e. e) in
       subst (λ b. Of (if b then in_variant (λ k x. filled_variant (keyed vs) ws k x) v else v) (union ws n)) (sym repeat) (sub_values (union vs m) (union ws n) h.1 v o)
-  of_filled (union vs m) u h v o = let k = reads_kind (union vs m) u refl h in cc
-  of_filled (extension i a t) (extension j b u) h v o = of_filled t u h.2 v o
-  of_filled (extension i a t) u h v o = let k = reads_kind (extension i a t) u refl h in cc
-  of_filled null u h v o = null_filled u v h o
-  of_filled t u h v o = subst (λ x. Of x u) (sym (plain_filled t u v refl)) (sub_values t u (alike_plain ReadsPlain Allows StaySorted IsNullable (Unit {0}) t u refl h) v o)
+  of_filled wide (union vs m) u h v o = let k = reads_kind wide (union vs m) u refl h in cc
+  of_filled wide (extension i a t) (extension j b u) h v o = of_filled wide t u h.2 v o
+  of_filled wide (extension i a t) u h v o = let k = reads_kind wide (extension i a t) u refl h in cc
+  of_filled wide null u h v o = null_filled u v h o
+  of_filled wide (primitive p m) (primitive q n) h v o = ptype_values wide p q m n h.0.reads h.1 v o
+  of_filled wide (decimal c m) (decimal d n) h v o = decimal_values wide c d m n h.0.reads h.1 v o
+  of_filled wide t u h v o = subst (λ x. Of x u) (sym (plain_filled t u v refl)) (sub_values t u (alike_plain (ReadsPlain wide) Allows StaySorted IsNullable (Unit {0}) t u refl h) v o)
 
   -- `hs` is the whole struct of which `gs` are the last fields
-  pairs_filled : (fs gs hs : Fields) (nvs : Named) → EachFound ReadsPlain Allows StaySorted IsNullable (Unit {0}) fs hs → OnlyFurther IsNullable fs hs → no_repeats (pairs gs) ≡ true → Agrees (pairs gs) (pairs hs) → NamedOf nvs fs
+  pairs_filled : (wide : Widening) (fs gs hs : Fields) (nvs : Named) → EachFound (ReadsPlain wide) Allows StaySorted IsNullable (Unit {0}) fs hs → OnlyFurther IsNullable fs hs → no_repeats (pairs gs) ≡ true → Agrees (pairs gs) (pairs hs) → NamedOf nvs fs
       → NamedOf (filled_pairs fs nvs gs) gs
-  pairs_filled fs no_items hs nvs f only d a o = tt
-  pairs_filled fs (item n u _ gs) hs nvs f only d a o =
+  pairs_filled wide fs no_items hs nvs f only d a o = tt
+  pairs_filled wide fs (item n u _ gs) hs nvs f only d a o =
       let at = agrees_first n u (pairs gs) (pairs hs) a in
       let rest = no_repeats_rest (n, u) (pairs gs) d in
       let here : Of (cell (λ t v. filled t u v) (first_named (pairs fs) n) (value_named nvs n)) u = by_option (first_named (pairs fs) n)
       (λ none. subst (λ z. Of (cell (λ t v. filled t u v) z (value_named nvs n)) u) (sym none) ((null_is_of_nullable u).1 (only n u none at)))
       (λ t some.
       let x = named_value nvs fs o n t some in
-      let r = found ReadsPlain Allows StaySorted IsNullable (Unit {0}) fs hs f n t some in
-      let reads = subst (ReadsAs t) (same_Some r.0 u (sym r.1 ∙ at)) r.2 in
-      subst (λ z. Of (cell (λ t v. filled t u v) z (value_named nvs n)) u) (sym some) (subst (λ z. Of (cell (λ t v. filled t u v) (Some t) z) u) (sym x.1) (of_filled t u reads x.0 x.2))) in
-      (refl, here, pairs_filled fs gs hs nvs f only rest.1 (agrees_rest n u (pairs gs) (pairs hs) rest.0 a) o)
+      let r = found (ReadsPlain wide) Allows StaySorted IsNullable (Unit {0}) fs hs f n t some in
+      let reads = subst (ReadsAs wide t) (same_Some r.0 u (sym r.1 ∙ at)) r.2 in
+      subst (λ z. Of (cell (λ t v. filled t u v) z (value_named nvs n)) u) (sym some) (subst (λ z. Of (cell (λ t v. filled t u v) (Some t) z) u) (sym x.1) (of_filled wide t u reads x.0 x.2))) in
+      (refl, here, pairs_filled wide fs gs hs nvs f only rest.1 (agrees_rest n u (pairs gs) (pairs hs) rest.0 a) o)
 
-  beside_filled : (fs gs : Fields) (nvs : Named) → EachBeside ReadsPlain Allows StaySorted IsNullable (Unit {0}) fs gs → NamedOf nvs fs → NamedOf (filled_beside fs nvs gs) gs
-  beside_filled no_items no_items no_named h o = tt
-  beside_filled (item m t _ fs) (item n u _ gs) (named k v nvs) h o = (o.0 ∙ h.0, of_filled t u h.2 v o.1, beside_filled fs gs nvs h.3 o.2)
-  beside_filled no_items no_items (named k v nvs) h o = absurd o
-  beside_filled no_items (item n u _ gs) nvs h o = absurd h
-  beside_filled (item m t _ fs) no_items nvs h o = absurd h
-  beside_filled (item m t _ fs) (item n u _ gs) no_named h o = absurd o
+  beside_filled : (wide : Widening) (fs gs : Fields) (nvs : Named) → EachBeside (ReadsPlain wide) Allows StaySorted IsNullable (Unit {0}) fs gs → NamedOf nvs fs → NamedOf (filled_beside fs nvs gs) gs
+  beside_filled wide no_items no_items no_named h o = tt
+  beside_filled wide (item m t _ fs) (item n u _ gs) (named k v nvs) h o = (o.0 ∙ h.0, of_filled wide t u h.2 v o.1, beside_filled wide fs gs nvs h.3 o.2)
+  beside_filled wide no_items no_items (named k v nvs) h o = absurd o
+  beside_filled wide no_items (item n u _ gs) nvs h o = absurd h
+  beside_filled wide (item m t _ fs) no_items nvs h o = absurd h
+  beside_filled wide (item m t _ fs) (item n u _ gs) no_named h o = absurd o
 
-  variant_filled : (fs : Fields) (ws : Variants) (k : ℕ) (x : Value) (n : List ℕ) (t : Tree) → tags_differ ws ≡ true → first_named (pairs fs) (k ∷ n) ≡ Some t → Of x t
-      → (u : Tree) × (first_named (pairs (keyed ws)) (k ∷ n) ≡ Some u) × ReadsAs t u → VariantOf k (filled_variant fs ws k x) ws
-  variant_filled fs no_items k x n t d at o r = let none = r.1 in cc
-  variant_filled fs (item m u g ws) k x n t d at o r =
+  variant_filled : (wide : Widening) (fs : Fields) (ws : Variants) (k : ℕ) (x : Value) (n : List ℕ) (t : Tree) → tags_differ ws ≡ true → first_named (pairs fs) (k ∷ n) ≡ Some t → Of x t
+      → (u : Tree) × (first_named (pairs (keyed ws)) (k ∷ n) ≡ Some u) × ReadsAs wide t u → VariantOf k (filled_variant fs ws k x) ws
+  variant_filled wide fs no_items k x n t d at o r = let none = r.1 in cc
+  variant_filled wide fs (item m u g ws) k x n t d at o r =
       let alone = first_tag_alone m u g ws d in
       let other = first_named (pairs fs) (g ∷ m) in
       by_bool (k == g)
@@ -313,9 +317,9 @@ mutual
       (λ key same.
       let here : other ≡ Some t = ap (first_named (pairs fs)) key ∙ at in
       subst (λ b. VariantOf k (if b then or_same (λ t. filled t u x) other x else filled_variant fs ws k x) (item m u g ws)) (sym e)
-      (subst (λ z. VariantOf k (or_same (λ t. filled t u x) z x) (item m u g ws)) (sym here) (inl (tag, of_filled t u (subst (ReadsAs t) (sym same) r.2) x o))))
+      (subst (λ z. VariantOf k (or_same (λ t. filled t u x) z x) (item m u g ws)) (sym here) (inl (tag, of_filled wide t u (subst (ReadsAs wide t) (sym same) r.2) x o))))
       (λ ne later. let none = tag_apart g n ws alone.0 in let some = ap (λ z. first_named (pairs (keyed ws)) (z ∷ n)) (sym tag) ∙ later in cc))
       (λ ne. subst (λ b. VariantOf k (if b then or_same (λ t. filled t u x) other x else filled_variant fs ws k x) (item m u g ws)) (sym ne)
       (by_place (g ∷ m) (k ∷ n) u r.0 (pairs (keyed ws)) r.1
       (λ key same. let tag : k ≡ g = cc in absurd (false≢true (sym ne ∙ (Decides-eqb k g).1 tag)))
-      (λ _ later. inr (variant_filled fs ws k x n t alone.1 at o (r.0, later, r.2)))))
+      (λ _ later. inr (variant_filled wide fs ws k x n t alone.1 at o (r.0, later, r.2)))))

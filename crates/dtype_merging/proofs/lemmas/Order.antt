@@ -43,6 +43,13 @@ null_kind _ = false
 abbrev pub is_null : Tree → Bool
 is_null t = null_kind (kind t)
 
+-- whether a type of the kind, apart from its parts, is read only as the types of which it is a subset
+abbrev pub subset_kind : Kind → Bool
+subset_kind variants.Null = false
+subset_kind variants.Primitive = false
+subset_kind variants.Decimal = false
+subset_kind _ = true
+
 -- ---- the parts of a type that is alike another
 
 module _ (L : Tree → Tree → Type 0) (R : Nullability → Nullability → Type 0) (K : Bool → Tree → Bool → Tree → Type 0) (E : Tree → Type 0) (V : Type 0) where

@@ -11,21 +11,22 @@ use Rattle.dtype_types.specs.tree.TreeOf.{tree}
 use Rattle.dtype_paths.specs.At.{ExistsIn}
 use Rattle.dtype_paths.specs.declared.field.Field.{Field}
 use Rattle.dtype_merging.specs.AllMerged.{all_columns_merged}
+use Rattle.dtype_merging.specs.declared.widening.Widening.{Widening}
 use Rattle.dtype_merging.proofs.lemmas.AllMerged.{one_more}
 use Rattle.dtype_merging.proofs.lemmas.Paths.{merged_at}
 use Rattle.vortex_dtype.specs.InOne.{ExistsInOne}
 
-one_exists : (p : List Field) (t c : Tree) (us : List Tree) → all_columns_merged t us ≡ Some c → ExistsIn c p → ExistsInOne (t ∷ us) p
+one_exists : (w : Widening) (p : List Field) (t c : Tree) (us : List Tree) → all_columns_merged w t us ≡ Some c → ExistsIn c p → ExistsInOne (t ∷ us) p
 unfolding ExistsInOne
-one_exists p t c [] e h = inl (subst (λ z. ExistsIn z p) (sym (same_Some t c e)) h)
-one_exists p t c (u ∷ us) e h =
-    let r = one_more t u c us e in
-    elim (one_exists p r.0 c us r.2 h) [
-      | inl m ↦ elim (merged_at t u r.0 p r.1 m) [ inl l ↦ inl l | inr o ↦ inr (inl o) ]
+one_exists w p t c [] e h = inl (subst (λ z. ExistsIn z p) (sym (same_Some t c e)) h)
+one_exists w p t c (u ∷ us) e h =
+    let r = one_more w t u c us e in
+    elim (one_exists w p r.0 c us r.2 h) [
+      | inl m ↦ elim (merged_at w t u r.0 p r.1 m) [ inl l ↦ inl l | inr o ↦ inr (inl o) ]
       | inr o ↦ inr (inr o)
     ]
 
 -- the same of what a call returns
-pub found_in_one : (t : Tree) (us : List Tree) (o : Option DType) → option_map tree o ≡ all_columns_merged t us → IfSome o (λ c. (p : List Field) → ExistsIn (tree c) p → ExistsInOne (t ∷ us) p)
-found_in_one t us None is = tt
-found_in_one t us (Some c) is = λ p h. one_exists p t (tree c) us (sym is) h
+pub found_in_one : (w : Widening) (t : Tree) (us : List Tree) (o : Option DType) → option_map tree o ≡ all_columns_merged w t us → IfSome o (λ c. (p : List Field) → ExistsIn (tree c) p → ExistsInOne (t ∷ us) p)
+found_in_one w t us None is = tt
+found_in_one w t us (Some c) is = λ p h. one_exists w p t (tree c) us (sym is) h

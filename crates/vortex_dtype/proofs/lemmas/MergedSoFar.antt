@@ -14,6 +14,7 @@ use Rattle.dtype_types.specs.tree.Tree.{Tree}
 use Rattle.dtype_types.specs.tree.TreeOf.{tree}
 use Rattle.dtype_merging.specs.AllMerged.{all_columns_merged}
 use Rattle.dtype_merging.specs.MergedColumns.{columns_merged}
+use Rattle.dtype_merging.specs.declared.widening.Widening.{Widening}
 use Rattle.dtype_merging.proofs.lemmas.AllMerged.{one_more}
 
 -- ---- options one after another
@@ -33,17 +34,17 @@ then_itself (Some x) = refl
 -- ---- of trees
 
 -- types that are merged in two steps
-merged_behind : (t : Tree) (us vs : List Tree) → all_columns_merged t (us ++ vs) ≡ option_and_then (λ m. all_columns_merged m vs) (all_columns_merged t us)
-merged_behind t [] vs = refl
-merged_behind t (u ∷ us) vs =
-    then_alike (columns_merged t u) (λ m. all_columns_merged m (us ++ vs)) (λ m. option_and_then (λ k. all_columns_merged k vs) (all_columns_merged m us)) (λ m. merged_behind m us vs)
-    ∙ then_both (columns_merged t u) (λ m. all_columns_merged m us) (λ m. all_columns_merged m vs)
+merged_behind : (w : Widening) (t : Tree) (us vs : List Tree) → all_columns_merged w t (us ++ vs) ≡ option_and_then (λ m. all_columns_merged w m vs) (all_columns_merged w t us)
+merged_behind w t [] vs = refl
+merged_behind w t (u ∷ us) vs =
+    then_alike (columns_merged w t u) (λ m. all_columns_merged w m (us ++ vs)) (λ m. option_and_then (λ k. all_columns_merged w k vs) (all_columns_merged w m us)) (λ m. merged_behind w m us vs)
+    ∙ then_both (columns_merged w t u) (λ m. all_columns_merged w m us) (λ m. all_columns_merged w m vs)
 
 -- if a type can't be merged with those before it, then all can't be merged
-stops : (t m u : Tree) (us : List Tree) (i : ℕ) → slice_get us i ≡ Some u → all_columns_merged t (take i us) ≡ Some m → columns_merged m u ≡ None → all_columns_merged t us ≡ None
-stops t m u [] i at so_far none = cc
-stops t m u (v ∷ us) zero at so_far none = ap (option_and_then (λ m. all_columns_merged m us)) ((λ k. columns_merged (same_Some t m so_far k) (same_Some v u at k)) ∙ none)
-stops t m u (v ∷ us) (suc i) at so_far none = let r = one_more t v m (take i us) so_far in ap (option_and_then (λ m. all_columns_merged m us)) r.1 ∙ stops r.0 m u us i at r.2 none
+stops : (w : Widening) (t m u : Tree) (us : List Tree) (i : ℕ) → slice_get us i ≡ Some u → all_columns_merged w t (take i us) ≡ Some m → columns_merged w m u ≡ None → all_columns_merged w t us ≡ None
+stops w t m u [] i at so_far none = cc
+stops w t m u (v ∷ us) zero at so_far none = ap (option_and_then (λ m. all_columns_merged w m us)) ((λ k. columns_merged w (same_Some t m so_far k) (same_Some v u at k)) ∙ none)
+stops w t m u (v ∷ us) (suc i) at so_far none = let r = one_more w t v m (take i us) so_far in ap (option_and_then (λ m. all_columns_merged w m us)) r.1 ∙ stops w r.0 m u us i at r.2 none
 
 -- one element more is taken of a list
 taken : {X Y : Type 0} (f : X → Y) (xs : List X) (i : ℕ) (d : X) → i < length xs → take (i + 1) (map f xs) ≡ take i (map f xs) ++ f (get_or xs i d) ∷ []
@@ -56,13 +57,13 @@ pub next_type : (ds : List DType) (i : ℕ) (d e : DType) → i < length ds → 
 next_type ds i d e within at = slice_get-map tree ds i ∙ ap (option_map tree) (slice_get-get_or ds i e within ∙ ap Some at)
 
 -- the types up to the next one are merged to `c`, if `m` and the next one are
-pub next_merged : (t : Tree) (ds : List DType) (i : ℕ) (m c d e : DType) → i < length ds → get_or ds i e ≡ d → all_columns_merged t (take i (map tree ds)) ≡ Some (tree m) → Some (tree c) ≡ columns_merged (tree m) (tree d) → all_columns_merged t (take (i + 1) (map tree ds)) ≡ Some (tree c)
-next_merged t ds i m c d e within at so_far is =
-    ap (all_columns_merged t) (taken tree ds i e within ∙ ap (λ x. take i (map tree ds) ++ tree x ∷ []) at)
-    ∙ merged_behind t (take i (map tree ds)) (tree d ∷ []) ∙ ap (option_and_then (λ k. all_columns_merged k (tree d ∷ []))) so_far ∙ then_itself (columns_merged (tree m) (tree d)) ∙ sym is
+pub next_merged : (w : Widening) (t : Tree) (ds : List DType) (i : ℕ) (m c d e : DType) → i < length ds → get_or ds i e ≡ d → all_columns_merged w t (take i (map tree ds)) ≡ Some (tree m) → Some (tree c) ≡ columns_merged w (tree m) (tree d) → all_columns_merged w t (take (i + 1) (map tree ds)) ≡ Some (tree c)
+next_merged w t ds i m c d e within at so_far is =
+    ap (all_columns_merged w t) (taken tree ds i e within ∙ ap (λ x. take i (map tree ds) ++ tree x ∷ []) at)
+    ∙ merged_behind w t (take i (map tree ds)) (tree d ∷ []) ∙ ap (option_and_then (λ k. all_columns_merged w k (tree d ∷ []))) so_far ∙ then_itself (columns_merged w (tree m) (tree d)) ∙ sym is
 
 -- there is nothing to which all are merged, if `m` and the next one can't be merged
-pub next_unmerged : (t : Tree) (ds : List DType) (i : ℕ) (m d e : DType) → i < length ds → get_or ds i e ≡ d → all_columns_merged t (take i (map tree ds)) ≡ Some (tree m) → None ≡ columns_merged (tree m) (tree d) → all_columns_merged t (map tree ds) ≡ None
-next_unmerged t ds i m d e within at so_far is = stops t (tree m) (tree d) (map tree ds) i (next_type ds i d e within at) so_far (sym is)
+pub next_unmerged : (w : Widening) (t : Tree) (ds : List DType) (i : ℕ) (m d e : DType) → i < length ds → get_or ds i e ≡ d → all_columns_merged w t (take i (map tree ds)) ≡ Some (tree m) → None ≡ columns_merged w (tree m) (tree d) → all_columns_merged w t (map tree ds) ≡ None
+next_unmerged w t ds i m d e within at so_far is = stops w t (tree m) (tree d) (map tree ds) i (next_type ds i d e within at) so_far (sym is)
 
 pub ruleset merged_so_far = (next_type, next_merged, next_unmerged)

@@ -180,6 +180,7 @@ fn argument(form: &str, before: &str, shape: Shape, size: usize) -> String {
         "HEX" => format!("0x{}", "61".repeat(size)),
         "COUNT" | "TAG" => size.to_string(),
         "N" => "Nullable".to_owned(),
+        "W" => "Integers".to_owned(),
         "BOOL" => "true".to_owned(),
         "I" => "0".to_owned(),
         "P" => "10".to_owned(),

@@ -121,11 +121,12 @@ pub fn of_two(round: &mut Round, a: &Pair, b: &Pair) {
 
 /// Two types merged by columns, and why they can't be.
 pub fn merged(round: &mut Round, a: &Pair, b: &Pair) {
-    let conflict = a.ours.merge_conflict(&b.ours).map(|it| (it.path, it.left, it.right));
+    let conflict = a.ours.merge_conflict(&b.ours, ours::Widening::None).map(|it| (it.path, it.left, it.right));
     let merged = models::merge_columns(&a.theirs, &b.theirs).ok();
-    let all = ours::DType::merge_all([&a.ours, &b.ours, &a.ours]).map_err(|it| (it.path, it.left, it.right));
+    let all = ours::DType::merge_all([&a.ours, &b.ours, &a.ours], ours::Widening::None)
+        .map_err(|it| (it.path, it.left, it.right));
     same! { round, format!("{} and {}", a.text(), b.text());
-        "merge_columns" => Some(a.ours.merge_columns(&b.ours)), merged;
+        "merge_columns" => Some(a.ours.merge_columns(&b.ours, ours::Widening::None)), merged;
         "merge_conflict" => Some(conflict), models::merge_conflict(&a.theirs, &b.theirs).ok();
         // (A merge with the first one again changes nothing.)
         "merge_all" => Some(all.ok().flatten()), merged;

@@ -5,7 +5,7 @@
 
 use super::or_abort;
 use crate::dtype_base::VortexResult;
-use crate::dtype_merging;
+use crate::dtype_merging::{self, Widening};
 use crate::dtype_paths::FieldPath;
 use crate::dtype_types::DType;
 use std::borrow::Borrow;
@@ -15,10 +15,10 @@ use std::{error, fmt};
 /// [`DType::merge_all`].
 ///
 /// ```
-/// use vortex_logical_types::{DType, field_path};
+/// use vortex_logical_types::{DType, Widening, field_path};
 ///
 /// let (old, new): (DType, DType) = ("{a={id=u64}}".parse()?, "{a={id=utf8}}".parse()?);
-/// let conflict = old.merge_conflict(&new).expect("a conflict");
+/// let conflict = old.merge_conflict(&new, Widening::None).expect("a conflict");
 /// assert_eq!(conflict.path, field_path!(a.id));
 /// assert_eq!(conflict.to_string(), "a.id is u64 in one type and utf8 in another");
 /// # Ok::<(), vortex_logical_types::Error>(())
@@ -60,22 +60,29 @@ impl DType {
     ///   too, and if the two key types are equal except for nullabilities.
     /// - A union can be read as a union that has its variants, in any order, and further ones. A variant is found by its
     ///   tag and its name. A struct in which a name repeats can be read as one with the same names in the same order.
-    /// - All other types can be read as the types of which they are subsets (`eq_with_nullability_subset`).
+    /// - With [`Widening::Integers`], an integer type can be read as an integer type that has all its values, and a decimal
+    ///   as a decimal of the same scale and a greater precision. With [`Widening::None`], a type of numbers can be read as
+    ///   the same type only.
+    /// - All other types can be read as the types of which they are subsets (`eq_with_nullability_subset`). So
+    ///   floating-point types are never widened.
     /// - In each place, at every depth, the other type must be nullable if this one is.
     ///
     /// The call doesn't allocate.
     ///
     /// ```
-    /// use vortex_logical_types::DType;
+    /// use vortex_logical_types::{DType, Widening};
     ///
     /// let (file, table): (DType, DType) = ("{b=utf8, a=i32}".parse()?, "{a=i32, b=utf8?, c=u8?}".parse()?);
-    /// assert!(file.reads_as(&table) && !table.reads_as(&file));
-    /// assert_eq!(table.merge_columns(&file), Some(table));
+    /// assert!(file.reads_as(&table, Widening::None) && !table.reads_as(&file, Widening::None));
+    /// assert_eq!(table.merge_columns(&file, Widening::None), Some(table));
+    ///
+    /// let wider: DType = "{a=i64, b=utf8}".parse()?;
+    /// assert!(file.reads_as(&wider, Widening::Integers) && !file.reads_as(&wider, Widening::None));
     /// # Ok::<(), vortex_logical_types::Error>(())
     /// ```
     #[must_use]
-    pub fn reads_as(&self, other: &Self) -> bool {
-        dtype_merging::reads_as(self, other)
+    pub fn reads_as(&self, other: &Self, widening: Widening) -> bool {
+        dtype_merging::reads_as(self, other, widening)
     }
 
     /// Returns the least type as which values of both types can be read, or `None` if there is no such type. A program
@@ -93,21 +100,28 @@ impl DType {
     ///   two has stays as it is. Unions in which a tag has two names, or a name has two tags, can't be merged.
     /// - Structs in which a name repeats are merged field by field, if both have the same names in the same order,
     ///   because their columns can't be told apart by name.
-    /// - All other types are merged as `merge_nullability` merges them.
+    /// - With [`Widening::Integers`], two integer types are merged to the narrowest integer type that has all values of
+    ///   both, if there is one: `i32` and `i64` to `i64`, and `u8` and `i8` to `i16`. Two decimals of the same scale are
+    ///   merged to the one with the greater precision. With [`Widening::None`], numbers are merged only if their types are
+    ///   the same.
+    /// - All other types are merged as `merge_nullability` merges them. So floating-point types are never widened.
     /// - A type that isn't an extension is nullable if one of the two is, at every depth.
     ///
     /// ```
-    /// use vortex_logical_types::DType;
+    /// use vortex_logical_types::{DType, Widening};
     ///
     /// let (old, new): (DType, DType) = ("{a=i32, b=utf8}".parse()?, "{c=u8, a=i32?}".parse()?);
-    /// assert_eq!(old.merge_columns(&new), Some("{a=i32?, b=utf8?, c=u8?}".parse()?));
+    /// assert_eq!(old.merge_columns(&new, Widening::None), Some("{a=i32?, b=utf8?, c=u8?}".parse()?));
     /// let (empty, full): (DType, DType) = ("{a=null}".parse()?, "{a=list(i32)}".parse()?);
-    /// assert_eq!(empty.merge_columns(&full), Some("{a=list(i32)?}".parse()?));
+    /// assert_eq!(empty.merge_columns(&full, Widening::None), Some("{a=list(i32)?}".parse()?));
+    /// let (narrow, wide): (DType, DType) = ("{a=i32}".parse()?, "{a=i64}".parse()?);
+    /// assert_eq!(narrow.merge_columns(&wide, Widening::None), None);
+    /// assert_eq!(narrow.merge_columns(&wide, Widening::Integers), Some(wide));
     /// # Ok::<(), vortex_logical_types::Error>(())
     /// ```
     #[must_use]
-    pub fn merge_columns(&self, other: &Self) -> Option<Self> {
-        or_abort(self.try_merge_columns(other))
+    pub fn merge_columns(&self, other: &Self, widening: Widening) -> Option<Self> {
+        or_abort(self.try_merge_columns(other, widening))
     }
 
     /// Returns what `merge_columns` returns.
@@ -115,25 +129,30 @@ impl DType {
     /// # Errors
     ///
     /// - `OutOfMemory` (0): an allocation fails, or a reference count is at its maximum.
-    pub fn try_merge_columns(&self, other: &Self) -> VortexResult<Option<Self>> {
-        dtype_merging::try_merge_columns(self, other)
+    pub fn try_merge_columns(
+        &self,
+        other: &Self,
+        widening: Widening,
+    ) -> VortexResult<Option<Self>> {
+        dtype_merging::try_merge_columns(self, other, widening)
     }
 
-    /// Returns the first place at which the two types can't be merged by `merge_columns`, or `None` if they can be
-    /// merged. The first place is the first one in the order of the fields of this type. A path leads only into structs,
+    /// Returns the first place at which the two types can't be merged by `merge_columns` with the same `widening`, or
+    /// `None` if they can be merged. The first place is the first one in the order of the fields of this type. A path leads only into structs,
     /// lists and fixed-size lists, so if the keys or values of two maps can't be merged, it is the path to the maps. The
     /// same is true of unions, extensions, and structs in which a name repeats.
     ///
     /// ```
-    /// use vortex_logical_types::{DType, field_path};
+    /// use vortex_logical_types::{DType, Widening, field_path};
     ///
     /// let (one, other): (DType, DType) = ("{customer={id=u64}}".parse()?, "{customer={id=utf8, city=utf8}}".parse()?);
-    /// assert_eq!(one.merge_conflict(&other).map(|conflict| conflict.path), Some(field_path!(customer.id)));
+    /// let conflict = one.merge_conflict(&other, Widening::None).expect("a conflict");
+    /// assert_eq!(conflict.path, field_path!(customer.id));
     /// # Ok::<(), vortex_logical_types::Error>(())
     /// ```
     #[must_use]
-    pub fn merge_conflict(&self, other: &Self) -> Option<MergeConflict> {
-        or_abort(self.try_merge_conflict(other))
+    pub fn merge_conflict(&self, other: &Self, widening: Widening) -> Option<MergeConflict> {
+        or_abort(self.try_merge_conflict(other, widening))
     }
 
     /// Returns what `merge_conflict` returns.
@@ -141,8 +160,12 @@ impl DType {
     /// # Errors
     ///
     /// - `OutOfMemory` (0): an allocation fails, or a reference count is at its maximum.
-    pub fn try_merge_conflict(&self, other: &Self) -> VortexResult<Option<MergeConflict>> {
-        let Some(conflict) = dtype_merging::try_merge_conflict(self, other)? else {
+    pub fn try_merge_conflict(
+        &self,
+        other: &Self,
+        widening: Widening,
+    ) -> VortexResult<Option<MergeConflict>> {
+        let Some(conflict) = dtype_merging::try_merge_conflict(self, other, widening)? else {
             return Ok(None);
         };
         let (left, right) = (conflict.left.try_clone()?, conflict.right.try_clone()?);
@@ -159,13 +182,13 @@ impl DType {
     /// iterator yields no type. The order of the types decides only the order of the columns.
     ///
     /// ```
-    /// use vortex_logical_types::DType;
+    /// use vortex_logical_types::{DType, Widening};
     ///
     /// let files = ["{id=u64}", "{note=utf8, id=u64}", "{id=u64?}"].map(|text| text.parse::<DType>().expect("a type"));
-    /// assert_eq!(DType::merge_all(&files)?, Some("{id=u64?, note=utf8?}".parse()?));
+    /// assert_eq!(DType::merge_all(&files, Widening::None)?, Some("{id=u64?, note=utf8?}".parse()?));
     ///
     /// let files = ["{id=u64}", "{at=i64}", "{id=utf8}"].map(|text| text.parse::<DType>().expect("a type"));
-    /// let conflict = DType::merge_all(&files).unwrap_err();
+    /// let conflict = DType::merge_all(&files, Widening::None).unwrap_err();
     /// assert_eq!((conflict.index, conflict.to_string().as_str()), (2, "id is u64? in one type and utf8 in another"));
     /// # Ok::<(), Box<dyn std::error::Error>>(())
     /// ```
@@ -176,8 +199,9 @@ impl DType {
     /// taken from the iterator.
     pub fn merge_all<T: Borrow<Self>>(
         types: impl IntoIterator<Item = T>,
+        widening: Widening,
     ) -> Result<Option<Self>, MergeConflict> {
-        or_abort(Self::try_merge_all(types))
+        or_abort(Self::try_merge_all(types, widening))
     }
 
     /// Returns what `merge_all` returns, which is a type or a conflict, in `Ok`.
@@ -187,6 +211,7 @@ impl DType {
     /// - `OutOfMemory` (0): an allocation fails, or a reference count is at its maximum.
     pub fn try_merge_all<T: Borrow<Self>>(
         types: impl IntoIterator<Item = T>,
+        widening: Widening,
     ) -> VortexResult<Result<Option<Self>, MergeConflict>> {
         let mut types = types.into_iter().enumerate();
         let Some((_, first)) = types.next() else {
@@ -195,9 +220,9 @@ impl DType {
         let mut merged = first.borrow().try_clone()?;
         for (index, dtype) in types {
             let dtype = dtype.borrow();
-            if let Some(both) = merged.try_merge_columns(dtype)? {
+            if let Some(both) = merged.try_merge_columns(dtype, widening)? {
                 merged = both;
-            } else if let Some(conflict) = merged.try_merge_conflict(dtype)? {
+            } else if let Some(conflict) = merged.try_merge_conflict(dtype, widening)? {
                 return Ok(Err(MergeConflict { index, ..conflict }));
             }
         }

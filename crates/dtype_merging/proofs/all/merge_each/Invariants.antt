@@ -8,4 +8,4 @@ use Rattle.dtype_merging.proofs.all.merge_each.Given as goal
 
 -- what is merged so far, merged with those that are left, is what all are merged to
 abbrev pub invariant-loop-other : goal.invariant-loop-other
-invariant-loop-other l = all_columns_merged (tree l.merged) (map tree (drop l.other-index l.others)) ≡ all_columns_merged (tree l.first) (map tree l.others)
+invariant-loop-other l = all_columns_merged l.widening (tree l.merged) (map tree (drop l.other-index l.others)) ≡ all_columns_merged l.widening (tree l.first) (map tree l.others)

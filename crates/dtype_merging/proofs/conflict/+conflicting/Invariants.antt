@@ -17,6 +17,6 @@ decreases-field_conflict l = 2 * weight_items (fields_of l.a.now) + 1
 -- the first conflict of the fields that are left is the first of all
 abbrev pub invariant-field_conflict-loop-name : goal.invariant-field_conflict-loop-name
 invariant-field_conflict-loop-name l = record {
-  same : fields_conflict (fields (with_trees l.name-iterator)) (fields_of l.b) ≡ fields_conflict (fields_of l.a) (fields_of l.b);
+  same : fields_conflict l.widening (fields (with_trees l.name-iterator)) (fields_of l.b) ≡ fields_conflict l.widening (fields_of l.a) (fields_of l.b);
   within : weight_items (fields (with_trees l.name-iterator)) ≤ weight_items (fields_of l.a);
 }

@@ -9,10 +9,10 @@ use Rattle.dtype_merging.proofs.conflict.merge_conflict.Goals as goal
 
 pub returns-clause-some : goal.returns-clause-some
 returns-clause-some c =
-    let there : Some c.from_vec-path.result ≡ first_conflict (tree c.args.a.now) (tree c.args.b.now) = search (rules, c.in_ok-steps.ensures, c.in-Some.is, c.reverse.ensures.items, c.from_vec-path.ensures) in
-    has_conflict (tree c.args.a.now) (tree c.args.b.now) c.from_vec-path.result there
+    let there : Some c.from_vec-path.result ≡ first_conflict c.args.widening (tree c.args.a.now) (tree c.args.b.now) = search (rules, c.in_ok-steps.ensures, c.in-Some.is, c.reverse.ensures.items, c.from_vec-path.ensures) in
+    has_conflict c.args.widening (tree c.args.a.now) (tree c.args.b.now) c.from_vec-path.result there
 
 pub returns-clause-at : goal.returns-clause-at
 returns-clause-at c =
-    let there : Some c.from_vec-path.result ≡ first_conflict (tree c.args.a.now) (tree c.args.b.now) = search (rules, c.in_ok-steps.ensures, c.in-Some.is, c.reverse.ensures.items, c.from_vec-path.ensures) in
-    placed (tree c.args.a.now) (tree c.args.b.now) c.from_vec-path.result there (tree c.resolved-left.result.now) (tree c.resolved-right.result.now) c.resolved-left.ensures c.resolved-right.ensures
+    let there : Some c.from_vec-path.result ≡ first_conflict c.args.widening (tree c.args.a.now) (tree c.args.b.now) = search (rules, c.in_ok-steps.ensures, c.in-Some.is, c.reverse.ensures.items, c.from_vec-path.ensures) in
+    placed c.args.widening (tree c.args.a.now) (tree c.args.b.now) c.from_vec-path.result there (tree c.resolved-left.result.now) (tree c.resolved-right.result.now) c.resolved-left.ensures c.resolved-right.ensures

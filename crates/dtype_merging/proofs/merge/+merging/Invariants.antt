@@ -51,20 +51,20 @@ decreases-merge_types l = 4 * weight_all (map tree l.a) + 1
 -- the types so far, followed by what is merged of those that are left, are what is merged of all
 abbrev pub invariant-merge_types-loop-dtype : goal.invariant-merge_types-loop-dtype
 invariant-merge_types-loop-dtype l = record {
-  merged : option_map (λ ts. map tree l.dtypes.items ++ ts) (types_merged (map tree (zip_first l.dtype-iterator)) (map tree (zip_second l.dtype-iterator))) ≡ types_merged (map tree l.fn.a) (map tree l.fn.b);
+  merged : option_map (λ ts. map tree l.dtypes.items ++ ts) (types_merged l.widening (map tree (zip_first l.dtype-iterator)) (map tree (zip_second l.dtype-iterator))) ≡ types_merged l.widening (map tree l.fn.a) (map tree l.fn.b);
   within : weight_all (map tree (zip_first l.dtype-iterator)) ≤ weight_all (map tree l.fn.a);
 }
 
 -- the columns so far, followed by what is merged of the fields that are left, are what is merged of all
 abbrev pub invariant-merge_by_name-loop-name : goal.invariant-merge_by_name-loop-name
 invariant-merge_by_name-loop-name l = record {
-  merged : option_map (λ qs. collected l.columns.items ++ qs) (merged_by_name (fields (with_trees l.name-iterator)) (fields_of l.b)) ≡ merged_by_name (fields_of l.a) (fields_of l.b);
+  merged : option_map (λ qs. collected l.columns.items ++ qs) (merged_by_name l.widening (fields (with_trees l.name-iterator)) (fields_of l.b)) ≡ merged_by_name l.widening (fields_of l.a) (fields_of l.b);
   within : weight_items (fields (with_trees l.name-iterator)) ≤ weight_items (fields_of l.a);
 }
 
 -- the variants so far, followed by what is merged of those that are left, are what is merged of all
 abbrev pub invariant-merge_by_tag-loop-name : goal.invariant-merge_by_tag-loop-name
 invariant-merge_by_tag-loop-name l = record {
-  merged : option_map (λ us. joined (gathered l.variants.items) us) (merged_by_tag (variants_left l.name-iterator) (keyed (variants_of l.b))) ≡ merged_by_tag (variants_of l.a) (keyed (variants_of l.b));
+  merged : option_map (λ us. joined (gathered l.variants.items) us) (merged_by_tag l.widening (variants_left l.name-iterator) (keyed (variants_of l.b))) ≡ merged_by_tag l.widening (variants_of l.a) (keyed (variants_of l.b));
   within : weight_items (variants_left l.name-iterator) ≤ weight_items (variants_of l.a);
 }

@@ -41,18 +41,18 @@ decreases-are_variants_found l = 4 * weight_items (variants_of l.a.now) + 2
 -- those that are left are readable exactly if all are
 abbrev pub invariant-are_fields_found-loop-name : goal.invariant-are_fields_found-loop-name
 invariant-are_fields_found-loop-name l = record {
-  same : found_readable (fields (with_trees l.name-iterator)) (fields_of l.b) ≡ found_readable (fields_of l.a) (fields_of l.b);
+  same : found_readable l.widening (fields (with_trees l.name-iterator)) (fields_of l.b) ≡ found_readable l.widening (fields_of l.a) (fields_of l.b);
   within : weight_items (fields (with_trees l.name-iterator)) ≤ weight_items (fields_of l.a);
 }
 
 abbrev pub invariant-are_fields_readable-loop-dtype : goal.invariant-are_fields_readable-loop-dtype
 invariant-are_fields_readable-loop-dtype l = record {
-  same : types_readable (map tree (zip_first l.dtype-iterator)) (map tree (zip_second l.dtype-iterator)) ≡ types_readable (field_types (children l.a)) (field_types (children l.b));
+  same : types_readable l.widening (map tree (zip_first l.dtype-iterator)) (map tree (zip_second l.dtype-iterator)) ≡ types_readable l.widening (field_types (children l.a)) (field_types (children l.b));
   within : weight_all (map tree (zip_first l.dtype-iterator)) ≤ weight_items (fields_of l.a);
 }
 
 abbrev pub invariant-are_variants_found-loop-name : goal.invariant-are_variants_found-loop-name
 invariant-are_variants_found-loop-name l = record {
-  same : tagged_readable (variants_left l.name-iterator) (keyed (variants_of l.b)) ≡ tagged_readable (variants_of l.a) (keyed (variants_of l.b));
+  same : tagged_readable l.widening (variants_left l.name-iterator) (keyed (variants_of l.b)) ≡ tagged_readable l.widening (variants_of l.a) (keyed (variants_of l.b));
   within : weight_items (variants_left l.name-iterator) ≤ weight_items (variants_of l.a);
 }
